@@ -43,9 +43,9 @@ begins_entered f e to s cells a b c d g =
     ap (λ n. at n e.floor e.base e.top cells) a ∙ ap (λ n. at to n e.base e.top cells) b ∙ ap (λ n. at to (length s.stack - f.takes) n e.top cells) c
     ∙ ap (λ n. at to (length s.stack - f.takes) (length s.cells) n cells) d ∙ ap (λ x. at to (length s.stack - f.takes) (length s.cells) (length s.cells) x) g
 
-pub begins_entered_at : (f : CodeSub) (e : Entry) (n count : ℕ) (s : State) (cells : List Cell) → e.to ≡ s.pc + 1 → e.floor ≡ length s.stack → e.base ≡ s.base + n → e.top ≡ length s.cells → count ≡ s.base + n + f.frame - length s.cells → cells ≡ s.cells ++ zeros count
-    → begins f e (record s { cells = cells }) ≡ entered_at f n (record s { turns = s.turns + 1 })
-begins_entered_at f e n count s cells a b c d h g =
+pub begins_entered_at : (f : CodeSub) (e : Entry) (n to count : ℕ) (s : State) (cells : List Cell) → e.to ≡ to → e.floor ≡ length s.stack → e.base ≡ s.base + n → e.top ≡ length s.cells → count ≡ s.base + n + f.frame - length s.cells → cells ≡ s.cells ++ zeros count
+    → begins f e (record s { cells = cells }) ≡ entered_at f n to (record s { turns = s.turns + 1 })
+begins_entered_at f e n to count s cells a b c d h g =
     let at : ℕ → ℕ → ℕ → ℕ → List Cell → State = λ to floor base top cells. begins f (record { to = to; floor = floor; base = base; top = top }) (record s { cells = cells }) in
-    ap (λ k. at k e.floor e.base e.top cells) a ∙ ap (λ k. at (s.pc + 1) k e.base e.top cells) b ∙ ap (λ k. at (s.pc + 1) (length s.stack) k e.top cells) c
-    ∙ ap (λ k. at (s.pc + 1) (length s.stack) (s.base + n) k cells) d ∙ ap (λ x. at (s.pc + 1) (length s.stack) (s.base + n) (length s.cells) x) (g ∙ ap (λ k. s.cells ++ zeros k) h)
+    ap (λ k. at k e.floor e.base e.top cells) a ∙ ap (λ k. at to k e.base e.top cells) b ∙ ap (λ k. at to (length s.stack) k e.top cells) c
+    ∙ ap (λ k. at to (length s.stack) (s.base + n) k cells) d ∙ ap (λ x. at to (length s.stack) (s.base + n) (length s.cells) x) (g ∙ ap (λ k. s.cells ++ zeros k) h)

@@ -1,24 +1,25 @@
 -- What code that asks for more did, as a step of its state.
-use Rattle.std.proofs.Common.{◌≡◌, ℕ, ◌+◌, ◌-◌, ◌<◌, ◌≤◌, ℤ, List, [], ◌∷◌, ◌++◌, length, reverse, drop, Option, Some, None, true, cond, refl, sym, ap, ◌∙◌, subst, inl, inr, arith}
+use Rattle.std.proofs.Common.{◌≡◌, ℕ, ◌+◌, ◌-◌, ◌<◌, ◌≤◌, ℤ, Bool, List, [], ◌∷◌, ◌++◌, length, reverse, drop, Option, Some, None, true, false, cond, refl, sym, ap, ◌∙◌, subst, inl, inr, arith}
 use Rattle.std.specs.Prelude.{◌^◌, IsSome, IsSomeAnd, slice_get, nat_lt, vec_capacity}
 use Rattle.std.proofs.lemmas.Bool.{lt-ltb, le-ltb, false≢true}
 use Rattle.std.proofs.lemmas.List.{length-reverse, length-map, reverse-append}
-use Rattle.ada_base.specs.declared.reason.Reason.TheVariants.{StorageError}
+use Rattle.ada_base.specs.declared.reason.Reason.TheVariants.{ConstraintError, StorageError}
 use Rattle.stack_code.specs.declared.code.Code.{Code}
 use Rattle.stack_code.specs.declared.code.CodeSub.{CodeSub}
 use Rattle.stack_code.specs.declared.instr.Instr.{Instr}
-use Rattle.stack_code.specs.declared.instr.Instr.TheVariants.{Call, CallAt, Combine, Ret, RetV, Nest, Unnest, Fork, Get}
+use Rattle.stack_code.specs.declared.instr.Instr.TheVariants.{Call, CallAt, CallTo, Combine, Ret, RetV, Nest, Unnest, Fork, Get}
 use Rattle.stack_code.specs.declared.path.Asked.{Asked}
 use Rattle.stack_code.specs.declared.path.Io.TheVariants as io
 use Rattle.ada_base.specs.Cells.{Cell}
 use Rattle.stack_code.specs.Deeds as Deeds
-use Rattle.stack_code.specs.Deeds.{Deed, deed_of, called, called_at, forked, Forks, Fails}
+use Rattle.stack_code.specs.Deeds.{Deed, deed_of, called, called_at, truth, forked, CallsAt, Forks, Fails}
+use Rattle.stack_code.specs.Fits.{IsCallAt}
 use Rattle.stack_code.specs.Operands.{takes, taken_by}
 use Rattle.stack_code.specs.Runs.{IsAtLook}
-use Rattle.stack_code.specs.Machine.{Frame, State, Went, Goes, Stops, Spent, Constructs, Asks, cut, on, failed, entered, entered_at, ended, ending, pushed_for, turned, entering, calling, calling_at, combining, step, done}
+use Rattle.stack_code.specs.Machine.{Frame, State, Went, Goes, Stops, Spent, Constructs, Asks, cut, on, failed, entered, entered_at, ended, ending, pushed_for, turned, entering, calling, entering_at, calling_at, combining, step, done}
 use Rattle.stack_code.specs.Answers.{IsIo}
 use Rattle.stack_code.specs.Stands.{Stands, Forked, Keeps}
-use Rattle.stack_code.proofs.Standing.{keeps}
+use Rattle.stack_code.proofs.Standing.{called_at_here, keeps}
 use Rattle.ada_machine.specs.declared.machine.Machine.{Machine}
 use Rattle.ada_machine.specs.declared.machine.Stop.TheVariants as stop
 use Rattle.ada_machine.specs.declared.machine.Went.TheVariants as went
@@ -185,20 +186,45 @@ module _ (limit : ℕ) (c : Code) (m : Machine) (cells : List Cell) (calm : m.ra
 
 -- ---- calls by windows
 
-module _ (limit : ℕ) (c : Code) (m : Machine) (cells : List Cell) (calm : m.raising ≡ None) (k n : ℕ) (f : CodeSub) (at : slice_get c.instrs m.pc ≡ Some (CallAt k n)) (there : slice_get c.subs k ≡ Some f) where
-  window_is : (left : Option ℕ) → step limit c (record (state_of m cells) { left = left }) ≡ calling_at limit f n (record (state_of m cells) { left = left })
-  window_is left = step_is limit c (record (state_of m cells) { left = left }) (CallAt k n) calm at ∙ ap (λ o. done limit (called_at n o) (record (state_of m cells) { left = left })) there
+-- such a call stands here: of f, which is k, with its frame from cell n on; it comes back to that instruction
+pub record Windowed (c : Code) (m : Machine) (i : Instr) (f : CodeSub) (k n to : ℕ) (fit : Bool) (st : List ℤ) : Type 0 where
+  pub at : slice_get c.instrs m.pc ≡ Some i
+  pub call : IsCallAt m.pc i k n to
+  pub there : slice_get c.subs k ≡ Some f
+  pub deed : deed_of c m.pc (reverse m.stack.items) m.base m.outward.items i ≡ CallsAt f n to fit st
+  pub height : length st + takes c i ≡ length (reverse m.stack.items)
 
-  window_begins : m.turns < limit → step limit c (state_of m cells) ≡ cond (nat_lt m.calls 1000) (Goes (entered_at f n (record (state_of m cells) { turns = m.turns + 1 }))) (Goes (failed StorageError (reverse m.stack.items) (record (state_of m cells) { turns = m.turns + 1 })))
-  window_begins l = window_is None ∙ ap (λ b. cond b (cond (nat_lt m.calls 1000) (Goes (entered_at f n (record (state_of m cells) { turns = m.turns + 1 }))) (Goes (failed StorageError (reverse m.stack.items) (record (state_of m cells) { turns = m.turns + 1 })))) (Stops Spent (state_of m cells))) (lt-ltb m.turns limit l)
+pub window_by : (c : Code) (m : Machine) (k n : ℕ) (f : CodeSub) → slice_get c.instrs m.pc ≡ Some (CallAt k n) → slice_get c.subs k ≡ Some f → Windowed c m (CallAt k n) f k n (m.pc + 1) true (reverse m.stack.items)
+window_by c m k n f at there = record { at = at; call = (refl, refl, refl); there = there; deed = ap (called_at n (m.pc + 1) true (reverse m.stack.items)) there; height = omega arith }
+
+pub return_by : (c : Code) (m : Machine) (k n to : ℕ) (f : CodeSub) (v : ℤ) (st : List ℤ) → slice_get c.instrs m.pc ≡ Some (CallTo k n to) → slice_get c.subs k ≡ Some f → reverse m.stack.items ≡ v ∷ st → Windowed c m (CallTo k n to) f k n to (truth v) st
+return_by c m k n to f v st at there e = record {
+  at = at;
+  call = (refl, refl, refl);
+  there = there;
+  deed = ap (λ xs. deed_of c m.pc xs m.base m.outward.items (CallTo k n to)) e ∙ ap (called_at n to (truth v) st) there;
+  height = omega (arith, ap length e);
+}
+
+module _ (limit : ℕ) (c : Code) (m : Machine) (cells : List Cell) (calm : m.raising ≡ None) (i : Instr) (f : CodeSub) (k n to : ℕ) (fit : Bool) (st : List ℤ) (w : Windowed c m i f k n to fit st) where
+  -- with its turn begun
+  abbrev pub begun : State
+  begun = record (state_of m cells) { turns = m.turns + 1; stack = st }
+
+  window_is : (left : Option ℕ) → step limit c (record (state_of m cells) { left = left }) ≡ calling_at limit f n to fit st (record (state_of m cells) { left = left })
+  window_is left = step_is limit c (record (state_of m cells) { left = left }) i calm w.at ∙ ap (λ d. done limit d (record (state_of m cells) { left = left })) w.deed
+
+  window_begins : m.turns < limit → step limit c (state_of m cells) ≡ entering_at limit f n to fit begun
+  window_begins l = window_is None ∙ ap (λ b. cond b (entering_at limit f n to fit begun) (Stops Spent (state_of m cells))) (lt-ltb m.turns limit l)
 
   window_spent : m.turns ≡ limit → step limit c (state_of m cells) ≡ Stops Spent (state_of m cells)
-  window_spent e = window_is None ∙ ap (λ b. cond b (cond (nat_lt m.calls 1000) (Goes (entered_at f n (record (state_of m cells) { turns = m.turns + 1 }))) (Goes (failed StorageError (reverse m.stack.items) (record (state_of m cells) { turns = m.turns + 1 })))) (Stops Spent (state_of m cells))) (le-ltb m.turns limit (omega (arith, e)))
+  window_spent e = window_is None ∙ ap (λ b. cond b (entering_at limit f n to fit begun) (Stops Spent (state_of m cells))) (le-ltb m.turns limit (omega (arith, e)))
+
+  -- what it comes to then
+  abbrev enters : Bool → Bool → Went
+  enters few fits = cond few (cond fits (Goes (entered_at f n to begun)) (Goes (failed ConstraintError st begun))) (Goes (failed StorageError st begun))
 
   module _ (r : Ready c m cells) (within : m.turns ≤ limit) where
-    pub window_takes : f.takes ≡ 0
-    window_takes = let x = fine_at c m cells (CallAt k n) r calm at in subst (λ w. IsSomeAnd w (λ s. s.takes ≡ 0)) there x.here.fits.belongs.1
-
     pub window_paused : Steps limit c (went.Stopped stop.Paused) m cells m cells
     window_paused = steps_stopped limit c m cells r within m cells stop.Paused (refl, window_is (Some 0)) r within
 
@@ -206,26 +232,29 @@ module _ (limit : ℕ) (c : Code) (m : Machine) (cells : List Cell) (calm : m.ra
     window_stops looks e = steps_stopped limit c m cells r within (record m { looks = looks }) cells stop.Spent (window_spent e) tt within
 
     module _ (m' : Machine) (cells' : List Cell) where
-      pub window_raises : m.turns < limit → 1000 ≤ m.calls → state_of m' cells' ≡ failed StorageError (reverse m.stack.items) (record (state_of m cells) { turns = m.turns + 1 }) → vec_capacity m'.stack ≡ vec_capacity m.stack → Steps limit c went.Raising m cells m' cells'
-      window_raises l g e v = raises_same limit c m m' cells cells' r _ within
-          (window_begins l ∙ ap (λ b. cond b (Goes (entered_at f n (record (state_of m cells) { turns = m.turns + 1 }))) (Goes (failed StorageError (reverse m.stack.items) (record (state_of m cells) { turns = m.turns + 1 })))) (le-ltb m.calls 1000 g))
-          e v refl refl refl
+      pub window_raises : m.turns < limit → 1000 ≤ m.calls → state_of m' cells' ≡ failed StorageError st begun → vec_capacity m'.stack ≡ vec_capacity m.stack → Steps limit c went.Raising m cells m' cells'
+      window_raises l g e v = raises_same limit c m m' cells cells' r _ within (window_begins l ∙ ap (λ b. enters b fit) (le-ltb m.calls 1000 g)) e v refl refl refl
 
-      pub window_goes : m.turns < limit → m.calls < 1000 → state_of m' cells' ≡ entered_at f n (record (state_of m cells) { turns = m.turns + 1 }) → m'.floor + f.stack ≤ vec_capacity m'.stack → m'.base ≤ 2 ^ 62 → vec_capacity m.stack ≤ vec_capacity m'.stack → Steps limit c went.On m cells m' cells'
-      window_goes l g e room near more =
-          let s : step limit c (state_of m cells) ≡ Goes (state_of m' cells') = window_begins l ∙ ap (λ b. cond b (Goes (entered_at f n (record (state_of m cells) { turns = m.turns + 1 }))) (Goes (failed StorageError (reverse m.stack.items) (record (state_of m cells) { turns = m.turns + 1 })))) (lt-ltb m.calls 1000 g) ∙ ap Goes (sym e) in
-          let x = fine_at c m cells (CallAt k n) r calm at in
-          let floor : m'.floor ≡ length (reverse m.stack.items) = ap (λ s. s.floor) e in
+      pub window_unfit : m.turns < limit → m.calls < 1000 → fit ≡ false → state_of m' cells' ≡ failed ConstraintError st begun → vec_capacity m'.stack ≡ vec_capacity m.stack → Steps limit c went.Raising m cells m' cells'
+      window_unfit l g o e v = raises_same limit c m m' cells cells' r _ within (window_begins l ∙ ap (λ b. enters b fit) (lt-ltb m.calls 1000 g) ∙ ap (enters true) o) e v refl refl refl
+
+      pub window_goes : m.turns < limit → m.calls < 1000 → fit ≡ true → state_of m' cells' ≡ entered_at f n to begun → m'.floor + f.stack ≤ vec_capacity m'.stack → m'.base ≤ 2 ^ 62 → vec_capacity m.stack ≤ vec_capacity m'.stack → Steps limit c went.On m cells m' cells'
+      window_goes l g o e room near more =
+          let s : step limit c (state_of m cells) ≡ Goes (state_of m' cells') = window_begins l ∙ ap (λ b. enters b fit) (lt-ltb m.calls 1000 g) ∙ ap (enters true) o ∙ ap Goes (sym e) in
+          let x = fine_at c m cells i r calm w.at in
+          let waits : Frame = record { at = m.pc; to = to; floor = m.floor; base = m.base; nest = m.nest; kept = reverse m.kept.items; top = length cells } in
+          let call = called_at_here c r.low r.valid x.here.spot.body i m.pc k n to waits w.call x.here.fits.belongs refl refl in
+          let floor : m'.floor ≡ length st = ap (λ s. s.floor) e in
           steps_on limit c m cells r within m' cells' s (ap (λ s. s.raising) e ∙ calm)
-          (ready_called limit c m m' cells cells' (record { at = m.pc; to = m.pc + 1; floor = m.floor; base = m.base; nest = m.nest; kept = reverse m.kept.items; top = length cells }) r s more near refl (ap (λ s. s.waiting) e) (ap (λ s. s.outward) e)
+          (ready_called limit c m m' cells cells' waits r s more near refl (ap (λ s. s.waiting) e) (ap (λ s. s.outward) e)
           (record {
             sub = k;
-            instr = CallAt k n;
+            instr = i;
             spot = x.here.spot;
-            here = at;
+            here = w.at;
             at = x.here.at;
-            call = (refl, refl);
-            within = subst (λ o. IsSomeAnd o (λ s. m.floor + x.here.spot.stack + s.stack ≤ vec_capacity m'.stack + takes c (CallAt k n))) (sym there) (omega (arith, room, floor, x.here.height, x.operands, length-reverse m.stack.items));
+            call = call.2;
+            within = subst (λ o. IsSomeAnd o (λ s. m.floor + x.here.spot.stack + s.stack ≤ vec_capacity m'.stack + takes c i)) (sym w.there) (omega (arith, room, floor, x.here.height, w.height));
           }))
 
 -- ---- calls of a function with the accumulators that are left
@@ -327,6 +356,13 @@ sub_there c m cells r n k e = let x = fine_at c m cells (Call k) r n e in some_o
 
 pub sub_at : (c : Code) (m : Machine) (cells : List Cell) → Ready c m cells → m.raising ≡ None → (k n : ℕ) → slice_get c.instrs m.pc ≡ Some (CallAt k n) → (f : CodeSub) × (slice_get c.subs k ≡ Some f)
 sub_at c m cells r n k j e = let x = fine_at c m cells (CallAt k j) r n e in some_of (slice_get c.subs k) x.there
+  where
+    some_of : (o : Option CodeSub) → IsSome o → (f : CodeSub) × (o ≡ Some f)
+    some_of None h = absurd (false≢true h)
+    some_of (Some f) h = (f, refl)
+
+pub sub_to : (c : Code) (m : Machine) (cells : List Cell) → Ready c m cells → m.raising ≡ None → (k n t : ℕ) → slice_get c.instrs m.pc ≡ Some (CallTo k n t) → (f : CodeSub) × (slice_get c.subs k ≡ Some f)
+sub_to c m cells r n k j t e = let x = fine_at c m cells (CallTo k j t) r n e in some_of (slice_get c.subs k) x.there
   where
     some_of : (o : Option CodeSub) → IsSome o → (f : CodeSub) × (o ≡ Some f)
     some_of None h = absurd (false≢true h)

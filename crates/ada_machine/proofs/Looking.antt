@@ -7,9 +7,9 @@ use Rattle.ada_base.specs.declared.reason.Reason.TheVariants.{StorageError}
 use Rattle.stack_code.specs.declared.path.Asked.{Asked}
 use Rattle.stack_code.specs.declared.code.Code.{Code}
 use Rattle.stack_code.specs.declared.instr.Instr.{Instr}
-use Rattle.stack_code.specs.declared.instr.Instr.TheVariants.{Call, CallAt, Combine, Ret, RetV, Exit, Leave, LeaveV, Fork, Unnest, Words, Img, Bool, Wide, Send, SendLn, Get, End, EndV, Halt}
+use Rattle.stack_code.specs.declared.instr.Instr.TheVariants.{Call, CallAt, CallTo, Part, Combine, Ret, RetV, Exit, Leave, LeaveV, Fork, Unnest, Words, Img, Bool, Wide, Send, SendLn, Get, End, EndV, Halt}
 use Rattle.stack_code.specs.Deeds as Deeds
-use Rattle.stack_code.specs.Deeds.{Deed, called, called_at, GoesOn, Fails, Loads, Stores, Forks, on_one, forked, can_fork, asked, many, deed_of}
+use Rattle.stack_code.specs.Deeds.{Deed, called, called_at, truth, GoesOn, Fails, Loads, Stores, Forks, on_one, forked, can_fork, asked, many, deed_of}
 use Rattle.stack_code.specs.Machine.{State, Goes, Stop, step, Comes, Comes_to, entry_of}
 use Rattle.stack_code.specs.Looks.{counting, value_looks, cells_looks, kept_looks, deed_looks, act_looks, step_looks, looks_of, raise_looks, Looks, Looks_to}
 use Rattle.stack_code.proofs.Looks.{looks_one, looks_stop, looks_on, looks_end, looks_none, looks_cut}
@@ -20,7 +20,7 @@ use Rattle.ada_machine.specs.declared.machine.Went as wents
 use Rattle.ada_machine.specs.declared.machine.Went.TheVariants as went
 use Rattle.ada_machine.specs.Played.{Played, Onward, Raised, on_value, on_cells, plays}
 use Rattle.ada_machine.specs.States.{state_of, Ready, EndsAt, more, LooksBy, TookLooks}
-use Rattle.ada_machine.proofs.Doings.{fine_at, sub_at, sub_there, sub_with, top}
+use Rattle.ada_machine.proofs.Doings.{fine_at, sub_at, sub_to, sub_there, sub_with, top}
 
 more_both : (a n k : ℕ) → more (more a n) k ≡ more a (n + k)
 more_both a n zero = ap (more a) (let z : n ≡ n + 0 = omega arith in z)
@@ -87,6 +87,7 @@ IsQuiet Get = Unit {0}
 IsQuiet End = Unit {0}
 IsQuiet EndV = Unit {0}
 IsQuiet Halt = Unit {0}
+IsQuiet Part = Unit {0}
 IsQuiet i = ⊥
 
 one_none : (s : State) (st : List ℤ) (k : ℤ → List ℤ → Deed) → ((x : ℤ) (rest : List ℤ) → deed_looks (k x rest) s ≡ 0) → deed_looks (on_one st k) s ≡ 0
@@ -123,6 +124,7 @@ quiet_none c s Get q = refl
 quiet_none c s End q = refl
 quiet_none c s EndV q = one_none s s.stack _ (λ x rest. refl)
 quiet_none c s Halt q = refl
+quiet_none c s Part q = refl
 quiet_none c s i q = absurd q
 
 -- no look was taken, and none counted
@@ -148,7 +150,13 @@ pub call_looks : (c : Code) (m : Machine) (cells : List Cell) (r : Ready c m cel
 call_looks c m cells r calm k at = ap (λ o. deed_looks (called (reverse m.stack.items) o) (state_of m cells)) (sub_there c m cells r calm k at).1
 
 pub window_looks : (c : Code) (m : Machine) (cells : List Cell) (r : Ready c m cells) (calm : m.raising ≡ None) (k n : ℕ) → slice_get c.instrs m.pc ≡ Some (CallAt k n) → deed_looks (deed_of c m.pc (reverse m.stack.items) m.base m.outward.items (CallAt k n)) (state_of m cells) ≡ 1
-window_looks c m cells r calm k n at = ap (λ o. deed_looks (called_at n o) (state_of m cells)) (sub_at c m cells r calm k n at).1
+window_looks c m cells r calm k n at = ap (λ o. deed_looks (called_at n (m.pc + 1) true (reverse m.stack.items) o) (state_of m cells)) (sub_at c m cells r calm k n at).1
+
+pub return_looks : (c : Code) (m : Machine) (cells : List Cell) (r : Ready c m cells) (calm : m.raising ≡ None) (k n t : ℕ) → slice_get c.instrs m.pc ≡ Some (CallTo k n t) → deed_looks (deed_of c m.pc (reverse m.stack.items) m.base m.outward.items (CallTo k n t)) (state_of m cells) ≡ 1
+return_looks c m cells r calm k n t at =
+    let x = fine_at c m cells (CallTo k n t) r calm at in
+    let v = top m.stack.items x.operands in
+    ap (λ st. deed_looks (deed_of c m.pc st m.base m.outward.items (CallTo k n t)) (state_of m cells)) v.2 ∙ ap (λ o. deed_looks (called_at n t (truth v.0) v.1 o) (state_of m cells)) (sub_to c m cells r calm k n t at).1
 
 pub combine_looks : (c : Code) (m : Machine) (cells : List Cell) (r : Ready c m cells) (calm : m.raising ≡ None) (k : ℕ) → slice_get c.instrs m.pc ≡ Some (Combine k) → deed_looks (deed_of c m.pc (reverse m.stack.items) m.base m.outward.items (Combine k)) (state_of m cells) ≡ kept_looks (reverse m.kept.items)
 combine_looks c m cells r calm k at =

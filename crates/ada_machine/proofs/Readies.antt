@@ -6,9 +6,9 @@ use Rattle.stack_code.specs.declared.code.Around.{Around}
 use Rattle.stack_code.specs.declared.code.Around.TheVariants.{Sub, Site}
 use Rattle.stack_code.specs.declared.code.Code.{Code}
 use Rattle.stack_code.specs.declared.instr.Instr.{Instr}
-use Rattle.stack_code.specs.declared.instr.Instr.TheVariants.{Push, Call, CallAt, Combine}
+use Rattle.stack_code.specs.declared.instr.Instr.TheVariants.{Push, Call, CallAt, CallTo, Combine}
 use Rattle.stack_code.specs.declared.operands.Flow.{Flow}
-use Rattle.stack_code.specs.declared.operands.Flow.TheVariants.{On, To, Branch, Ends}
+use Rattle.stack_code.specs.declared.operands.Flow.TheVariants.{On, To, Branch, Back, Ends}
 use Rattle.stack_code.specs.Operands.{takes, pushes, ends_of, nest_after, flow_of}
 use Rattle.stack_code.specs.Valid.{HasStack, Lands, Leads, IsValid}
 use Rattle.stack_code.specs.Fits.{Finds}
@@ -46,6 +46,7 @@ ends_push_none c i e = cc
 same_sub : (i j : Instr) (a b : ℕ) (f : Frame) → i ≡ j → IsCall i a f → IsCall j b f → a ≡ b
 same_sub (Call k) j a b f e p q = let w : IsCall (Call k) b f = subst (λ i. IsCall i b f) (sym e) q in sym p.0 ∙ w.0
 same_sub (CallAt k n) j a b f e p q = let w : IsCall (CallAt k n) b f = subst (λ i. IsCall i b f) (sym e) q in sym p.0 ∙ w.0
+same_sub (CallTo k n t) j a b f e p q = let w : IsCall (CallTo k n t) b f = subst (λ i. IsCall i b f) (sym e) q in sym p.0 ∙ w.0
 same_sub (Combine k) j a b f e p q = let w : IsCall (Combine k) b f = subst (λ i. IsCall i b f) (sym e) q in sym p.0 ∙ w.0
 same_sub i j a b f e p q = absurd p
 
@@ -146,6 +147,7 @@ module _ (c : Code) (low : Around) (valid : IsValid c) where
   height_led pc body n k On floor room l g = inl (height_next body n k (pc + 1) floor room l g)
   height_led pc body n k (To t) floor room l g = inl (height_next body n k t floor room l g)
   height_led pc body n k (Branch t) floor room l g = inl (height_next body n k t floor room l.0 g)
+  height_led pc body n k (Back t) floor room l g = inl (height_next body n k t floor room l g)
   height_led pc body n k Ends floor room l g = inr refl
 
   -- the stack of a path that stands fits

@@ -1,11 +1,11 @@
 -- The state that a machine is in, and what a machine that is ready has.
-use Rattle.std.specs.Prelude.{◌⊎◌, ◌≡◌, ℕ, zero, suc, ◌+◌, ◌-◌, ◌^◌, min, ◌<◌, ◌≤◌, ℤ, List, [], ◌∷◌, map, reverse, Option, Some, None, slice_get, slice_index, EachIndex, vec_capacity}
+use Rattle.std.specs.Prelude.{◌⊎◌, ◌≡◌, ℕ, zero, suc, ◌+◌, ◌-◌, ◌^◌, min, ◌<◌, ◌≤◌, ℤ, List, [], ◌∷◌, map, reverse, Option, Some, None, slice_get, slice_index, EachIndex, vec_capacity, true}
 use Rattle.stack_code.specs.declared.code.Around.{Around}
 use Rattle.stack_code.specs.declared.code.Code.{Code}
 use Rattle.stack_code.specs.declared.code.CodeSub.{CodeSub}
 use Rattle.stack_code.specs.declared.code.Spot.{Spot}
 use Rattle.stack_code.specs.declared.instr.Instr.{Instr}
-use Rattle.stack_code.specs.declared.instr.Instr.TheVariants.{Call, CallAt, Combine, Words, Img, Bool, Wide, Send, SendLn}
+use Rattle.stack_code.specs.declared.instr.Instr.TheVariants.{Call, CallAt, CallTo, Combine, Words, Img, Bool, Wide, Send, SendLn}
 use Rattle.stack_code.specs.Operands.{takes}
 use Rattle.stack_code.specs.Valid.{Has, HasStack, IsValid}
 use Rattle.ada_base.specs.Cells.{Cell}
@@ -14,7 +14,7 @@ use Rattle.stack_code.specs.declared.path.Asked.{Asked}
 use Rattle.stack_code.specs.declared.path.Gave.{Gave}
 use Rattle.stack_code.specs.declared.path.Gave.TheVariants as gave
 use Rattle.stack_code.specs.declared.path.Leave.TheVariants.{Raise}
-use Rattle.stack_code.specs.Deeds.{Deed, Fails, Forks, deed_of}
+use Rattle.stack_code.specs.Deeds.{Deed, Fails, Forks, deed_of, truth}
 use Rattle.stack_code.specs.Machine as spec
 use Rattle.stack_code.specs.Machine.{Frame, State, Comes, Comes_to}
 use Rattle.stack_code.specs.Answers.{IsIo}
@@ -115,10 +115,15 @@ abbrev pub IsMore : List ℤ → Type 0
 IsMore [] = ⊥
 IsMore (v ∷ vs) = Unit {0}
 
+abbrev pub IsTrueOnTop : List ℤ → Type 0
+IsTrueOnTop [] = ⊥
+IsTrueOnTop (x ∷ st) = truth x ≡ true
+
 -- the instructions that may want memory: a call that begins, and what adds to a line or sends it
 abbrev pub Allocates : Instr → State → Type 0
 Allocates (Call sub) q = q.calls < 1000
 Allocates (CallAt sub n) q = q.calls < 1000
+Allocates (CallTo sub n to) q = IsTrueOnTop q.stack × (q.calls < 1000)
 Allocates (Combine sub) q = IsMore q.kept × (q.calls < 1000)
 Allocates (Words text) q = Unit {0}
 Allocates Img q = Unit {0}

@@ -167,13 +167,13 @@ pub(crate) fn enter_at<C: Cells>(
     view: &mut C,
     callee: CodeSub,
     cell: u32,
+    to: usize,
 ) -> Result<(), AllocError>
     requires near { m.old.base ≤ 2 ^ 62 }
-    requires next { m.old.pc < usize.MAX }
     requires turns { m.old.turns < 2 ^ 64 - 1 }
     requires calls { m.old.calls < 1000 }
     requires whole { C.whole view.old }
-    ensures ok { OnOk result (state_of m.new (C.cells view.new) ≡ entered_at callee cell (record (state_of m.old (C.cells view.old)) { turns = m.old.turns + 1 })) }
+    ensures ok { OnOk result (state_of m.new (C.cells view.new) ≡ entered_at callee cell to (record (state_of m.old (C.cells view.old)) { turns = m.old.turns + 1 })) }
     ensures fits { OnOk result (m.new.floor + callee.stack ≤ vec_capacity m.new.stack) }
     ensures near { OnOk result (m.new.base ≤ 2 ^ 62) }
     ensures err { OnErr result (state_of m.new (C.cells view.new) ≡ state_of m.old (C.cells view.old)) }
@@ -191,7 +191,6 @@ pub(crate) fn enter_at<C: Cells>(
         Err(_) => return Err(AllocError),
     };
     let top = make_room(m, view, callee.stack, count)?;
-    let to = m.pc + 1;
     let floor = m.stack.len();
     begin_body(
         m,

@@ -128,6 +128,8 @@ pub fn compute<C: Cells>(
         Instr::Turn
         | Instr::Call(_)
         | Instr::CallAt(_, _)
+        | Instr::CallTo(_, _, _)
+        | Instr::Part
         | Instr::Ret
         | Instr::RetV
         | Instr::Exit(_)

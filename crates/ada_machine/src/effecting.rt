@@ -1,19 +1,20 @@
 // The instructions that ask for more than operands and cells.
-ghost use Rattle.std.specs.Prelude.{◌≡◌, ◌+◌, ◌<◌, ◌≤◌, ◌∷◌, ℕ, ℤ, pos, List, Some, None, length, reverse, slice_get, vec_len, vec_capacity};
+ghost use Rattle.std.specs.Prelude.{◌≡◌, ◌+◌, ◌-◌, ◌^◌, ◌<◌, ◌≤◌, ◌∷◌, ℕ, ℤ, pos, List, Some, None, length, reverse, slice_get, vec_len, vec_capacity};
 ghost use Rattle.ada_base.specs.Cells.{Cell};
 ghost use Rattle.stack_code.specs.Runs.{NeverStuck};
 ghost use Rattle.stack_code.specs.Tops.{IsTopped};
 ghost use Rattle.ada_machine.specs.Places.{Stays};
 ghost use Rattle.ada_machine.specs.Played.{AsksMore};
 ghost use Rattle.stack_code.specs.Looks.{looks_of, kept_looks};
-ghost use Rattle.ada_machine.specs.States.{state_of, Ready, Steps, LooksBy};
+ghost use Rattle.stack_code.specs.Machine.{failed, on};
+ghost use Rattle.ada_machine.specs.States.{state_of, more, Ready, Steps, LooksBy};
 
 use crate::calls::{enter, enter_at, return_to};
 use crate::cells::Cells;
 use crate::effects::{begin_construct, begin_turn, end_construct, fail};
 use crate::lines::{add_image, add_padded, add_truth, add_words, ask, give_line};
 use crate::machine::{Machine, Stop, Went};
-use crate::operands::{put, take};
+use crate::operands::{put, take, truth};
 use ada_base::Reason;
 use leave_board::Halt;
 use stack_code::{Code, CodeSub, Instr, Io, Leave};
@@ -351,6 +352,14 @@ struct Window {
     cell: u32,
 }
 
+// The same, and the instruction that the call comes back to.
+#[derive(Clone, Copy)]
+struct Return {
+    sub: u32,
+    cell: u32,
+    to: u32,
+}
+
 // A call of a subprogram whose frame begins at a cell of the own one.
 fn call_at<C: Cells, H: Halt>(
     code: &Code,
@@ -386,13 +395,111 @@ fn call_at<C: Cells, H: Halt>(
         m.raising = Some(Reason::StorageError);
         return Went::Raising;
     }
-    match enter_at(m, view, callee, window.cell) {
+    let to = m.pc + 1;
+    match enter_at(m, view, callee, window.cell, to) {
         Ok(()) => {
             m.looks = m.looks.saturating_add(1);
             Went::On
         }
         Err(_) => Went::Stopped(Stop::NoMemory),
     }
+}
+
+// A call that begins a turn, and raises.
+fn raise_call(m: &mut Machine, reason: Reason)
+    requires { m.old.turns < 2 ^ 64 - 1 }
+    ensures state { (cells : List Cell) → state_of m.new cells ≡ failed reason (reverse m.old.stack.items) (record (state_of m.old cells) { turns = m.old.turns + 1 }) }
+    ensures room { vec_capacity m.new.stack ≡ vec_capacity m.old.stack }
+    ensures looks { m.new.looks ≡ more m.old.looks 1 }
+{
+    m.turns += 1;
+    m.looks = m.looks.saturating_add(1);
+    m.raising = Some(reason);
+}
+
+// The same, which takes the top, raises where that is 0, and comes back to the instruction that it names.
+fn call_to<C: Cells, H: Halt>(
+    code: &Code,
+    m: &mut Machine,
+    view: &mut C,
+    limit: u64,
+    halt: &mut H,
+    back: Return,
+) -> Went
+    requires ready { Ready code.now m.old (C.cells view.old) }
+    requires calm { m.old.raising ≡ None }
+    requires at { slice_get code.now.instrs m.old.pc ≡ Some (Instr.CallTo back.sub back.cell back.to) }
+    requires within { m.old.turns ≤ limit }
+    requires next { m.old.pc < usize.MAX }
+    requires whole { C.whole view.old }
+    ensures steps { Steps limit code.now result m.old (C.cells view.old) m.new (C.cells view.new) }
+    ensures paused { result ≡ Went.Stopped Stop.Paused → H.told halt.new }
+    ensures halts { (H.kept halt.new ≡ H.kept halt.old) × (H.told halt.old → H.told halt.new) }
+    ensures stays { Stays C.floor C.whole C.place view.old view.new }
+    ensures looks { LooksBy result m.old.looks m.new.looks 1 }
+{
+    if halt.asked() {
+        return Went::Stopped(Stop::Paused);
+    }
+    if m.turns == limit {
+        m.looks = m.looks.saturating_add(1);
+        return Went::Stopped(Stop::Spent);
+    }
+    let callee = sub_of(code, back.sub);
+    let fit = take(&mut m.stack);
+    if MOST_CALLS <= m.calls {
+        raise_call(m, Reason::StorageError);
+        return Went::Raising;
+    }
+    if !truth(fit) {
+        raise_call(m, Reason::ConstraintError);
+        return Went::Raising;
+    }
+    match enter_at(m, view, callee, back.cell, back.to as usize) {
+        Ok(()) => {
+            m.looks = m.looks.saturating_add(1);
+            Went::On
+        }
+        Err(_) => {
+            put(&mut m.stack, fit);
+            Went::Stopped(Stop::NoMemory)
+        }
+    }
+}
+
+// Pushes both and goes on.
+fn put_drawn(m: &mut Machine, part: i64, flag: i64)
+    requires room { vec_len m.old.stack + 2 ≤ vec_capacity m.old.stack }
+    requires next { m.old.pc < usize.MAX }
+    ensures state { (cells : List Cell) → state_of m.new cells ≡ on (flag ∷ part ∷ reverse m.old.stack.items) (state_of m.old cells) }
+    ensures room { vec_capacity m.new.stack ≡ vec_capacity m.old.stack }
+    ensures looks { m.new.looks ≡ m.old.looks }
+{
+    put(&mut m.stack, part);
+    put(&mut m.stack, flag);
+    m.pc += 1;
+}
+
+// Takes off the next accumulator that is kept.
+fn draw(code: &Code, m: &mut Machine, limit: u64) -> Went
+    requires ready { (cells : List Cell) × Ready code.now m.old cells }
+    requires calm { m.old.raising ≡ None }
+    requires at { slice_get code.now.instrs m.old.pc ≡ Some Instr.Part }
+    requires within { m.old.turns ≤ limit }
+    requires next { m.old.pc < usize.MAX }
+    ensures steps { (cells : List Cell) → Ready code.now m.old cells → Steps limit code.now result m.old cells m.new cells }
+    ensures paused { result ≡ Went.Stopped Stop.Paused → ⊥ }
+    ensures looks { m.new.looks ≡ m.old.looks }
+{
+    let _ = code;
+    let _ = limit;
+    if m.kept.len() == 0 {
+        put_drawn(m, 0, 0);
+        return Went::On;
+    }
+    let part = m.kept.take_last();
+    put_drawn(m, part, 1);
+    Went::On
 }
 
 fn combine<C: Cells, H: Halt>(
@@ -478,7 +585,11 @@ pub(crate) fn effect<C: Cells, H: Halt>(
     match instr {
         Instr::Turn => turn(code, m, limit, halt),
         Instr::Call(number) => call(code, m, view, limit, halt, number),
-        Instr::CallAt(sub, cell) => { call_at(code, m, view, limit, halt, Window { sub, cell }) }
+        Instr::CallAt(sub, cell) => call_at(code, m, view, limit, halt, Window { sub, cell }),
+        Instr::CallTo(sub, cell, to) => {
+            call_to(code, m, view, limit, halt, Return { sub, cell, to })
+        }
+        Instr::Part => draw(code, m, limit),
         Instr::Ret => return_plain(code, m, view, limit),
         Instr::RetV => return_value(code, m, view, limit),
         Instr::Exit(number) => Went::Stopped(Stop::Left(Leave::Exit(number))),

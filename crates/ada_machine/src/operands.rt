@@ -182,7 +182,7 @@ pub fn applied(op: Op, base: Base, x: i64, y: i64) -> Option<i64>
 }
 
 #[inline(always)]
-fn truth(value: i64) -> bool
+pub(crate) fn truth(value: i64) -> bool
     ensures { result ≡ truth value }
 {
     value != 0

@@ -1,24 +1,24 @@
 -- In forward code something falls at each step.
-use Rattle.std.proofs.Common.{◌≡◌, ℕ, zero, suc, ◌+◌, ◌-◌, ◌*◌, ◌<◌, ◌≤◌, ℤ, List, [], ◌∷◌, ◌++◌, length, Option, Some, None, Bool, true, false, cond, refl, sym, ap, ◌∙◌, subst, inl, inr, ⊎_elim, arith}
+use Rattle.std.proofs.Common.{◌≡◌, ℕ, zero, suc, ◌+◌, ◌-◌, ◌*◌, ◌<◌, ◌≤◌, ℤ, pos, List, [], ◌∷◌, ◌++◌, length, Option, Some, None, Bool, true, false, cond, refl, sym, ap, ◌∙◌, subst, inl, inr, ⊎_elim, arith}
 use Rattle.std.specs.Prelude.{◌⊎◌, slice_get, nat_lt}
 use Rattle.std.proofs.lemmas.Bool.{ltb-true}
 use Rattle.std.proofs.lemmas.Option.{slice_get_within}
 use Rattle.ada_base.specs.declared.reason.Reason.{Reason}
-use Rattle.ada_base.specs.declared.reason.Reason.TheVariants.{StorageError}
+use Rattle.ada_base.specs.declared.reason.Reason.TheVariants.{ConstraintError, StorageError}
 use Rattle.stack_code.specs.declared.code.Around.{Around}
 use Rattle.stack_code.specs.declared.code.Code.{Code}
 use Rattle.stack_code.specs.declared.code.CodeSub.{CodeSub}
 use Rattle.stack_code.specs.declared.code.Unwind.{Unwind}
 use Rattle.stack_code.specs.declared.instr.Instr.{Instr}
-use Rattle.stack_code.specs.declared.instr.Instr.TheVariants.{Combine, Turn, Nest, Unnest}
+use Rattle.stack_code.specs.declared.instr.Instr.TheVariants.{Combine, Part, Turn, Nest, Unnest}
 use Rattle.stack_code.specs.declared.operands.Flow.{Flow}
-use Rattle.stack_code.specs.declared.operands.Flow.TheVariants.{On, To, Branch, Ends as Nowhere}
+use Rattle.stack_code.specs.declared.operands.Flow.TheVariants.{On, To, Branch, Back, Ends as Nowhere}
 use Rattle.stack_code.specs.Operands.{flow_of}
 use Rattle.stack_code.specs.Valid.{IsValid}
 use Rattle.ada_base.specs.Cells.{Cell, seen, written}
-use Rattle.stack_code.specs.Deeds.{Deed, Lacks, GoesOn, Fails, Loads, Stores, Turns, Calls, CallsAt, Combines, Ends, Leaves, Forks, Nests, Unnests, Writes, Sends, Gets, Gives, deed_of}
+use Rattle.stack_code.specs.Deeds.{Deed, Lacks, GoesOn, Fails, Loads, Stores, Turns, Calls, CallsAt, Combines, Draws, Ends, Leaves, Forks, Nests, Unnests, Writes, Sends, Gets, Gives, deed_of}
 use Rattle.stack_code.specs.Fits.{IsFit, IsNext, IsCalm}
-use Rattle.stack_code.specs.Machine.{Frame, State, Went, Goes, Stops, Spent, look_by, look, with_value, with_cells, cut, on, moved_to, failed, entered, entered_at, ended, pushed_for, entry_of, handled, unwound, raised, turned, entering, calling, entering_at, calling_at, combining, ending, nesting, done, acted, stepped, step}
+use Rattle.stack_code.specs.Machine.{Frame, State, Went, Goes, Stops, Spent, look_by, look, with_value, with_cells, cut, on, moved_to, failed, entered, entered_at, ended, pushed_for, entry_of, handled, unwound, raised, turned, entering, calling, entering_at, calling_at, combining, drawing, ending, nesting, done, acted, stepped, step}
 use Rattle.stack_code.specs.Stands.{Stands, IsForward, IsTarget, wait, way, rank, Falls}
 use Rattle.stack_code.proofs.Standing.{Here, here_of, fit_of, entry_holds}
 
@@ -84,6 +84,7 @@ module _ (c : Code) (low : Around) (limit : ℕ) where
     forward_next pc i On to w e n = inl (omega (arith, n))
     forward_next pc i (To t) to w e n = forward.jumps pc i to e (subst (λ g. IsTarget g to) (sym w) n)
     forward_next pc i (Branch t) to w e n = ⊎_elim (λ (q : to ≡ t). forward.jumps pc i to e (subst (λ g. IsTarget g to) (sym w) q)) (λ (q : to ≡ pc + 1). inl (omega (arith, q))) n
+    forward_next pc i (Back t) to w e n = absurd n
     forward_next pc i Nowhere to w e n = absurd n
 
     -- from an instruction that begins no turn to one that may follow
@@ -125,15 +126,22 @@ module _ (c : Code) (low : Around) (limit : ℕ) where
     calling_falls : (s : State) (f : CodeSub) (to : ℕ) (kept : List ℤ) → s.turns ≤ limit → Falls c limit (rank c limit s) (calling limit f to kept s)
     calling_falls s f to kept l = turned_falls (rank c limit s) s (λ s. entering limit f to kept s) l (λ left t. entering_falls s f to kept s.stack left t)
 
-    calling_at_falls : (s : State) (f : CodeSub) (n : ℕ) → s.turns ≤ limit → Falls c limit (rank c limit s) (calling_at limit f n s)
-    calling_at_falls s f n l = turned_falls (rank c limit s) s (λ s. entering_at limit f n s) l (λ left t.
-        cond_falls (nat_lt s.calls 1000) (rank c limit s) (Goes (entered_at f n (record s { left = left; turns = s.turns + 1 }))) (Goes (failed StorageError s.stack (record s { left = left; turns = s.turns + 1 })))
-        (λ b. (fewer s (entered_at f n (record s { left = left; turns = s.turns + 1 })) (omega (arith, t)), omega (arith, t)))
-        (fewer s (failed StorageError s.stack (record s { left = left; turns = s.turns + 1 })) (omega (arith, t)), omega (arith, t)))
+    calling_at_falls : (s : State) (f : CodeSub) (n to : ℕ) (fit : Bool) (st : List ℤ) → s.turns ≤ limit → Falls c limit (rank c limit s) (calling_at limit f n to fit st s)
+    calling_at_falls s f n to fit st l = turned_falls (rank c limit s) s (λ s. entering_at limit f n to fit (record s { stack = st })) l (λ left t.
+        let x : State = record s { left = left; turns = s.turns + 1; stack = st } in
+        cond_falls (nat_lt s.calls 1000) (rank c limit s) (cond fit (Goes (entered_at f n to x)) (Goes (failed ConstraintError st x))) (Goes (failed StorageError st x))
+        (λ b. cond_falls fit (rank c limit s) (Goes (entered_at f n to x)) (Goes (failed ConstraintError st x))
+        (λ b. (fewer s (entered_at f n to x) (omega (arith, t)), omega (arith, t)))
+        (fewer s (failed ConstraintError st x) (omega (arith, t)), omega (arith, t)))
+        (fewer s (failed StorageError st x) (omega (arith, t)), omega (arith, t)))
 
     combining_falls : (s : State) (sub : ℕ) (f : CodeSub) (acc : ℤ) (st parts : List ℤ) → Here c low valid s (Combine sub) → s.turns ≤ limit → Falls c limit (rank c limit s) (combining limit f acc st parts s)
     combining_falls s sub f acc st [] h l = goes_falls s (on (acc ∷ st) s) (Combine sub) h refl refl l refl refl refl
     combining_falls s sub f acc st (part ∷ parts) h l = turned_falls (rank c limit s) s (λ s. entering limit f s.pc parts (record s { stack = part ∷ acc ∷ st })) l (λ left t. entering_falls s f s.pc parts (part ∷ acc ∷ st) left t)
+
+    drawing_falls : (s : State) (parts : List ℤ) → Here c low valid s Part → s.turns ≤ limit → Falls c limit (rank c limit s) (drawing limit parts s)
+    drawing_falls s [] h l = goes_falls s (on (pos 0 ∷ pos 0 ∷ s.stack) s) Part h refl refl l refl refl refl
+    drawing_falls s (part ∷ parts) h l = goes_falls s (on (pos 1 ∷ part ∷ s.stack) (record s { kept = parts })) Part h refl refl l refl refl refl
 
     ending_falls : (s : State) (v : Option ℤ) (st : List ℤ) (fs : List Frame) → s.waiting ≡ fs → s.turns ≤ limit → Falls c limit (rank c limit s) (ending limit v st fs s)
     ending_falls s v st [] e l = l
@@ -151,8 +159,9 @@ module _ (c : Code) (low : Around) (limit : ℕ) where
     done_falls Turns s r i h f l e = subst (λ n. Falls c limit n (turned limit s (λ s. Goes (on s.stack s)))) e
         (turned_falls (rank c limit s) s (λ s. Goes (on s.stack s)) l (λ left t. (fewer s (on s.stack (record s { left = left; turns = s.turns + 1 })) (omega (arith, t)), omega (arith, t))))
     done_falls (Calls f) s r i h w l e = subst (λ n. Falls c limit n (calling limit f (s.pc + 1) s.kept s)) e (calling_falls s f (s.pc + 1) s.kept l)
-    done_falls (CallsAt f n) s r i h w l e = subst (λ k. Falls c limit k (calling_at limit f n s)) e (calling_at_falls s f n l)
+    done_falls (CallsAt f n to fit st) s r i h w l e = subst (λ k. Falls c limit k (calling_at limit f n to fit st s)) e (calling_at_falls s f n to fit st l)
     done_falls (Combines f acc st) s r i h w l e = subst (λ n. Falls c limit n (combining limit f acc st s.kept s)) e (combining_falls s w.0 f acc st s.kept (subst (Here c low valid s) w.1 h) l)
+    done_falls Draws s r i h w l e = subst (λ n. Falls c limit n (drawing limit s.kept s)) e (drawing_falls s s.kept (subst (Here c low valid s) w h) l)
     done_falls (Ends v st) s r i h f l e = subst (λ n. Falls c limit n (ending limit v st s.waiting s)) e (ending_falls s v st s.waiting refl l)
     done_falls (Leaves x st) s r i h f l e = l
     done_falls (Forks q st) s r i h f l e = l

@@ -6,7 +6,7 @@ use Rattle.std.proofs.lemmas.Bool.{false≢true}
 use Rattle.stack_code.specs.declared.code.Code.{Code}
 use Rattle.stack_code.specs.declared.code.CodeSub.{CodeSub}
 use Rattle.stack_code.specs.declared.instr.Instr.{Instr}
-use Rattle.stack_code.specs.declared.instr.Instr.TheVariants.{Push, Pop, Dup, Swap, Local, Outer, Global, Index, Field, Load, Store, Copy, Fill, Add, Sub, Mul, Div, Mod, Rem, Pow, Neg, Abs, Max, Min, Eq, Ne, Lt, Le, Gt, Ge, And, Or, Xor, Not, Range, Jump, JFalse, JTrue, Turn, Call, CallAt, Ret, RetV, Raise, Reraise, Exit, Leave as LeaveNow, LeaveV, Fork, Nest, Unnest, Words, Img, Bool as BoolImage, Wide, Send, SendLn, Get, End, EndV, Halt, Combine, LoadL, LoadO, LoadG, StoreL, StoreO, StoreG, AddI, IndexL, Item, ItemL, JfEq, JfNe, JfLt, JfLe, JfGt, JfGe, Next, Prior, Flip, Differ}
+use Rattle.stack_code.specs.declared.instr.Instr.TheVariants.{Push, Pop, Dup, Swap, Local, Outer, Global, Index, Field, Load, Store, Copy, Fill, Add, Sub, Mul, Div, Mod, Rem, Pow, Neg, Abs, Max, Min, Eq, Ne, Lt, Le, Gt, Ge, And, Or, Xor, Not, Range, Jump, JFalse, JTrue, Turn, Call, CallAt, CallTo, Ret, RetV, Raise, Reraise, Exit, Leave as LeaveNow, LeaveV, Fork, Nest, Unnest, Words, Img, Bool as BoolImage, Wide, Send, SendLn, Get, End, EndV, Halt, Combine, Part, LoadL, LoadO, LoadG, StoreL, StoreO, StoreG, AddI, IndexL, Item, ItemL, JfEq, JfNe, JfLt, JfLe, JfGt, JfGe, Next, Prior, Flip, Differ}
 use Rattle.stack_code.specs.declared.path.Asked.{Asked}
 use Rattle.stack_code.specs.declared.operands.Flow.TheVariants.{On, Branch}
 use Rattle.stack_code.specs.Operands.{takes, pushes, flow_of}
@@ -14,7 +14,7 @@ use Rattle.stack_code.specs.Deeds.{Deed, GoesOn, Fails, Forks, on_one, on_two, p
 use Rattle.stack_code.specs.declared.operators.Relation.{Relation}
 use Rattle.stack_code.specs.declared.operators.Relation.TheVariants.{Equal, Unequal, Less, AtMost, Greater, AtLeast}
 use Rattle.ada_base.specs.declared.reason.Reason.TheVariants.{StorageError}
-use Rattle.stack_code.specs.Fits.{Finds, IsFit, IsNext, IsCalm}
+use Rattle.stack_code.specs.Fits.{Finds, IsCallAt, IsFit, IsNext, IsCalm}
 
 module _ (c : Code) (pc : ℕ) (i : Instr) (calm : IsCalm i) where
   one_fit : (st : List ℤ) (k : ℤ → List ℤ → Deed) → 1 ≤ length st → ((x : ℤ) (rest : List ℤ) → IsFit c pc (x ∷ rest) i (k x rest)) → IsFit c pc st i (on_one st k)
@@ -83,9 +83,9 @@ called_fit : (c : Code) (pc sub : ℕ) (st : List ℤ) (o : Option CodeSub) → 
 called_fit c pc sub st None e h = absurd (false≢true h)
 called_fit c pc sub st (Some f) e h = (sub, refl, e)
 
-called_at_fit : (c : Code) (pc sub n : ℕ) (st : List ℤ) (o : Option CodeSub) → slice_get c.subs sub ≡ o → IsSome o → IsFit c pc st (CallAt sub n) (called_at n o)
-called_at_fit c pc sub n st None e h = absurd (false≢true h)
-called_at_fit c pc sub n st (Some f) e h = (sub, refl, e)
+called_at_fit : (c : Code) (pc : ℕ) (i : Instr) (sub n to : ℕ) (fit : Bool) (st rest : List ℤ) (o : Option CodeSub) → IsCallAt pc i sub n to → length rest + takes c i ≡ length st → slice_get c.subs sub ≡ o → IsSome o → IsFit c pc st i (called_at n to fit rest o)
+called_at_fit c pc i sub n to fit st rest None k l e h = absurd (false≢true h)
+called_at_fit c pc i sub n to fit st rest (Some f) k l e h = (sub, k, e, l)
 
 combining_fit : (c : Code) (pc sub : ℕ) (acc : ℤ) (rest : List ℤ) (o : Option CodeSub) → slice_get c.subs sub ≡ o → IsSome o → IsFit c pc (acc ∷ rest) (Combine sub) (combining o acc rest)
 combining_fit c pc sub acc rest None e h = absurd (false≢true h)
@@ -144,7 +144,9 @@ fits c pc st base outward (JFalse to) l h = one_fit c pc (JFalse to) tt st _ l (
 fits c pc st base outward (JTrue to) l h = one_fit c pc (JTrue to) tt st _ l (λ x rest. (omega arith, branch_fit c pc (JTrue to) tt (truth x) to to (pc + 1) (inl refl) (inr refl), tt))
 fits c pc st base outward Turn l h = refl
 fits c pc st base outward (Call sub) l h = called_fit c pc sub st (slice_get c.subs sub) refl h
-fits c pc st base outward (CallAt sub n) l h = called_at_fit c pc sub n st (slice_get c.subs sub) refl h
+fits c pc st base outward (CallAt sub n) l h = called_at_fit c pc (CallAt sub n) sub n (pc + 1) true st st (slice_get c.subs sub) (refl, refl, refl) (omega arith) refl h
+fits c pc st base outward (CallTo sub n to) l h = one_fit c pc (CallTo sub n to) tt st _ l (λ x rest. called_at_fit c pc (CallTo sub n to) sub n to (truth x) (x ∷ rest) rest (slice_get c.subs sub) (refl, refl, refl) (omega arith) refl h)
+fits c pc st base outward Part l h = refl
 fits c pc st base outward Ret l h = (tt, omega arith)
 fits c pc st base outward RetV l h = one_fit c pc RetV tt st _ l (λ x rest. (tt, omega arith))
 fits c pc st base outward (Raise reason) l h = (omega arith, tt)

@@ -3,14 +3,14 @@ use Rattle.std.proofs.Common.{◌≡◌, ℕ, zero, suc, ◌+◌, ◌-◌, ◌�
 use Rattle.std.specs.Prelude.{slice_get, set, nat_lt}
 use Rattle.std.proofs.lemmas.List.{length-append, length-take}
 use Rattle.ada_base.specs.declared.reason.Reason.{Reason}
-use Rattle.ada_base.specs.declared.reason.Reason.TheVariants.{StorageError}
+use Rattle.ada_base.specs.declared.reason.Reason.TheVariants.{ConstraintError, StorageError}
 use Rattle.stack_code.specs.declared.code.Code.{Code}
 use Rattle.stack_code.specs.declared.code.CodeSub.{CodeSub}
 use Rattle.stack_code.specs.declared.code.Unwind.{Unwind}
 use Rattle.stack_code.specs.declared.instr.Instr.{Instr}
 use Rattle.ada_base.specs.Cells.{Cell, Gone, Seen, Mine, value_in, where_mine, seen, written, zeros}
-use Rattle.stack_code.specs.Deeds.{Deed, Lacks, GoesOn, Fails, Loads, Stores, Turns, Calls, CallsAt, Combines, Ends, Leaves, Forks, Nests, Unnests, Writes, Sends, Gets, Gives, deed_of}
-use Rattle.stack_code.specs.Machine.{Frame, State, Went, Goes, Stops, Stop, Done, Left, Asks, Constructs, Spent, Cut, Stuck, Astray, look_by, with_value, with_cells, cut, on, failed, entered, entered_at, ended, pushed_for, entry_of, handled, unwound, raised, turned, entering, entering_at, combining, ending, nesting, done, acted, stepped, step, going, run}
+use Rattle.stack_code.specs.Deeds.{Deed, Lacks, GoesOn, Fails, Loads, Stores, Turns, Calls, CallsAt, Combines, Draws, Ends, Leaves, Forks, Nests, Unnests, Writes, Sends, Gets, Gives, deed_of}
+use Rattle.stack_code.specs.Machine.{Frame, State, Went, Goes, Stops, Stop, Done, Left, Asks, Constructs, Spent, Cut, Stuck, Astray, look_by, with_value, with_cells, cut, on, failed, entered, entered_at, ended, pushed_for, entry_of, handled, unwound, raised, turned, entering, entering_at, combining, drawing, ending, nesting, done, acted, stepped, step, going, run}
 use Rattle.stack_code.specs.Framed.{fill, Shown, Above, Framed, filled, Same}
 
 -- ---- cells
@@ -169,15 +169,21 @@ module _ (outer : List Cell) where
     )
         (refl, moved s (failed StorageError (cut (length s.stack - f.takes) s.stack) s) h refl refl)
 
-    entering_at_same : (f : CodeSub) (n : ℕ) (s : State) → Framed outer s → Same outer (entering_at limit f n s) (entering_at limit f n (filled outer s))
-    entering_at_same f n s h =
+    entering_at_same : (f : CodeSub) (n to : ℕ) (fit : Bool) (s : State) → Framed outer s → Same outer (entering_at limit f n to fit s) (entering_at limit f n to fit (filled outer s))
+    entering_at_same f n to fit s h =
         let more : List Cell = zeros (s.base + n + f.frame - length s.cells) in
-        cond_same (nat_lt s.calls 1000) (Goes (entered_at f n s)) (Goes (failed StorageError s.stack s)) (Goes (entered_at f n (filled outer s))) (Goes (failed StorageError s.stack (filled outer s))) (
-          ap (λ b. Goes (record (entered_at f n s) { waiting = record { at = s.pc; to = s.pc + 1; floor = s.floor; base = s.base; nest = s.nest; kept = s.kept; top = b } ∷ s.waiting; cells = fill s.cells outer ++ zeros (s.base + n + f.frame - b) })) (fill_length s.cells outer)
-              ∙ ap (λ cells. Goes (record (entered_at f n s) { cells = cells })) (append_fill s.cells outer more h.long),
+        cond_same (nat_lt s.calls 1000) (cond fit (Goes (entered_at f n to s)) (Goes (failed ConstraintError s.stack s))) (Goes (failed StorageError s.stack s)) (cond fit (Goes (entered_at f n to (filled outer s))) (Goes (failed ConstraintError s.stack (filled outer s)))) (Goes (failed StorageError s.stack (filled outer s)))
+        (cond_same fit (Goes (entered_at f n to s)) (Goes (failed ConstraintError s.stack s)) (Goes (entered_at f n to (filled outer s))) (Goes (failed ConstraintError s.stack (filled outer s))) (
+          ap (λ b. Goes (record (entered_at f n to s) { waiting = record { at = s.pc; to = to; floor = s.floor; base = s.base; nest = s.nest; kept = s.kept; top = b } ∷ s.waiting; cells = fill s.cells outer ++ zeros (s.base + n + f.frame - b) })) (fill_length s.cells outer)
+              ∙ ap (λ cells. Goes (record (entered_at f n to s) { cells = cells })) (append_fill s.cells outer more h.long),
           record { shown = append_shown s.cells outer more h.long h.shown; long = omega (arith, h.long, length-append s.cells more); above = (h.long, h.above) },
         )
+        (refl, moved s (failed ConstraintError s.stack s) h refl refl))
         (refl, moved s (failed StorageError s.stack s) h refl refl)
+
+    drawing_same : (parts : List ℤ) (s : State) → Framed outer s → Same outer (drawing limit parts s) (drawing limit parts (filled outer s))
+    drawing_same [] s h = (refl, moved s (on (pos 0 ∷ pos 0 ∷ s.stack) s) h refl refl)
+    drawing_same (part ∷ parts) s h = (refl, moved s (on (pos 1 ∷ part ∷ s.stack) (record s { kept = parts })) h refl refl)
 
     combining_same : (f : CodeSub) (acc : ℤ) (st parts : List ℤ) (s : State) → Framed outer s → Same outer (combining limit f acc st parts s) (combining limit f acc st parts (filled outer s))
     combining_same f acc st [] s h = (refl, moved s (on (acc ∷ st) s) h refl refl)
@@ -208,8 +214,9 @@ module _ (outer : List Cell) where
     done_same (Stores a v d) s h = cells_same s a v (written s.cells a v) (λ s. done limit d s) h refl (λ w g. done_same d (record s { cells = w }) g)
     done_same Turns s h = turned_same s (λ s. Goes (on s.stack s)) (λ l t. (refl, moved s (on s.stack (record s { left = l; turns = t })) h refl refl))
     done_same (Calls f) s h = turned_same s (λ x. entering limit f (s.pc + 1) s.kept x) (λ l t. entering_same f (s.pc + 1) s.kept (record s { left = l; turns = t }) (moved s (record s { left = l; turns = t }) h refl refl))
-    done_same (CallsAt f n) s h = turned_same s (λ x. entering_at limit f n x) (λ l t. entering_at_same f n (record s { left = l; turns = t }) (moved s (record s { left = l; turns = t }) h refl refl))
+    done_same (CallsAt f n to fit st) s h = turned_same s (λ x. entering_at limit f n to fit (record x { stack = st })) (λ l t. entering_at_same f n to fit (record s { left = l; turns = t; stack = st }) (moved s (record s { left = l; turns = t; stack = st }) h refl refl))
     done_same (Combines f acc st) s h = combining_same f acc st s.kept s h
+    done_same Draws s h = drawing_same s.kept s h
     done_same (Ends v st) s h = ending_same v st s.waiting s refl h
     done_same (Leaves l st) s h = refl
     done_same (Forks q st) s h = refl

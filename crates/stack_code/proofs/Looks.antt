@@ -1,15 +1,15 @@
 -- A run that isn't counted, counted.
-use Rattle.std.proofs.Common.{◌≡◌, ℕ, zero, suc, ◌+◌, ◌-◌, ℤ, List, [], ◌∷◌, ◌++◌, length, Option, Some, None, Bool, true, false, cond, refl, sym, ap, ◌∙◌, subst, arith}
+use Rattle.std.proofs.Common.{◌≡◌, ℕ, zero, suc, ◌+◌, ◌-◌, ℤ, pos, List, [], ◌∷◌, ◌++◌, length, Option, Some, None, Bool, true, false, cond, refl, sym, ap, ◌∙◌, subst, arith}
 use Rattle.std.specs.Prelude.{slice_get, nat_lt}
 use Rattle.ada_base.specs.declared.reason.Reason.{Reason}
-use Rattle.ada_base.specs.declared.reason.Reason.TheVariants.{StorageError}
+use Rattle.ada_base.specs.declared.reason.Reason.TheVariants.{ConstraintError, StorageError}
 use Rattle.stack_code.specs.declared.code.Code.{Code}
 use Rattle.stack_code.specs.declared.code.CodeSub.{CodeSub}
 use Rattle.stack_code.specs.declared.code.Unwind.{Unwind}
 use Rattle.stack_code.specs.declared.instr.Instr.{Instr}
 use Rattle.ada_base.specs.Cells.{Cell, seen, written}
-use Rattle.stack_code.specs.Deeds.{Deed, Lacks, GoesOn, Fails, Loads, Stores, Turns, Calls, CallsAt, Combines, Ends, Leaves, Forks, Nests, Unnests, Writes, Sends, Gets, Gives, deed_of}
-use Rattle.stack_code.specs.Machine.{Frame, State, Went, Goes, Stops, Stop, Done, Left, Asks, Constructs, Stuck, Astray, Spent, Cut, look_by, with_value, with_cells, cut, on, failed, entered, entered_at, ended, pushed_for, entry_of, handled, unwound, raised, turned, entering, entering_at, combining, ending, nesting, done, acted, stepped, step, going, run, Comes, Comes_to}
+use Rattle.stack_code.specs.Deeds.{Deed, Lacks, GoesOn, Fails, Loads, Stores, Turns, Calls, CallsAt, Combines, Draws, Ends, Leaves, Forks, Nests, Unnests, Writes, Sends, Gets, Gives, deed_of}
+use Rattle.stack_code.specs.Machine.{Frame, State, Went, Goes, Stops, Stop, Done, Left, Asks, Constructs, Stuck, Astray, Spent, Cut, look_by, with_value, with_cells, cut, on, failed, entered, entered_at, ended, pushed_for, entry_of, handled, unwound, raised, turned, entering, entering_at, combining, drawing, ending, nesting, done, acted, stepped, step, going, run, Comes, Comes_to}
 use Rattle.stack_code.specs.declared.path.Io.TheVariants as io
 use Rattle.stack_code.specs.declared.path.Leave.TheVariants.{Raise as Raises}
 use Rattle.stack_code.specs.Runs.{IsAtLook}
@@ -51,13 +51,21 @@ module _ (limit : ℕ) (c : Code) where
   entering_counts f to kept s e = cond_counts (nat_lt s.calls 1000) (Goes (entered f to kept s)) (Goes (failed StorageError (cut (length s.stack - f.takes) s.stack) s)) 0 (λ n. Goes (entered f to kept (counting n s))) (λ n. Goes (failed StorageError (cut (length s.stack - f.takes) s.stack) (counting n s)))
       (still (entered f to kept s) _ e (λ j. refl)) (still (failed StorageError (cut (length s.stack - f.takes) s.stack) s) _ e (λ j. refl))
 
-  entering_at_counts : (f : CodeSub) (m : ℕ) (s : State) → s.left ≡ None → Counts (entering_at limit f m s) 0 (λ n. entering_at limit f m (counting n s))
-  entering_at_counts f m s e = cond_counts (nat_lt s.calls 1000) (Goes (entered_at f m s)) (Goes (failed StorageError s.stack s)) 0 (λ n. Goes (entered_at f m (counting n s))) (λ n. Goes (failed StorageError s.stack (counting n s)))
-      (still (entered_at f m s) _ e (λ j. refl)) (still (failed StorageError s.stack s) _ e (λ j. refl))
+  entering_at_counts : (f : CodeSub) (m to : ℕ) (fit : Bool) (s : State) → s.left ≡ None → Counts (entering_at limit f m to fit s) 0 (λ n. entering_at limit f m to fit (counting n s))
+  entering_at_counts f m to fit s e = cond_counts (nat_lt s.calls 1000)
+      (cond fit (Goes (entered_at f m to s)) (Goes (failed ConstraintError s.stack s))) (Goes (failed StorageError s.stack s)) 0
+      (λ n. cond fit (Goes (entered_at f m to (counting n s))) (Goes (failed ConstraintError s.stack (counting n s)))) (λ n. Goes (failed StorageError s.stack (counting n s)))
+      (cond_counts fit (Goes (entered_at f m to s)) (Goes (failed ConstraintError s.stack s)) 0 (λ n. Goes (entered_at f m to (counting n s))) (λ n. Goes (failed ConstraintError s.stack (counting n s)))
+      (still (entered_at f m to s) _ e (λ j. refl)) (still (failed ConstraintError s.stack s) _ e (λ j. refl)))
+      (still (failed StorageError s.stack s) _ e (λ j. refl))
 
   combining_counts : (f : CodeSub) (acc : ℤ) (st parts : List ℤ) (s : State) → s.left ≡ None → Counts (combining limit f acc st parts s) (kept_looks parts) (λ n. combining limit f acc st parts (counting n s))
   combining_counts f acc st [] s e = still (on (acc ∷ st) s) _ e (λ j. refl)
   combining_counts f acc st (part ∷ parts) s e = turned_counts s (λ s. entering limit f s.pc parts (record s { stack = part ∷ acc ∷ st })) e (entering_counts f s.pc parts (record s { turns = s.turns + 1; stack = part ∷ acc ∷ st }) e)
+
+  drawing_counts : (parts : List ℤ) (s : State) → s.left ≡ None → Counts (drawing limit parts s) 0 (λ n. drawing limit parts (counting n s))
+  drawing_counts [] s e = still (on (pos 0 ∷ pos 0 ∷ s.stack) s) _ e (λ j. refl)
+  drawing_counts (part ∷ parts) s e = still (on (pos 1 ∷ part ∷ s.stack) (record s { kept = parts })) _ e (λ j. refl)
 
   ending_counts : (v : Option ℤ) (st : List ℤ) (fs : List Frame) (s : State) → s.left ≡ None → Counts (ending limit v st fs s) 0 (λ n. ending limit v st fs (counting n s))
   ending_counts v st [] s e = stops Astray s _ (λ j. refl)
@@ -75,8 +83,9 @@ module _ (limit : ℕ) (c : Code) where
   done_counts (Stores a v d) s e = cells_counts (written s.cells a v) s (λ s. done limit d s) (λ w. deed_looks d (record s { cells = w })) (λ w. done_counts d (record s { cells = w }) e)
   done_counts Turns s e = turned_counts s (λ s. Goes (on s.stack s)) e (still (on s.stack (record s { turns = s.turns + 1 })) _ e (λ j. refl))
   done_counts (Calls f) s e = turned_counts s (λ x. entering limit f (s.pc + 1) s.kept x) e (entering_counts f (s.pc + 1) s.kept (record s { turns = s.turns + 1 }) e)
-  done_counts (CallsAt f n) s e = turned_counts s (λ x. entering_at limit f n x) e (entering_at_counts f n (record s { turns = s.turns + 1 }) e)
+  done_counts (CallsAt f n to fit st) s e = turned_counts s (λ x. entering_at limit f n to fit (record x { stack = st })) e (entering_at_counts f n to fit (record s { turns = s.turns + 1; stack = st }) e)
   done_counts (Combines f acc st) s e = combining_counts f acc st s.kept s e
+  done_counts Draws s e = drawing_counts s.kept s e
   done_counts (Ends v st) s e = ending_counts v st s.waiting s e
   done_counts (Leaves l st) s e = stops (Left l) (record s { stack = st }) _ (λ j. refl)
   done_counts (Forks q st) s e = stops (Constructs q) (record s { stack = st }) _ (λ j. refl)

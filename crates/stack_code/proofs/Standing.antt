@@ -1,11 +1,11 @@
 -- A path in valid code keeps standing, and never goes astray.
-use Rattle.std.proofs.Common.{◌≡◌, ℕ, zero, suc, ◌+◌, ◌-◌, ◌<◌, ◌≤◌, ℤ, List, [], ◌∷◌, length, get_or, Option, Some, None, Bool, true, false, cond, refl, sym, ap, ◌∙◌, subst, ⊎_elim, arith}
+use Rattle.std.proofs.Common.{◌≡◌, ℕ, zero, suc, ◌+◌, ◌-◌, ◌<◌, ◌≤◌, ℤ, pos, List, [], ◌∷◌, length, get_or, Option, Some, None, Bool, true, false, cond, refl, sym, ap, ◌∙◌, subst, ⊎_elim, arith}
 use Rattle.std.proofs.lemmas.Bool.{false≢true, ltb-true, ltb-false}
 use Rattle.std.specs.Prelude.{IsSome, IsSomeAnd, slice_get, nat_lt}
 use Rattle.std.proofs.lemmas.List.{length-drop}
 use Rattle.std.proofs.lemmas.Option.{slice_get_within, slice_get-get_or}
 use Rattle.ada_base.specs.declared.reason.Reason.{Reason}
-use Rattle.ada_base.specs.declared.reason.Reason.TheVariants.{StorageError}
+use Rattle.ada_base.specs.declared.reason.Reason.TheVariants.{ConstraintError, StorageError}
 use Rattle.stack_code.specs.declared.code.Around.{Around}
 use Rattle.stack_code.specs.declared.code.Around.TheVariants.{Sub, Site}
 use Rattle.stack_code.specs.declared.code.Code.{Code}
@@ -13,15 +13,15 @@ use Rattle.stack_code.specs.declared.code.CodeSub.{CodeSub}
 use Rattle.stack_code.specs.declared.code.Spot.{Spot}
 use Rattle.stack_code.specs.declared.code.Unwind.{Unwind}
 use Rattle.stack_code.specs.declared.instr.Instr.{Instr}
-use Rattle.stack_code.specs.declared.instr.Instr.TheVariants.{Fork, Outer, LoadO, StoreO, Call, CallAt, Combine, Turn, Nest, Unnest, Ret, RetV}
+use Rattle.stack_code.specs.declared.instr.Instr.TheVariants.{Fork, Outer, LoadO, StoreO, Call, CallAt, CallTo, Combine, Part, Turn, Nest, Unnest, Ret, RetV}
 use Rattle.stack_code.specs.declared.operands.Flow.{Flow}
-use Rattle.stack_code.specs.declared.operands.Flow.TheVariants.{On, To, Branch, Ends as Nowhere}
+use Rattle.stack_code.specs.declared.operands.Flow.TheVariants.{On, To, Branch, Back, Ends as Nowhere}
 use Rattle.stack_code.specs.Operands.{takes, taken_by, pushes, given_by, nest_after, flow_of}
 use Rattle.stack_code.specs.Valid.{Has, HasFrame, Lands, Leads, Belongs, SpotFits, IsValid, Holds, outward}
 use Rattle.ada_base.specs.Cells.{Cell, seen, written}
-use Rattle.stack_code.specs.Deeds.{Deed, Lacks, GoesOn, Fails, Loads, Stores, Turns, Calls, CallsAt, Combines, Ends, Leaves, Forks, Nests, Unnests, Writes, Sends, Gets, Gives, deed_of}
-use Rattle.stack_code.specs.Fits.{Finds, IsFit, IsNext, IsCalm, IsReturn}
-use Rattle.stack_code.specs.Machine.{Frame, State, Went, Goes, look_by, look, with_value, with_cells, cut, on, failed, entered, entered_at, pushed_for, entry_of, handled, unwound, raised, turned, entering, calling, entering_at, calling_at, combining, ending, nesting, done, acted, stepped, step}
+use Rattle.stack_code.specs.Deeds.{Deed, Lacks, GoesOn, Fails, Loads, Stores, Turns, Calls, CallsAt, Combines, Draws, Ends, Leaves, Forks, Nests, Unnests, Writes, Sends, Gets, Gives, deed_of}
+use Rattle.stack_code.specs.Fits.{Finds, IsCallAt, IsFit, IsNext, IsCalm, IsReturn}
+use Rattle.stack_code.specs.Machine.{Frame, State, Went, Goes, look_by, look, with_value, with_cells, cut, on, failed, entered, entered_at, pushed_for, entry_of, handled, unwound, raised, turned, entering, calling, entering_at, calling_at, combining, drawing, ending, nesting, done, acted, stepped, step}
 use Rattle.stack_code.specs.Stands.{IsOuter, IsCall, Waits, Chain, Height, StandsIn, Stands, Keeps}
 use Rattle.stack_code.proofs.Fits.{fits}
 
@@ -49,6 +49,7 @@ pub lands_next : (c : Code) (pc : ℕ) (b : Around) (h n : ℕ) (f : Flow) (to :
 lands_next c pc b h n On to l e = subst (Lands c b h n) (sym e) l
 lands_next c pc b h n (To t) to l e = subst (Lands c b h n) (sym e) l
 lands_next c pc b h n (Branch t) to l e = ⊎_elim (λ (w : to ≡ t). subst (Lands c b h n) (sym w) l.0) (λ (w : to ≡ pc + 1). subst (Lands c b h n) (sym w) l.1) e
+lands_next c pc b h n (Back t) to l e = absurd e
 lands_next c pc b h n Nowhere to l e = absurd e
 
 calm_nest : (i : Instr) → IsCalm i → (n : ℕ) → nest_after i n ≡ n
@@ -103,6 +104,7 @@ module _ (c : Code) (low : Around) (valid : IsValid c) where
   finds_here pc fs b floor nested frames (StoreO k n) h g = (g.0, sees_outer fs b floor nested k frames h g.0 (some_and (outward c (Some b) k) (λ d. HasFrame c d (λ cells. n < cells)) g.1))
   finds_here pc fs b floor nested frames (Call sub) h g = there c.subs sub g.1
   finds_here pc fs b floor nested frames (CallAt sub n) h g = some_and (slice_get c.subs sub) _ g.1
+  finds_here pc fs b floor nested frames (CallTo sub n to) h g = some_and (slice_get c.subs sub) _ g.1
   finds_here pc fs b floor nested frames (Combine sub) h g = some_and (slice_get c.subs sub) _ g.0
   finds_here pc fs b floor nested frames i h g = tt
 
@@ -171,18 +173,27 @@ module _ (c : Code) (low : Around) (valid : IsValid c) where
       (stands_failed s i StorageError (cut (length st - f.takes) st) h (omega (arith, length_cut (length st - f.takes) st (omega arith), l, w)))
 
   -- the same with its frame from a cell of the own one on
-  entering_at_keeps : (s : State) (sub n : ℕ) (f : CodeSub) (left : Option ℕ) (turns : ℕ) → Here s (CallAt sub n) → slice_get c.subs sub ≡ Some f
-      → Keeps c low (entering_at 0 f n (record s { left = left; turns = turns }))
-  entering_at_keeps s sub n f left turns h e =
-      let none : f.takes ≡ 0 = has_fact (slice_get c.subs sub) (λ f. f.takes ≡ 0) f h.fits.belongs.1 e in
-      let w : Frame = record { at = s.pc; to = s.pc + 1; floor = s.floor; base = s.base; nest = s.nest; kept = s.kept; top = length s.cells } in
+  pub called_at_here : (b : Around) (i : Instr) (pc sub n to : ℕ) (f : Frame) → IsCallAt pc i sub n to → Belongs c pc b i → f.at ≡ pc → f.to ≡ to → (0 < sub) × Has c.subs sub (λ s. s.takes ≡ 0) × IsCall i sub f
+  called_at_here b (CallAt k m) pc sub n to f w g a e = (subst (λ j. 0 < j) w.0 g.0, subst (λ j. Has c.subs j (λ s. s.takes ≡ 0)) w.0 g.1, (w.0, e ∙ w.2 ∙ ap (λ j. j + 1) (sym a)))
+  called_at_here b (CallTo k m t) pc sub n to f w g a e = (subst (λ j. 0 < j) w.0 g.0, subst (λ j. Has c.subs j (λ s. s.takes ≡ 0)) w.0 g.1, (w.0, e ∙ w.2))
+  called_at_here b i pc sub n to f w g a e = absurd w
+
+  entering_at_keeps : (s : State) (i : Instr) (sub n to : ℕ) (fit : Bool) (f : CodeSub) (st : List ℤ) (left : Option ℕ) (turns : ℕ) → Here s i → IsCallAt s.pc i sub n to → slice_get c.subs sub ≡ Some f
+      → length st + takes c i ≡ length s.stack → Keeps c low (entering_at 0 f n to fit (record s { stack = st; left = left; turns = turns }))
+  entering_at_keeps s i sub n to fit f st left turns h k e l =
+      let x : State = record s { stack = st; left = left; turns = turns } in
+      let w : Frame = record { at = s.pc; to = to; floor = s.floor; base = s.base; nest = s.nest; kept = s.kept; top = length s.cells } in
+      let call = called_at_here h.spot.body i s.pc sub n to w k h.fits.belongs refl refl in
+      let none : f.takes ≡ 0 = has_fact (slice_get c.subs sub) (λ f. f.takes ≡ 0) f call.1 e in
       cond_keeps c low (nat_lt s.calls 1000)
-      (Goes (entered_at f n (record s { left = left; turns = turns })))
-      (Goes (failed StorageError s.stack (record s { left = left; turns = turns })))
-      (subst (λ o. StandsIn c low f.entry s.stack (length s.stack) 0 s.nested o (w ∷ s.waiting) s.outward) (sym h.calm)
-      (subst (λ k. StandsIn c low f.entry s.stack k 0 s.nested None (w ∷ s.waiting) s.outward) (let m : length s.stack - f.takes ≡ length s.stack = omega (arith, none) in m)
-      (stands_entered s (CallAt sub n) sub f (s.pc + 1) s.kept s.stack h e h.fits.belongs.0 (refl, refl) (omega (arith, none)) (omega (arith, none)))))
-      (stands_failed s (CallAt sub n) StorageError s.stack h (omega arith))
+      (cond fit (Goes (entered_at f n to x)) (Goes (failed ConstraintError st x)))
+      (Goes (failed StorageError st x))
+      (cond_keeps c low fit (Goes (entered_at f n to x)) (Goes (failed ConstraintError st x))
+      (subst (λ o. StandsIn c low f.entry st (length st) 0 s.nested o (w ∷ s.waiting) s.outward) (sym h.calm)
+      (subst (λ k. StandsIn c low f.entry st k 0 s.nested None (w ∷ s.waiting) s.outward) (let m : length st - f.takes ≡ length st = omega (arith, none) in m)
+      (stands_entered s i sub f to s.kept st h e call.0 call.2 (omega (arith, none, l)) (omega (arith, none)))))
+      (stands_failed s i ConstraintError st h (omega (arith, l))))
+      (stands_failed s i StorageError st h (omega (arith, l)))
 
   combining_keeps : (s : State) (sub : ℕ) (f : CodeSub) (acc : ℤ) (st parts : List ℤ) (limit : ℕ) → Here s (Combine sub) → slice_get c.subs sub ≡ Some f → s.stack ≡ acc ∷ st → Keeps c low (combining limit f acc st parts s)
   combining_keeps s sub f acc st [] limit h e t =
@@ -225,6 +236,15 @@ module _ (c : Code) (low : Around) (valid : IsValid c) where
   back sub floor nested f spot i v st w (CallAt k m) e p l n r pc g =
       let fit = fine f.at (CallAt k m) spot e w.at in
       let q = has_one (slice_get c.spots (f.at + 1)) _ fit.leads in
+      let one : length (pushed_for v st) ≡ length st + given_by (slice_get c.subs sub) = returned i v pc sub st r g in
+      let same : given_by (slice_get c.subs k) ≡ given_by (slice_get c.subs sub) = ap (λ j. given_by (slice_get c.subs j)) p.0 in
+      has_at f.to q.0 (ap (λ j. slice_get c.spots j) p.1 ∙ q.1) (q.2.0, omega (arith, one, n, same, l, fit.operands, q.2.1), q.2.2 ∙ w.nest)
+    where
+      has_at : (to : ℕ) (q : Spot) → slice_get c.spots to ≡ Some q → (q.body ≡ spot.body) × (length (pushed_for v st) ≡ f.floor + q.stack) × (q.nest ≡ f.nest) → Has c.spots to (λ q. (q.body ≡ spot.body) × (length (pushed_for v st) ≡ f.floor + q.stack) × (q.nest ≡ f.nest))
+      has_at to q e h = subst (λ o. IsSomeAnd o (λ q. (q.body ≡ spot.body) × (length (pushed_for v st) ≡ f.floor + q.stack) × (q.nest ≡ f.nest))) (sym e) h
+  back sub floor nested f spot i v st w (CallTo k m t) e p l n r pc g =
+      let fit = fine f.at (CallTo k m t) spot e w.at in
+      let q = has_one (slice_get c.spots t) _ fit.leads in
       let one : length (pushed_for v st) ≡ length st + given_by (slice_get c.subs sub) = returned i v pc sub st r g in
       let same : given_by (slice_get c.subs k) ≡ given_by (slice_get c.subs sub) = ap (λ j. given_by (slice_get c.subs j)) p.0 in
       has_at f.to q.0 (ap (λ j. slice_get c.spots j) p.1 ∙ q.1) (q.2.0, omega (arith, one, n, same, l, fit.operands, q.2.1), q.2.2 ∙ w.nest)
@@ -290,8 +310,12 @@ module _ (c : Code) (low : Around) (valid : IsValid c) where
       let t : takes c (Call w.0) ≡ f.takes = ap taken_by w.2 in
       turned_keeps c low limit s (λ x. entering limit f (s.pc + 1) s.kept x) (λ left turns. entering_keeps s (Call w.0) w.0 f (s.pc + 1) s.kept s.stack left turns g w.2 (later_call s w.0 g) (refl, refl) (omega (arith, t)) (omega (arith, t, g.height, g.fits.operands)))
 
-  calls_at_keeps : (s : State) (i : Instr) (f : CodeSub) (n limit : ℕ) → Here s i → (k : ℕ) × (i ≡ CallAt k n) × (slice_get c.subs k ≡ Some f) → Keeps c low (calling_at limit f n s)
-  calls_at_keeps s i f n limit h w = turned_keeps c low limit s (λ x. entering_at limit f n x) (λ left turns. entering_at_keeps s w.0 n f left turns (subst (Here s) w.1 h) w.2)
+  calls_at_keeps : (s : State) (i : Instr) (f : CodeSub) (n to : ℕ) (fit : Bool) (st : List ℤ) (limit : ℕ) → Here s i → (k : ℕ) × IsCallAt s.pc i k n to × (slice_get c.subs k ≡ Some f) × (length st + takes c i ≡ length s.stack) → Keeps c low (calling_at limit f n to fit st s)
+  calls_at_keeps s i f n to fit st limit h w = turned_keeps c low limit s (λ x. entering_at limit f n to fit (record x { stack = st })) (λ left turns. entering_at_keeps s i w.0 n to fit f st left turns h w.1 w.2 w.3)
+
+  drawing_keeps : (s : State) (limit : ℕ) (parts : List ℤ) → Here s Part → Keeps c low (drawing limit parts s)
+  drawing_keeps s limit [] h = on_keeps s Part (s.pc + 1) (pos 0 ∷ pos 0 ∷ s.stack) s.nest s.nested h refl (omega arith) refl h.within refl
+  drawing_keeps s limit (part ∷ parts) h = on_keeps s Part (s.pc + 1) (pos 1 ∷ part ∷ s.stack) s.nest s.nested h refl (omega arith) refl h.within refl
 
   done_keeps : (d : Deed) (s : State) (i : Instr) (limit : ℕ) → Here s i → IsFit c s.pc s.stack i d → Keeps c low (done limit d s)
   done_keeps Lacks s i limit h f = f
@@ -306,8 +330,9 @@ module _ (c : Code) (low : Around) (valid : IsValid c) where
       let g : Here s Turn = subst (Here s) f h in
       turned_keeps c low limit s (λ s. Goes (on s.stack s)) (λ left turns. on_keeps s Turn (s.pc + 1) s.stack s.nest s.nested g refl refl refl g.within refl)
   done_keeps (Calls f) s i limit h w = calls_keeps s i f limit h w
-  done_keeps (CallsAt f n) s i limit h w = calls_at_keeps s i f n limit h w
+  done_keeps (CallsAt f n to fit st) s i limit h w = calls_at_keeps s i f n to fit st limit h w
   done_keeps (Combines f acc st) s i limit h w = combining_keeps s w.0 f acc st s.kept limit (subst (Here s) w.1 h) w.2 w.3
+  done_keeps Draws s i limit h w = drawing_keeps s limit s.kept (subst (Here s) w h)
   done_keeps (Ends v st) s i limit h f = ending_keeps s i v st s.waiting h.spot h f.0 (omega (arith, f.1, h.height, h.fits.operands)) h.fits h.chain
   done_keeps (Leaves l st) s i limit h f = tt
   done_keeps (Forks q st) s i limit h f =

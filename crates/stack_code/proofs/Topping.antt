@@ -3,14 +3,14 @@ use Rattle.std.proofs.Common.{◌≡◌, ℕ, zero, suc, ◌+◌, ◌-◌, ◌�
 use Rattle.std.specs.Prelude.{slice_get, set, nat_lt}
 use Rattle.std.proofs.lemmas.List.{length-append, length-take}
 use Rattle.ada_base.specs.declared.reason.Reason.{Reason}
-use Rattle.ada_base.specs.declared.reason.Reason.TheVariants.{StorageError}
+use Rattle.ada_base.specs.declared.reason.Reason.TheVariants.{ConstraintError, StorageError}
 use Rattle.ada_base.specs.Cells.{Cell, Mine, seen, written, zeros}
 use Rattle.stack_code.specs.declared.code.Code.{Code}
 use Rattle.stack_code.specs.declared.code.CodeSub.{CodeSub}
 use Rattle.stack_code.specs.declared.code.Unwind.{Unwind}
 use Rattle.stack_code.specs.declared.instr.Instr.{Instr}
-use Rattle.stack_code.specs.Deeds.{Deed, Lacks, GoesOn, Fails, Loads, Stores, Turns, Calls, CallsAt, Combines, Ends, Leaves, Forks, Nests, Unnests, Writes, Sends, Gets, Gives, deed_of}
-use Rattle.stack_code.specs.Machine.{Frame, State, Went, Goes, Stops, Spent, look_by, with_value, with_cells, cut, on, failed, entered, entered_at, ended, pushed_for, entry_of, handled, unwound, raised, turned, entering, entering_at, combining, ending, nesting, done, acted, stepped, step, going, run, Comes}
+use Rattle.stack_code.specs.Deeds.{Deed, Lacks, GoesOn, Fails, Loads, Stores, Turns, Calls, CallsAt, Combines, Draws, Ends, Leaves, Forks, Nests, Unnests, Writes, Sends, Gets, Gives, deed_of}
+use Rattle.stack_code.specs.Machine.{Frame, State, Went, Goes, Stops, Spent, look_by, with_value, with_cells, cut, on, failed, entered, entered_at, ended, pushed_for, entry_of, handled, unwound, raised, turned, entering, entering_at, combining, drawing, ending, nesting, done, acted, stepped, step, going, run, Comes}
 use Rattle.stack_code.specs.Tops.{AreTops, IsTopped, StaysTopped}
 use Rattle.stack_code.proofs.Framing.{mine_of, set_length}
 
@@ -48,12 +48,17 @@ module _ (low : ℕ) where
     entering_tops : (f : CodeSub) (to : ℕ) (kept : List ℤ) (s : State) → IsTopped low s → StaysTopped low (entering limit f to kept s)
     entering_tops f to kept s t = cond_tops (nat_lt s.calls 1000) (Goes (entered f to kept s)) (Goes (failed StorageError (cut (length s.stack - f.takes) s.stack) s)) (omega (arith, length-append s.cells (zeros f.frame)), t) t
 
-    entering_at_tops : (f : CodeSub) (n : ℕ) (s : State) → IsTopped low s → StaysTopped low (entering_at limit f n s)
-    entering_at_tops f n s t = cond_tops (nat_lt s.calls 1000) (Goes (entered_at f n s)) (Goes (failed StorageError s.stack s)) (omega (arith, length-append s.cells (zeros (s.base + n + f.frame - length s.cells))), t) t
+    entering_at_tops : (f : CodeSub) (n to : ℕ) (fit : Bool) (s : State) → IsTopped low s → StaysTopped low (entering_at limit f n to fit s)
+    entering_at_tops f n to fit s t = cond_tops (nat_lt s.calls 1000) (cond fit (Goes (entered_at f n to s)) (Goes (failed ConstraintError s.stack s))) (Goes (failed StorageError s.stack s))
+        (cond_tops fit (Goes (entered_at f n to s)) (Goes (failed ConstraintError s.stack s)) (omega (arith, length-append s.cells (zeros (s.base + n + f.frame - length s.cells))), t) t) t
 
     combining_tops : (f : CodeSub) (acc : ℤ) (st parts : List ℤ) (s : State) → IsTopped low s → StaysTopped low (combining limit f acc st parts s)
     combining_tops f acc st [] s t = t
     combining_tops f acc st (part ∷ parts) s t = turned_tops s (λ s. entering limit f s.pc parts (record s { stack = part ∷ acc ∷ st })) t (λ l n. entering_tops f s.pc parts (record s { left = l; turns = n; stack = part ∷ acc ∷ st }) t)
+
+    drawing_tops : (parts : List ℤ) (s : State) → IsTopped low s → StaysTopped low (drawing limit parts s)
+    drawing_tops [] s t = t
+    drawing_tops (part ∷ parts) s t = t
 
     ended_tops : (s : State) (f : Frame) (fs : List Frame) (to : ℕ) (st : List ℤ) → s.waiting ≡ f ∷ fs → IsTopped low s → IsTopped low (ended f fs to st s)
     ended_tops s f fs to st e t =
@@ -76,8 +81,9 @@ module _ (low : ℕ) where
         (λ w e. done_tops d (record s { cells = w }) (subst (AreTops low s.waiting) (sym (written_length s.cells a v w e)) t))
     done_tops Turns s t = turned_tops s (λ s. Goes (on s.stack s)) t (λ l n. t)
     done_tops (Calls f) s t = turned_tops s (λ x. entering limit f (s.pc + 1) s.kept x) t (λ l n. entering_tops f (s.pc + 1) s.kept (record s { left = l; turns = n }) t)
-    done_tops (CallsAt f n) s t = turned_tops s (λ x. entering_at limit f n x) t (λ l k. entering_at_tops f n (record s { left = l; turns = k }) t)
+    done_tops (CallsAt f n to fit st) s t = turned_tops s (λ x. entering_at limit f n to fit (record x { stack = st })) t (λ l k. entering_at_tops f n to fit (record s { left = l; turns = k; stack = st }) t)
     done_tops (Combines f acc st) s t = combining_tops f acc st s.kept s t
+    done_tops Draws s t = drawing_tops s.kept s t
     done_tops (Ends v st) s t = ending_tops v st s.waiting s refl t
     done_tops (Leaves l st) s t = t
     done_tops (Forks q st) s t = t

@@ -10,7 +10,7 @@ use Rattle.ada_base.specs.declared.reason.Reason.TheVariants.{ConstraintError, P
 use Rattle.ada_base.specs.Operation.{within, result_of}
 use Rattle.ada_base.specs.Image.{image, truth_image, padded}
 use Rattle.stack_code.specs.declared.instr.Instr.{Instr}
-use Rattle.stack_code.specs.declared.instr.Instr.TheVariants.{Push, Pop, Dup, Swap, Local, Outer, Global, Index, Field, Load, Store, Copy, Fill, Add, Sub, Mul, Div, Mod, Rem, Pow, Neg, Abs, Max, Min, Eq, Ne, Lt, Le, Gt, Ge, And, Or, Xor, Not, Range, Jump, JFalse, JTrue, Turn, Call, CallAt, Ret, RetV, Raise, Reraise, Exit, Leave as LeaveNow, LeaveV, Fork, Nest, Unnest, Words, Img, Bool as BoolImage, Wide, Send, SendLn, Get, End, EndV, Halt, Combine, LoadL, LoadO, LoadG, StoreL, StoreO, StoreG, AddI, IndexL, Item, ItemL, JfEq, JfNe, JfLt, JfLe, JfGt, JfGe, Next, Prior, Flip, Differ}
+use Rattle.stack_code.specs.declared.instr.Instr.TheVariants.{Push, Pop, Dup, Swap, Local, Outer, Global, Index, Field, Load, Store, Copy, Fill, Add, Sub, Mul, Div, Mod, Rem, Pow, Neg, Abs, Max, Min, Eq, Ne, Lt, Le, Gt, Ge, And, Or, Xor, Not, Range, Jump, JFalse, JTrue, Turn, Call, CallAt, CallTo, Ret, RetV, Raise, Reraise, Exit, Leave as LeaveNow, LeaveV, Fork, Nest, Unnest, Words, Img, Bool as BoolImage, Wide, Send, SendLn, Get, End, EndV, Halt, Combine, Part, LoadL, LoadO, LoadG, StoreL, StoreO, StoreG, AddI, IndexL, Item, ItemL, JfEq, JfNe, JfLt, JfLe, JfGt, JfGe, Next, Prior, Flip, Differ}
 use Rattle.stack_code.specs.declared.code.Code.{Code}
 use Rattle.stack_code.specs.declared.operators.Relation.{Relation}
 use Rattle.stack_code.specs.declared.operators.Relation.TheVariants.{Equal, Unequal, Less, AtMost, Greater, AtLeast}
@@ -95,8 +95,11 @@ pub data Deed : Type 0 where
   Stores : (address value : ℤ) (onward : Deed) → Deed  -- writes a cell
   Turns : Deed
   Calls : CodeSub → Deed
-  CallsAt : CodeSub → (cell : ℕ) → Deed  -- with its frame from a cell of the own one on
+  -- with its frame from a cell of the own one on; it comes back to that instruction, and raises Constraint_Error unless
+  -- its operands fit
+  CallsAt : CodeSub → (cell to : ℕ) → (fit : Bool) → (stack : List ℤ) → Deed
   Combines : CodeSub → (acc : ℤ) (stack : List ℤ) → Deed
+  Draws : Deed  -- takes off the next accumulator that is kept
   Ends : (value : Option ℤ) (stack : List ℤ) → Deed  -- ends the subprogram
   Leaves : Leave → (stack : List ℤ) → Deed
   Forks : Asked → (stack : List ℤ) → Deed
@@ -174,9 +177,9 @@ abbrev pub called : List ℤ → Option CodeSub → Deed
 called st (Some s) = Calls s
 called st None = Lacks
 
-abbrev pub called_at : ℕ → Option CodeSub → Deed
-called_at n (Some s) = CallsAt s n
-called_at n None = Lacks
+abbrev pub called_at : (cell to : ℕ) → (fit : Bool) → List ℤ → Option CodeSub → Deed
+called_at n to fit st (Some s) = CallsAt s n to fit st
+called_at n to fit st None = Lacks
 
 abbrev pub combining : Option CodeSub → ℤ → List ℤ → Deed
 combining (Some s) acc st = Combines s acc st
@@ -243,7 +246,8 @@ deed_of c pc st base outward (JFalse to) = on_one st (λ x st. GoesOn (cond (tru
 deed_of c pc st base outward (JTrue to) = on_one st (λ x st. GoesOn (cond (truth x) to (pc + 1)) st)
 deed_of c pc st base outward Turn = Turns
 deed_of c pc st base outward (Call sub) = called st (slice_get c.subs sub)
-deed_of c pc st base outward (CallAt sub n) = called_at n (slice_get c.subs sub)
+deed_of c pc st base outward (CallAt sub n) = called_at n (pc + 1) true st (slice_get c.subs sub)
+deed_of c pc st base outward (CallTo sub n to) = on_one st (λ x st. called_at n to (truth x) st (slice_get c.subs sub))
 deed_of c pc st base outward Ret = Ends None st
 deed_of c pc st base outward RetV = on_one st (λ x st. Ends (Some x) st)
 deed_of c pc st base outward (Raise reason) = Fails reason st
@@ -265,6 +269,7 @@ deed_of c pc st base outward End = Gives None st
 deed_of c pc st base outward EndV = on_one st (λ x st. Gives (Some x) st)
 deed_of c pc st base outward Halt = Gives None st
 deed_of c pc st base outward (Combine sub) = on_one st (λ acc st. combining (slice_get c.subs sub) acc st)
+deed_of c pc st base outward Part = Draws
 -- the fused ones
 deed_of c pc st base outward (LoadL n) = load_from pc st (pos (base + n))
 deed_of c pc st base outward (LoadO k n) = load_of_frame pc st (slice_get outward (k - 1)) n

@@ -30,7 +30,7 @@ deed_looks (Loads a k) s = value_looks (seen s.cells a) (λ v. deed_looks (k v) 
 deed_looks (Stores a v d) s = cells_looks (written s.cells a v) (λ w. deed_looks d (record s { cells = w }))
 deed_looks Turns s = 1
 deed_looks (Calls f) s = 1
-deed_looks (CallsAt f n) s = 1
+deed_looks (CallsAt f n to fit st) s = 1
 deed_looks (Combines f acc st) s = kept_looks s.kept
 deed_looks Nests s = 1
 deed_looks d s = 0

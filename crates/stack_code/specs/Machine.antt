@@ -1,7 +1,7 @@
 -- What the machine does: one instruction of one path, as a function of the path's state.
-use Rattle.std.specs.Prelude.{◌≡◌, ℕ, zero, suc, ◌+◌, ◌-◌, ℤ, pos, List, [], ◌∷◌, ◌++◌, length, drop, take, Option, Some, None, slice_get, cond, nat_lt}
+use Rattle.std.specs.Prelude.{◌≡◌, ℕ, zero, suc, ◌+◌, ◌-◌, ℤ, pos, List, [], ◌∷◌, ◌++◌, length, drop, take, Option, Some, None, slice_get, cond, nat_lt, Bool}
 use Rattle.ada_base.specs.declared.reason.Reason.{Reason}
-use Rattle.ada_base.specs.declared.reason.Reason.TheVariants.{StorageError}
+use Rattle.ada_base.specs.declared.reason.Reason.TheVariants.{ConstraintError, StorageError}
 use Rattle.stack_code.specs.declared.instr.Instr.{Instr}
 use Rattle.stack_code.specs.declared.instr.Instr.TheVariants as instr
 use Rattle.stack_code.specs.declared.code.Code.{Code}
@@ -16,7 +16,7 @@ use Rattle.stack_code.specs.declared.path.Leave.{Leave}
 use Rattle.stack_code.specs.declared.path.Leave.TheVariants.{Exit as Exits, Return as Returns, Raise as Raises}
 use Rattle.stack_code.specs.Listing.{reason_number}
 use Rattle.ada_base.specs.Cells.{Cell, seen, written, zeros}
-use Rattle.stack_code.specs.Deeds.{Deed, Lacks, GoesOn, Fails, Loads, Stores, Turns, Calls, CallsAt, Combines, Ends, Leaves, Forks, Nests, Unnests, Writes, Sends, Gets, Gives, deed_of}
+use Rattle.stack_code.specs.Deeds.{Deed, Lacks, GoesOn, Fails, Loads, Stores, Turns, Calls, CallsAt, Combines, Draws, Ends, Leaves, Forks, Nests, Unnests, Writes, Sends, Gets, Gives, deed_of}
 
 -- a body that waits for its call, which stands at that instruction, and where it goes on; what is its own: where its
 -- operands and its frame begin, the constructs begun in it, the accumulators that its last fork kept, and where the cells
@@ -117,14 +117,14 @@ entered f to kept s = record s {
 }
 
 -- the same with its frame from a cell of the own one on, where the first values of its formals stand; it takes no operand
-abbrev pub entered_at : CodeSub → (cell : ℕ) → State → State
-entered_at f n s = record s {
+abbrev pub entered_at : CodeSub → (cell to : ℕ) → State → State
+entered_at f n to s = record s {
   pc = f.entry;
   floor = length s.stack;
   nest = 0;
   kept = [];
   base = s.base + n;
-  waiting = record { at = s.pc; to = s.pc + 1; floor = s.floor; base = s.base; nest = s.nest; kept = s.kept; top = length s.cells } ∷ s.waiting;
+  waiting = record { at = s.pc; to = to; floor = s.floor; base = s.base; nest = s.nest; kept = s.kept; top = length s.cells } ∷ s.waiting;
   calls = s.calls + 1;
   cells = s.cells ++ zeros (s.base + n + f.frame - length s.cells);
 }
@@ -191,16 +191,24 @@ module _ (limit : ℕ) where
   abbrev pub calling : CodeSub → (to : ℕ) → (kept : List ℤ) → State → Went
   calling f to kept s = turned s (λ s. entering f to kept s)
 
-  abbrev pub entering_at : CodeSub → (cell : ℕ) → State → Went
-  entering_at f n s = cond (nat_lt s.calls 1000) (Goes (entered_at f n s)) (Goes (failed StorageError s.stack s))
+  -- so is Constraint_Error then, where its operands don't fit
+  abbrev pub entering_at : CodeSub → (cell to : ℕ) → (fit : Bool) → State → Went
+  entering_at f n to fit s = cond (nat_lt s.calls 1000)
+      (cond fit (Goes (entered_at f n to s)) (Goes (failed ConstraintError s.stack s)))
+      (Goes (failed StorageError s.stack s))
 
-  abbrev pub calling_at : CodeSub → (cell : ℕ) → State → Went
-  calling_at f n s = turned s (λ s. entering_at f n s)
+  abbrev pub calling_at : CodeSub → (cell to : ℕ) → (fit : Bool) → List ℤ → State → Went
+  calling_at f n to fit st s = turned s (λ s. entering_at f n to fit (record s { stack = st }))
 
   -- calls the function with each accumulator that is left, and comes back here
   abbrev pub combining : CodeSub → ℤ → List ℤ → List ℤ → State → Went
   combining f acc st [] s = Goes (on (acc ∷ st) s)
   combining f acc st (part ∷ parts) s = turned s (λ s. entering f s.pc parts (record s { stack = part ∷ acc ∷ st }))
+
+  -- pushes the next accumulator and 1, or 0 and 0 where none is left
+  abbrev pub drawing : List ℤ → State → Went
+  drawing [] s = Goes (on (pos 0 ∷ pos 0 ∷ s.stack) s)
+  drawing (part ∷ parts) s = Goes (on (pos 1 ∷ part ∷ s.stack) (record s { kept = parts }))
 
   abbrev pub ending : Option ℤ → List ℤ → List Frame → State → Went
   ending v st [] s = Stops Astray s
@@ -220,8 +228,9 @@ module _ (limit : ℕ) where
   done (Stores a v d) s = with_cells (written s.cells a v) s (λ s. done d s)
   done Turns s = turned s (λ s. Goes (on s.stack s))
   done (Calls f) s = calling f (s.pc + 1) s.kept s
-  done (CallsAt f n) s = calling_at f n s
+  done (CallsAt f n to fit st) s = calling_at f n to fit st s
   done (Combines f acc st) s = combining f acc st s.kept s
+  done Draws s = drawing s.kept s
   done (Ends v st) s = ending v st s.waiting s
   done (Leaves l st) s = Stops (Left l) (record s { stack = st })
   done (Forks q st) s = Stops (Constructs q) (record s { stack = st })

@@ -8,9 +8,9 @@ use Rattle.stack_code.specs.declared.code.Code.{Code}
 use Rattle.stack_code.specs.declared.code.Spot.{Spot}
 use Rattle.stack_code.specs.declared.code.Unwind.{Unwind}
 use Rattle.stack_code.specs.declared.instr.Instr.{Instr}
-use Rattle.stack_code.specs.declared.instr.Instr.TheVariants.{Call, CallAt, Combine, Fork, Turn}
+use Rattle.stack_code.specs.declared.instr.Instr.TheVariants.{Call, CallAt, CallTo, Combine, Fork, Turn}
 use Rattle.stack_code.specs.declared.operands.Flow.{Flow}
-use Rattle.stack_code.specs.declared.operands.Flow.TheVariants.{On, To, Branch, Ends}
+use Rattle.stack_code.specs.declared.operands.Flow.TheVariants.{On, To, Branch, Back, Ends}
 use Rattle.stack_code.specs.Operands.{takes, flow_of}
 use Rattle.stack_code.specs.Valid.{Holds, outward}
 use Rattle.stack_code.specs.Machine.{Frame, State, Went, Goes, Stops, Asks, Constructs, Astray}
@@ -24,10 +24,12 @@ IsOuter (Site k) = Unit {0}
 abbrev pub Sees : Code → Around → List ℕ → Type 0
 Sees c b frames = (k : ℕ) → IsSome (outward c (Some b) k) → k ≤ length frames
 
--- a call of the subprogram, after which the next instruction follows, or one that comes back to itself
+-- a call of the subprogram, after which the next instruction follows or the one that it names, or one that comes back to
+-- itself
 abbrev pub IsCall : Instr → ℕ → Frame → Type 0
 IsCall (Call k) sub f = (k ≡ sub) × (f.to ≡ f.at + 1)
 IsCall (CallAt k n) sub f = (k ≡ sub) × (f.to ≡ f.at + 1)
+IsCall (CallTo k n to) sub f = (k ≡ sub) × (f.to ≡ to)
 IsCall (Combine k) sub f = (k ≡ sub) × (f.to ≡ f.at)
 IsCall i sub f = ⊥
 
@@ -90,11 +92,12 @@ Keeps c low (Stops _ s) = Unit {0}
 
 -- ---- what falls at each step
 
--- an instruction that a jump leads to
+-- an instruction that a jump leads to; a call that comes back is none, for there is one call less that waits then
 abbrev pub IsTarget : Flow → ℕ → Type 0
 IsTarget On t = ⊥
 IsTarget (To u) t = t ≡ u
 IsTarget (Branch u) t = t ≡ u
+IsTarget (Back u) t = ⊥
 IsTarget Ends t = ⊥
 
 -- a jump leads forward, or to a turn, and an unwind entry to an instruction after those that it holds

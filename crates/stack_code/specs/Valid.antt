@@ -1,7 +1,7 @@
 -- Code that fits together: each rule is of one instruction, or of one entry of a table.
 use Rattle.std.specs.Prelude.{◌≡◌, ℕ, zero, suc, ◌+◌, ◌-◌, ◌<◌, ◌≤◌, List, length, Option, Some, None, IsSome, IsSomeAnd, slice_get, Bool, true, false}
 use Rattle.stack_code.specs.declared.instr.Instr.{Instr}
-use Rattle.stack_code.specs.declared.instr.Instr.TheVariants.{Local, Outer, Global, Call, CallAt, Ret, RetV, Exit, Leave, LeaveV, Fork, Unnest, Words, End, EndV, Halt, Combine, LoadL, LoadO, LoadG, StoreL, StoreO, StoreG, IndexL, ItemL, Next, Prior}
+use Rattle.stack_code.specs.declared.instr.Instr.TheVariants.{Local, Outer, Global, Call, CallAt, CallTo, Ret, RetV, Exit, Leave, LeaveV, Fork, Unnest, Words, End, EndV, Halt, Combine, LoadL, LoadO, LoadG, StoreL, StoreO, StoreG, IndexL, ItemL, Next, Prior}
 use Rattle.stack_code.specs.declared.code.Around.{Around}
 use Rattle.stack_code.specs.declared.code.Around.TheVariants.{Sub, Site}
 use Rattle.stack_code.specs.declared.code.Code.{Code}
@@ -12,7 +12,7 @@ use Rattle.stack_code.specs.declared.code.SiteKind.TheVariants.{Reduction, Chunk
 use Rattle.stack_code.specs.declared.code.Spot.{Spot}
 use Rattle.stack_code.specs.declared.code.Unwind.{Unwind}
 use Rattle.stack_code.specs.declared.operands.Flow.{Flow}
-use Rattle.stack_code.specs.declared.operands.Flow.TheVariants.{On, To, Branch, Ends}
+use Rattle.stack_code.specs.declared.operands.Flow.TheVariants.{On, To, Branch, Back, Ends}
 use Rattle.stack_code.specs.Operands.{takes, pushes, ends_of, nest_after, flow_of, is_reduction}
 
 -- each item of a list, with its number
@@ -75,6 +75,7 @@ abbrev pub Leads : Code → ℕ → Around → ℕ → ℕ → Flow → Type 0
 Leads c at body height nest On = Lands c body height nest (at + 1)
 Leads c at body height nest (To t) = Lands c body height nest t
 Leads c at body height nest (Branch t) = Lands c body height nest t × Lands c body height nest (at + 1)
+Leads c at body height nest (Back t) = Lands c body height nest t
 Leads c at body height nest Ends = Unit {0}
 
 -- a reduction by a function
@@ -114,6 +115,7 @@ Belongs c at body (Next n m to) = HasFrame c body (λ cells. n < cells) × HasFr
 Belongs c at body (Prior n m to) = HasFrame c body (λ cells. n < cells) × HasFrame c body (λ cells. m < cells)
 Belongs c at body (Call sub) = (0 < sub) × (sub < length c.subs)
 Belongs c at body (CallAt sub n) = (0 < sub) × Has c.subs sub (λ s. s.takes ≡ 0)
+Belongs c at body (CallTo sub n to) = (0 < sub) × Has c.subs sub (λ s. s.takes ≡ 0)
 Belongs c at body (Combine sub) = Has c.subs sub (λ s. (s.takes ≡ 2) × (s.gives ≡ true)) × FollowsFold c at
 Belongs c at body (Fork site) = Has c.sites site (λ s. s.around ≡ body)
 Belongs c at body (Words text) = text < length c.texts

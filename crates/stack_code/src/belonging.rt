@@ -107,7 +107,7 @@ fn belongs(code: &Code, at: usize, body: Around, instr: Instr) -> bool
             frame_exceeds(code, body, counter) && frame_exceeds(code, body, last)
         }
         Instr::Call(sub) => 0 < sub && (sub as usize) < code.subs.len(),
-        Instr::CallAt(sub, _) => 0 < sub && takes_none(code, sub),
+        Instr::CallAt(sub, _) | Instr::CallTo(sub, _, _) => 0 < sub && takes_none(code, sub),
         Instr::Combine(sub) => folds(code, sub) && follows_fold(code, at),
         Instr::Fork(site) => stands_around(code, site, body),
         Instr::Words(number) => (number as usize) < code.texts.len(),

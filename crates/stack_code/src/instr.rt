@@ -86,6 +86,9 @@ pub enum Instr {
     Call(u32),
     /// A call whose frame begins at a cell of the own one, where the first values of its formals stand.
     CallAt(u32, u32),
+    /// The same, which comes back to that instruction in place of the next one: the subprogram, the cell, and where. It
+    /// takes the top, and raises Constraint_Error where that is 0, after a look, with its turn begun and calls counted.
+    CallTo(u32, u32, u32),
     /// Ends the subprogram (6.5).
     Ret,
     /// Ends the function with the top as its value (6.5).
@@ -128,6 +131,9 @@ pub enum Instr {
     Halt,
     /// Calls the reducer with each accumulator that the last fork of this frame kept.
     Combine(u32),
+    /// Takes off the next accumulator that the last fork of this body kept, and pushes it and 1; where none is left it
+    /// pushes 0 and 0.
+    Part,
     /// The following do what several of those above do one after another. Pushes a cell of the own frame: `Local`,
     /// `Load`.
     LoadL(u32),

@@ -13,6 +13,8 @@ pub enum Flow {
     To(u32),
     /// That one follows, or the next.
     Branch(u32),
+    /// That one follows once the call has ended.
+    Back(u32),
     /// None does.
     Ends,
 }
@@ -78,6 +80,7 @@ pub fn takes_of(code: &Code, instr: Instr) -> u32
         | Instr::Bool
         | Instr::Wide(_)
         | Instr::EndV
+        | Instr::CallTo(_, _, _)
         | Instr::Combine(_)
         | Instr::StoreL(_)
         | Instr::StoreO(_, _)
@@ -123,6 +126,7 @@ pub fn takes_of(code: &Code, instr: Instr) -> u32
         | Instr::Outer(_, _)
         | Instr::Global(_)
         | Instr::CallAt(_, _)
+        | Instr::Part
         | Instr::Jump(_)
         | Instr::Turn
         | Instr::Ret
@@ -191,8 +195,8 @@ pub fn pushes_of(code: &Code, instr: Instr) -> u32
         | Instr::ItemL(_, _, _, _)
         | Instr::Flip
         | Instr::Differ => 1,
-        Instr::Dup | Instr::Swap => 2,
-        Instr::Call(sub) | Instr::CallAt(sub, _) => given_by(code, sub),
+        Instr::Dup | Instr::Swap | Instr::Part => 2,
+        Instr::Call(sub) | Instr::CallAt(sub, _) | Instr::CallTo(sub, _, _) => given_by(code, sub),
         Instr::Fork(site) => answered_by(code, site),
         Instr::Pop
         | Instr::Store
@@ -271,6 +275,7 @@ pub fn flow_of(instr: Instr) -> Flow
         | Instr::JfGe(to)
         | Instr::Next(_, _, to)
         | Instr::Prior(_, _, to) => Flow::Branch(to),
+        Instr::CallTo(_, _, to) => Flow::Back(to),
         Instr::Ret
         | Instr::RetV
         | Instr::Raise(_)

@@ -1,7 +1,7 @@
 -- Calls and returns, turns and looks, as steps of a state.
 use Rattle.std.proofs.Common.{◌≡◌, ℕ, List, [], ◌∷◌, ◌++◌, Some, None, ℤ, pos, refl}
 use Rattle.ada_base.specs.Cells.{Cell, Mine, zeros}
-use Rattle.ada_base.specs.declared.reason.Reason.TheVariants.{StorageError}
+use Rattle.ada_base.specs.declared.reason.Reason.TheVariants.{ConstraintError, StorageError}
 use Rattle.stack_code.specs.declared.instr.Instr.{Instr}
 use Rattle.stack_code.specs.declared.instr.Instr.TheVariants as i
 use Rattle.stack_code.specs.Machine.{State, Frame, Went, Goes, Stops, Spent, Cut, step}
@@ -36,6 +36,24 @@ window_too_deep = refl
 -- a window inside the cells that are there takes none
 window_inside : one (i.CallAt 2 0) (record (fresh []) { base = 1 }) ≡ Goes (record (fresh []) { pc = 30; base = 1; waiting = record { at = 0; to = 1; floor = 0; base = 1; nest = 0; kept = []; top = 5 } ∷ []; calls = 1; turns = 1 })
 window_inside = refl
+
+-- the same that comes back to instruction 8, and takes a truth value: where that is false it raises, after the turn is begun
+window_back : one (i.CallTo 2 1 8) (fresh (pos 7 ∷ pos 1 ∷ [])) ≡ Goes (record (fresh (pos 1 ∷ [])) { pc = 30; floor = 1; base = 4; waiting = waits 8 0 ∷ []; calls = 1; turns = 1; cells = five ++ zeros 3 })
+window_back = refl
+
+window_unfit : one (i.CallTo 2 1 8) (fresh (pos 0 ∷ pos 1 ∷ [])) ≡ Goes (record (fresh (pos 1 ∷ [])) { turns = 1; raising = Some ConstraintError })
+window_unfit = refl
+
+-- too many calls are found before
+window_back_too_deep : one (i.CallTo 2 1 8) (record (fresh (pos 0 ∷ pos 1 ∷ [])) { calls = 1000 }) ≡ Goes (record (fresh (pos 1 ∷ [])) { calls = 1000; turns = 1; raising = Some StorageError })
+window_back_too_deep = refl
+
+-- no turn is left, or no look: the operand stays
+window_back_spent : one (i.CallTo 2 1 8) (record (fresh (pos 0 ∷ [])) { turns = 10 }) ≡ Stops Spent (record (fresh (pos 0 ∷ [])) { turns = 10 })
+window_back_spent = refl
+
+window_back_cut : one (i.CallTo 2 1 8) (record (fresh (pos 0 ∷ [])) { left = Some 0 }) ≡ Stops Cut (record (fresh (pos 0 ∷ [])) { left = Some 0 })
+window_back_cut = refl
 
 -- in a body that was called with the operand 1 below it, and began a construct
 abbrev inside : List ℤ → State

@@ -67,6 +67,13 @@ combined = refl
 combine_too_deep : one (i.Combine 1) (record (fresh (pos 5 ∷ [])) { kept = pos 6 ∷ []; calls = 1000 }) ≡ Goes (record (fresh []) { kept = pos 6 ∷ []; calls = 1000; turns = 1; raising = Some StorageError })
 combine_too_deep = refl
 
+-- or taken off, one after another
+draws : one i.Part (record (fresh (pos 5 ∷ [])) { kept = pos 6 ∷ pos 7 ∷ [] }) ≡ Goes (record (fresh (pos 1 ∷ pos 6 ∷ pos 5 ∷ [])) { pc = 1; kept = pos 7 ∷ [] })
+draws = refl
+
+drawn : one i.Part (fresh (pos 5 ∷ [])) ≡ Goes (record (fresh (pos 0 ∷ pos 0 ∷ pos 5 ∷ [])) { pc = 1 })
+drawn = refl
+
 -- constructs that are counted: the 16th begins, and no 17th
 nest_last : one i.Nest (record (fresh []) { nested = 15 }) ≡ Goes (record (fresh []) { pc = 1; nest = 1; nested = 16 })
 nest_last = refl

@@ -1,4 +1,4 @@
-use Rattle.std.proofs.Common.{◌+◌, length, ap, ◌∙◌, arith}
+use Rattle.std.proofs.Common.{◌+◌, length, refl, ap, ◌∙◌, arith}
 use Rattle.std.proofs.lemmas.List.{length-reverse}
 use Rattle.ada_machine.specs.declared.calls.Entry.{Entry}
 use Rattle.ada_machine.specs.States.{state_of, begins}
@@ -15,6 +15,6 @@ returns-clause-ok g c =
     let cells' = g.C.Cells.cells c.make_room.new.view in
     let ok = c.in_ok-top.ensures.ok in
     let m = c.args.m.now in
-    let at : Entry = record { to = c.make_room.new.m.pc + 1; floor = c.len-floor.result; base = m.base + c.from.result; top = c.in_ok-top.top } in
+    let at : Entry = record { to = c.args.to; floor = c.len-floor.result; base = m.base + c.from.result; top = c.in_ok-top.top } in
     c.begin_body.ensures.state cells' ∙ ap (begins c.args.callee at) (c.make_room.ensures.state cells')
-    ∙ begins_entered_at c.args.callee at c.args.cell _ (state_of m cells) cells' (omega (arith, c.make_room.ensures.same.2)) (omega (arith, length-reverse m.stack.items, ap length c.make_room.ensures.same.3)) (ap (λ n. m.base + n) c.from.ensures) ok.0 (omega arith) ok.1
+    ∙ begins_entered_at c.args.callee at c.args.cell c.args.to _ (state_of m cells) cells' refl (omega (arith, length-reverse m.stack.items, ap length c.make_room.ensures.same.3)) (ap (λ n. m.base + n) c.from.ensures) ok.0 (omega arith) ok.1

@@ -5,7 +5,7 @@ use Rattle.stack_code.specs.declared.path.Leave.TheVariants as leave
 use Rattle.ada_machine.specs.declared.machine.Stop.TheVariants as stop
 use Rattle.ada_machine.specs.declared.machine.Went.TheVariants as went
 use Rattle.ada_machine.specs.States.{state_of}
-use Rattle.ada_machine.proofs.Looking.{quiet_looks, same_looks, call_looks, window_looks, combine_looks}
+use Rattle.ada_machine.proofs.Looking.{quiet_looks, same_looks, call_looks, window_looks, return_looks, combine_looks}
 use Rattle.ada_machine.proofs.effecting.effect.Goals as goal
 
 pub returns-in-Turn-clause-steps : goal.returns-in-Turn-clause-steps
@@ -106,6 +106,15 @@ returns-in-Call-clause-looks g c = same_looks c.args.code.now (state_of c.args.m
 
 pub returns-in-CallAt-clause-looks : goal.returns-in-CallAt-clause-looks
 returns-in-CallAt-clause-looks g c = same_looks c.args.code.now (state_of c.args.m.now (g.C.Cells.cells c.args.view.now)) (instr.CallAt c.in-CallAt.sub c.in-CallAt.cell) c.call_at.result _ _ 1 c.requires.calm (c.requires.at ∙ ap Some c.in-CallAt.is) (window_looks c.args.code.now c.args.m.now (g.C.Cells.cells c.args.view.now) c.requires.ready c.requires.calm c.in-CallAt.sub c.in-CallAt.cell (c.requires.at ∙ ap Some c.in-CallAt.is)) c.call_at.ensures.looks
+
+pub returns-in-CallTo-clause-looks : goal.returns-in-CallTo-clause-looks
+returns-in-CallTo-clause-looks g c = same_looks c.args.code.now (state_of c.args.m.now (g.C.Cells.cells c.args.view.now)) (instr.CallTo c.in-CallTo.sub c.in-CallTo.cell c.in-CallTo.to) c.call_to.result _ _ 1 c.requires.calm (c.requires.at ∙ ap Some c.in-CallTo.is) (return_looks c.args.code.now c.args.m.now (g.C.Cells.cells c.args.view.now) c.requires.ready c.requires.calm c.in-CallTo.sub c.in-CallTo.cell c.in-CallTo.to (c.requires.at ∙ ap Some c.in-CallTo.is)) c.call_to.ensures.looks
+
+pub returns-in-Part-clause-steps : goal.returns-in-Part-clause-steps
+returns-in-Part-clause-steps g c = c.draw.ensures.steps (g.C.Cells.cells c.args.view.now) c.requires.ready
+
+pub returns-in-Part-clause-looks : goal.returns-in-Part-clause-looks
+returns-in-Part-clause-looks g c = quiet_looks c.args.code.now (state_of c.args.m.now (g.C.Cells.cells c.args.view.now)) (instr.Part) c.draw.result _ _ c.requires.calm (c.requires.at ∙ ap Some c.in-Part.is) tt c.draw.ensures.looks
 
 pub returns-in-Combine-clause-looks : goal.returns-in-Combine-clause-looks
 returns-in-Combine-clause-looks g c = same_looks c.args.code.now (state_of c.args.m.now (g.C.Cells.cells c.args.view.now)) (instr.Combine c.in-Combine.number) c.combine.result _ _ _ c.requires.calm (c.requires.at ∙ ap Some c.in-Combine.is) (combine_looks c.args.code.now c.args.m.now (g.C.Cells.cells c.args.view.now) c.requires.ready c.requires.calm c.in-Combine.number (c.requires.at ∙ ap Some c.in-Combine.is)) c.combine.ensures.looks
