@@ -6,8 +6,6 @@ mod cells;
 mod cross;
 mod part;
 mod region;
-#[cfg(test)]
-mod tests;
 
 pub use cells::{Base, Cells, Deed};
 pub use cross::{both_ways, each};

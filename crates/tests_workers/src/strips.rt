@@ -1,10 +1,9 @@
-use crate::part::Part;
-use crate::region::Region;
+use cell_strip::{Part, Region};
 use std::alloc::AllocError;
 
 // The two cells 1 and 4 of a block of six.
 #[test]
-#[tactic(auto, unfolding(crate::specs::Regions::has))]
+#[tactic(auto, unfolding(cell_strip::specs::Regions::has))]
 fn strided(rt: HostRuntime) -> Result<(), AllocError> {
     let mut whole = Part::root(rt.alloc(), 6)?;
     let mut part = whole.cut(
@@ -31,7 +30,7 @@ fn strided(rt: HostRuntime) -> Result<(), AllocError> {
 }
 
 #[test]
-#[tactic(auto, unfolding(crate::specs::Regions::has))]
+#[tactic(auto, unfolding(cell_strip::specs::Regions::has))]
 fn empty_region(rt: HostRuntime) -> Result<(), AllocError> {
     let mut whole = Part::root(rt.alloc(), 4)?;
     let part = whole.cut(
@@ -54,7 +53,7 @@ fn empty_region(rt: HostRuntime) -> Result<(), AllocError> {
 
 // The columns of three rows of two cells each, in a block that begins at the address 10.
 #[test]
-#[tactic(auto, unfolding(crate::specs::Regions::has))]
+#[tactic(auto, unfolding(cell_strip::specs::Regions::has))]
 fn columns(rt: HostRuntime) -> Result<(), AllocError> {
     let mut left = Part::root(rt.alloc(), 6)?;
     let mut right = left.cut(
@@ -83,7 +82,7 @@ fn columns(rt: HostRuntime) -> Result<(), AllocError> {
 
 // Parts of two blocks, each of which is joined where it belongs.
 #[test]
-#[tactic(auto, unfolding(crate::specs::Regions::has))]
+#[tactic(auto, unfolding(cell_strip::specs::Regions::has))]
 fn two_blocks(rt: HostRuntime) -> Result<(), AllocError> {
     let mut first = Part::root(rt.alloc(), 2)?;
     let Ok(mut second) = Part::root(rt.alloc(), 2) else {
@@ -109,7 +108,7 @@ fn two_blocks(rt: HostRuntime) -> Result<(), AllocError> {
 
 // Rows of three cells, each of which begins one cell behind the one before: the cells 0 to 4.
 #[test]
-#[tactic(auto, unfolding(crate::specs::Regions::has))]
+#[tactic(auto, unfolding(cell_strip::specs::Regions::has))]
 fn overlapping_rows(rt: HostRuntime) -> Result<(), AllocError> {
     let mut whole = Part::root(rt.alloc(), 6)?;
     let mut part = whole.cut(
