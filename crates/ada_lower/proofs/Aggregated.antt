@@ -1,8 +1,10 @@
 -- Code of aggregates and default values, and that what is asked of them can be given:
---   A : array (1 .. 5) of Integer;   A := (others => 7);   A := (for I in 1 .. 5 => I);
+--   A : array (1 .. 5) of Integer;   A := (others => 7);   A := (for I in 1 .. 5 => I);   A := (others => 3 + 4), as if it were not static
 use Rattle.std.proofs.Common.{◌≡◌, pos, negsuc, List, [], ◌∷◌, map, Some, None, true, false, refl, arith}
 use Rattle.typed_tree.specs.declared.expressions.Run.{Run}
-use Rattle.typed_tree.specs.Syntax.{Static, Parameter, NoExpr, Number, OfScalar, Array, Composite, Aggregate, NoAssociation, Association, End, NoDecl, NoHandler, Program}
+use Rattle.ada_base.specs.declared.operation.Base.TheVariants as base
+use Rattle.ada_base.specs.declared.operation.Op.TheVariants as op
+use Rattle.typed_tree.specs.Syntax.{Static, Parameter, Binary, NoExpr, Number, OfScalar, Array, Composite, Aggregate, NoAssociation, Association, End, NoDecl, NoHandler, Program}
 use Rattle.stack_code.specs.declared.instr.Instr.{Instr}
 use Rattle.stack_code.specs.declared.instr.Instr.TheVariants as i
 use Rattle.ada_lower.specs.Sights.{Emit, Sight, listed, own, taking}
@@ -37,6 +39,9 @@ sevens = Aggregate 0 5 (Association five None NoExpr (Number check (Static 0 (po
 abbrev numbers : Composite
 numbers = Aggregate 0 5 (Association five (Some (record { parameter = 0; first = pos 1 })) NoExpr (Number check (Parameter 0 0)) NoAssociation)
 
+abbrev sums : Composite
+sums = Aggregate 0 5 (Association five None NoExpr (Number check (Binary 0 op.Add integer.class (Static 0 (pos 3) true NoExpr) (Static 0 (pos 4) true NoExpr))) NoAssociation)
+
 abbrev instrs : Emit → List Instr
 instrs e = map (λ p. p.instr) (listed e 0)
 
@@ -47,7 +52,7 @@ in_integer = i.Range (negsuc 2147483647) (pos 2147483647)
 sevens_code : instrs (Emission.composed program sight.scope 0 0 sevens)
     ≡ i.Local 0 ∷ i.Fill 5 (pos 0) ∷ i.Push (pos 7) ∷ in_integer ∷ i.StoreL 0
     ∷ i.Local 1 ∷ i.Local 0 ∷ i.Copy 1 ∷ i.Local 2 ∷ i.Local 0 ∷ i.Copy 2 ∷ i.Local 4 ∷ i.Local 0 ∷ i.Copy 1 ∷ []
-unfolding Rattle.ada_lower.specs.Emission.emit Rattle.ada_lower.specs.Emission.is_plain
+unfolding Rattle.ada_lower.specs.Emission.emit
 sevens_code = refl
 
 -- cell 5 has the parameter, cell 6 its last value, cell 7 the address of the component
@@ -58,6 +63,14 @@ numbers_code : instrs (Emission.composed program sight.scope 0 0 numbers)
 unfolding Rattle.ada_lower.specs.Emission.emit
 numbers_code = refl
 
+-- the same for a value that is computed for each component, where cell 5 has a count from 0
+sums_code : instrs (Emission.composed program sight.scope 0 0 sums)
+    ≡ i.Local 0 ∷ i.Fill 5 (pos 0) ∷ i.Push (pos 0) ∷ i.StoreL 5 ∷ i.Push (pos 4) ∷ i.StoreL 6 ∷ i.Local 0 ∷ i.StoreL 7
+    ∷ i.Jump 10 ∷ i.Jump 21 ∷ i.Turn ∷ i.LoadL 7 ∷ i.Push (pos 3) ∷ i.Push (pos 4) ∷ i.Add base.Narrow ∷ in_integer ∷ i.Store
+    ∷ i.LoadL 7 ∷ i.Field 1 ∷ i.StoreL 7 ∷ i.Next 5 6 10 ∷ []
+unfolding Rattle.ada_lower.specs.Emission.emit
+sums_code = refl
+
 defaults_code : instrs (Emission.defaulted program sight.scope 0 0)
     ≡ i.Push (negsuc 2147483647) ∷ i.StoreL 0 ∷ i.Local 1 ∷ i.Local 0 ∷ i.Copy 1 ∷ i.Local 2 ∷ i.Local 0 ∷ i.Copy 2 ∷ i.Local 4 ∷ i.Local 0 ∷ i.Copy 1 ∷ []
 defaults_code = refl
@@ -67,6 +80,9 @@ sevens_fitted = (refl, (((λ k lt. omega (arith, lt)), tt), (refl, tt), tt))
 
 numbers_fitted : FittedComposite program none_there none_main no_threads sight 5 numbers
 numbers_fitted = (refl, (omega arith, ((λ k lt. omega (arith, lt)), tt), (own 5, refl), tt))
+
+sums_fitted : FittedComposite program none_there none_main no_threads sight 5 sums
+sums_fitted = (refl, (((λ k lt. omega (arith, lt)), tt), (omega arith, (tt, tt)), tt))
 
 object_filled : Filled program 0
 object_filled = (omega arith, (refl, tt))

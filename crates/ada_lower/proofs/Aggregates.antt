@@ -1,4 +1,4 @@
--- Components of aggregates: runs of them, and the loops of iterated associations.
+-- Components of aggregates: runs of them, and the loops of values that take turns.
 use Rattle.std.proofs.Common.{◌≡◌, ℕ, zero, suc, ◌+◌, ◌-◌, ◌*◌, ◌<◌, ◌≤◌, ℤ, pos, ◌-ℤ◌, List, [], ◌∷◌, ◌++◌, length, set, slice_get, nat_eq, nat_lt, ◌&&◌, Option, Some, None, Bool, true, false, cond, refl, sym, ap, ◌∙◌, subst, le_refl, arith, inl, inr, ⊎_elim, suc-mul, append-nil, ◌+ℤ◌, zero-mul, eqb-true, ltb-true}
 use Rattle.behaviours.specs.Paths.{Entity}
 use Rattle.typed_tree.specs.Syntax.{Expr, Number, Cells, Program, Value}
@@ -40,6 +40,14 @@ use Rattle.ada_lower.proofs.Plain.{Steady, both, copies, copies_are, does_again}
 use Rattle.ada_meaning.specs.Meaning
 use Rattle.stack_code.specs.declared.instr.Instr.TheVariants as i
 use Rattle.ada_lower.proofs.Operands.{laid_length, laid_more, knows_alike}
+
+-- what is in scope in each turn
+abbrev pub given_sight : Option Iterated → Sight → Sight
+given_sight it s = record s { scope = Emission.turned_scope s.scope it }
+
+pub given_free : (it : Option Iterated) (s : Sight) → (given_sight it s).scope.free ≡ s.scope.free + 3
+given_free None s = refl
+given_free (Some i') s = refl
 
 module _ (limit : ℕ) (cuts : ℕ → ℕ → List ℕ) (program : Program) (c : Code) (f : Fixed) (x : Ends) (calls : ℕ → ℕ → Stored (Unit {0}) → List Passed → Stored Returned) (globals : ℕ → Entity → Option Named) (mains : Entity → Bool) (epar : Sight → Expr → Type 0) where
   abbrev pub ops : Operations {1}
@@ -260,7 +268,7 @@ module _ (limit : ℕ) (cuts : ℕ → ℕ → List ℕ) (program : Program) (c 
   abbrev pub ValueDone : Expr → Type 1
   ValueDone e = (B : Type 0) (from to : ℕ) (g : Ghost) (env : Env) (s : Sight) (h : ℕ) (st : List ℤ) → Knows limit cuts g f s env → s.scope.entry ≡ x.entry → Fitted program globals mains epar s e → Stands c (emit program s.scope h e) from to → Gives g (evals e env) from to st
 
-  -- ---- iterated associations
+  -- ---- values that take turns
 
   -- what is known of a component's value
   abbrev pub ComponentDone : Value → Type 1
@@ -316,13 +324,13 @@ module _ (limit : ℕ) (cuts : ℕ → ℕ → List ℕ) (program : Program) (c 
       ))
       (go cs len))
 
-  abbrev pub turn_env : Iterated → ℕ → Env → Env
-  turn_env i' k env = Meaning.with_parameter i'.parameter (i'.first +ℤ pos k) env
+  abbrev pub turn_env : Option Iterated → ℕ → Env → Env
+  turn_env it k env = Meaning.iterated_env it k env
 
   -- what is asked of a component's code in each turn
-  abbrev pub EachAt : Iterated → Value → Env → Sight → ℕ → List ℤ → Emit → Type 1
-  EachAt i' value env s t st code = (B : Type 0) (g j : Ghost) (q : B → Type 0) (goal : B → Dyn → Step) (k first : ℕ) → Room g j (iterated_sight s i'.parameter) (turn_env i' k env) (t + first) (Emission.width program value) → g.what (f.base + (s.scope.free + 1 + 1)) ≡ Keeps (pos (f.base + (t + first))) → (from to : ℕ) (then : List ℤ → Stored B)
-      → Stands c code from to → Then g j q goal (t + first) (Emission.width program value) to st then → Doing limit c f x g j q (stored.bind (Meaning.cells ops limit program calls value (turn_env i' k env)) then) (λ d. on f from st d) goal
+  abbrev pub EachAt : Option Iterated → Value → Env → Sight → ℕ → List ℤ → Emit → Type 1
+  EachAt it value env s t st code = (B : Type 0) (g j : Ghost) (q : B → Type 0) (goal : B → Dyn → Step) (k first : ℕ) → Room g j (given_sight it s) (turn_env it k env) (t + first) (Emission.width program value) → g.what (f.base + (s.scope.free + 1 + 1)) ≡ Keeps (pos (f.base + (t + first))) → (from to : ℕ) (then : List ℤ → Stored B)
+      → Stands c code from to → Then g j q goal (t + first) (Emission.width program value) to st then → Doing limit c f x g j q (stored.bind (Meaning.cells ops limit program calls value (turn_env it k env)) then) (λ d. on f from st d) goal
 
   -- where three cells are free
   module _ {g j : Ghost} {s : Sight} {env : Env} (t n : ℕ) (some : s.scope.free + 1 + 1 < s.cells) (r : Room g j s env t n) where
@@ -338,10 +346,10 @@ module _ (limit : ℕ) (cuts : ℕ → ℕ → List ℕ) (program : Program) (c 
         turn_kept limit cuts c f x s.scope.free a u v (keeping (f.base + t) cur g) (f.base + (t + first)) cs (let z : t + n ≤ s.scope.free = r.below in omega (arith, z, inn)) b
         ∙ turn_alike limit cuts c f x s.scope.free a u v (keeping (f.base + (t + first)) cs (keeping (f.base + t) cur g)) (keeping (f.base + t) (Values.laid cur first cs) g) b (within_more g t first cur cs (omega (arith, inn, len)) b)
 
-    turn_room : (i' : Iterated) (k first m : ℕ) (v : ℤ) (cur : List ℤ) → length cur ≡ n → first + m ≤ n
-        → Room (turns_at limit cuts c f x s.scope.free (f.base + (t + first)) (i'.first +ℤ pos k) v (keeping (f.base + t) cur g)) j (iterated_sight s i'.parameter) (turn_env i' k env) (t + first) m
-    turn_room i' k first m v cur len inn = record {
-      below = let z : t + n ≤ s.scope.free = r.below in omega (arith, z, inn);
+    turn_room : (it : Option Iterated) (k first m : ℕ) (v : ℤ) (cur : List ℤ) → length cur ≡ n → first + m ≤ n
+        → Room (turns_at limit cuts c f x s.scope.free (f.base + (t + first)) ((Emission.turned_low it) +ℤ pos k) v (keeping (f.base + t) cur g)) j (given_sight it s) (turn_env it k env) (t + first) m
+    turn_room it k first m v cur len inn = record {
+      below = let z : t + n ≤ s.scope.free = r.below in let e : (given_sight it s).scope.free ≡ s.scope.free + 3 = given_free it s in omega (arith, z, inn, e);
       own = λ o lt. subst (λ w. IsOwn w) (sym (turn_other limit cuts c f x s.scope.free a u v (keeping (f.base + t) cur g) (f.base + (t + first) + o) (let z : t + n ≤ s.scope.free = r.below in omega (arith, z, inn, lt)))) ((room_in t n first m cur len inn r).own o lt);
       knows = known cur len;
       weak = λ y d w. turns_weak cur len a u v y d w;
@@ -353,77 +361,81 @@ module _ (limit : ℕ) (cuts : ℕ → ℕ → List ℕ) (program : Program) (c 
         a = f.base + (t + first)
 
         u : ℤ
-        u = i'.first +ℤ pos k
+        u = (Emission.turned_low it) +ℤ pos k
 
-        known : (cs : List ℤ) → length cs ≡ n → Knows limit cuts (turns_at limit cuts c f x s.scope.free a u v (keeping (f.base + t) cs g)) f (iterated_sight s i'.parameter) (turn_env i' k env)
-        known cs l = knows_given i'.parameter (own s.scope.free) u (knows_turns limit cuts c f x s a u v some (r.kept cs l)) (f.base + s.scope.free, refl, inl (turn_parameter limit cuts c f x s.scope.free a u v (keeping (f.base + t) cs g)))
+        given_known : {g : Ghost} (it : Option Iterated) → Knows limit cuts g f (taking 3 s) env → Holds g f (own s.scope.free) (Emission.turned_low it +ℤ pos k) → Knows limit cuts g f (given_sight it s) (turn_env it k env)
+        given_known None w h = w
+        given_known (Some i') w h = knows_given i'.parameter (own s.scope.free) (i'.first +ℤ pos k) w h
 
-  abbrev pub turn_values : Iterated → Value → Env → ℕ → Stored (List ℤ)
-  turn_values i' value env k = stored.bind (Meaning.turned ops) (λ _. Meaning.cells ops limit program calls value (turn_env i' k env))
+        known : (cs : List ℤ) → length cs ≡ n → Knows limit cuts (turns_at limit cuts c f x s.scope.free a u v (keeping (f.base + t) cs g)) f (given_sight it s) (turn_env it k env)
+        known cs l = given_known it (knows_turns limit cuts c f x s a u v some (r.kept cs l)) (f.base + s.scope.free, refl, inl (turn_parameter limit cuts c f x s.scope.free a u v (keeping (f.base + t) cs g)))
+
+  abbrev pub turn_values : Option Iterated → Value → Env → ℕ → Stored (List ℤ)
+  turn_values it value env k = stored.bind (Meaning.turned ops) (λ _. Meaning.cells ops limit program calls value (turn_env it k env))
 
   -- a turn
-  turn_does : {B : Type 0} {g j : Ghost} {env : Env} {q : B → Type 0} {goal : B → Dyn → Step} (i' : Iterated) (value : Value) (s : Sight) (t n : ℕ) (st : List ℤ) (code : Emit) → EachAt i' value env s t st code → Room g j s env t n → s.scope.free + 1 + 1 < s.cells
+  turn_does : {B : Type 0} {g j : Ghost} {env : Env} {q : B → Type 0} {goal : B → Dyn → Step} (it : Option Iterated) (value : Value) (s : Sight) (t n : ℕ) (st : List ℤ) (code : Emit) → EachAt it value env s t st code → Room g j s env t n → s.scope.free + 1 + 1 < s.cells
       → (head mid : ℕ) (v : ℤ) → At c head i.Turn x.entry → Stands c code (head + 1) mid → (k first : ℕ) (cur : List ℤ) (more : List ℤ → Stored B) → length cur ≡ n → first + Emission.width program value ≤ n
-      → ((final : List ℤ) → length final ≡ n → Doing limit c f x (turns_at limit cuts c f x s.scope.free (f.base + (t + first)) (i'.first +ℤ pos k) v (keeping (f.base + t) final g)) j q (more final) (λ d. on f mid st d) goal)
-      → Doing limit c f x (turns_at limit cuts c f x s.scope.free (f.base + (t + first)) (i'.first +ℤ pos k) v (keeping (f.base + t) cur g)) j q (stored.bind (turn_values i' value env k) (λ cs. more (Values.laid cur first cs))) (λ d. on f head st d) goal
-  turn_does {B} {g} {j} {env} {q} {goal} i' value s t n st code each room some head mid v jt lc k first cur more len here go =
+      → ((final : List ℤ) → length final ≡ n → Doing limit c f x (turns_at limit cuts c f x s.scope.free (f.base + (t + first)) ((Emission.turned_low it) +ℤ pos k) v (keeping (f.base + t) final g)) j q (more final) (λ d. on f mid st d) goal)
+      → Doing limit c f x (turns_at limit cuts c f x s.scope.free (f.base + (t + first)) ((Emission.turned_low it) +ℤ pos k) v (keeping (f.base + t) cur g)) j q (stored.bind (turn_values it value env k) (λ cs. more (Values.laid cur first cs))) (λ d. on f head st d) goal
+  turn_does {B} {g} {j} {env} {q} {goal} it value s t n st code each room some head mid v jt lc k first cur more len here go =
       let m : ℕ = Emission.width program value in
       let a : ℕ = f.base + (t + first) in
-      let u : ℤ = i'.first +ℤ pos k in
+      let u : ℤ = (Emission.turned_low it) +ℤ pos k in
       does_assoc limit c f x (Meaning.turned ops) _ (λ cs. more (Values.laid cur first cs))
       (does_seq limit c f x (λ y d w. turns_weak t n some room cur len a u v y d w) (λ ts al. al) (does_turn limit c f x cuts st room.knows.most jt) (λ _ _.
-      each B (turns_at limit cuts c f x s.scope.free a u v (keeping (f.base + t) cur g)) j q goal k first (turn_room t n some room i' k first m v cur len here) (turn_address limit cuts c f x s.scope.free a u v (keeping (f.base + t) cur g)) (head + 1) mid (λ cs. more (Values.laid cur first cs)) lc (λ cs cl.
+      each B (turns_at limit cuts c f x s.scope.free a u v (keeping (f.base + t) cur g)) j q goal k first (turn_room t n some room it k first m v cur len here) (turn_address limit cuts c f x s.scope.free a u v (keeping (f.base + t) cur g)) (head + 1) mid (λ cs. more (Values.laid cur first cs)) lc (λ cs cl.
       let final : List ℤ = Values.laid cur first cs in
       let inside : first + length cs ≤ n = omega (arith, here, cl) in
       does_first limit c f x (λ b y p z. inl (turns_within t n some room first a u v cur cs len inside b ∙ z)) (λ t' d' w'. (d', fit_alike (turns_at limit cuts c f x s.scope.free a u v (keeping (f.base + t) final g)).what (turns_within t n some room first a u v cur cs len inside) w', comes_here limit c (on f mid st d')))
       (go final (laid_length cur first cs ∙ len)))))
 
   -- the turns of a run, from one on
-  turning_does : {B : Type 0} {g j : Ghost} {env : Env} {q : B → Type 0} {goal : B → Dyn → Step} (i' : Iterated) (value : Value) (s : Sight) (t n : ℕ) (st : List ℤ) (code : Emit) → EachAt i' value env s t st code → Room g j s env t n → s.scope.free + 1 + 1 < s.cells
+  turning_does : {B : Type 0} {g j : Ghost} {env : Env} {q : B → Type 0} {goal : B → Dyn → Step} (it : Option Iterated) (value : Value) (s : Sight) (t n : ℕ) (st : List ℤ) (code : Emit) → EachAt it value env s t st code → Room g j s env t n → s.scope.free + 1 + 1 < s.cells
       → (stride head mid : ℕ) (v : ℤ) {e1 e2 e3 e4 : Option ℕ} → At c head i.Turn x.entry → Stands c code (head + 1) mid → At c mid (i.LoadL (s.scope.free + 1 + 1)) e1 → At c (mid + 1) (i.Field stride) e2 → At c (mid + 1 + 1) (i.StoreL (s.scope.free + 1 + 1)) e3 → At c (mid + 1 + 1 + 1) (i.Next s.scope.free (s.scope.free + 1) head) e4
-      → (more k first : ℕ) (cur : List ℤ) (then : List ℤ → Stored B) → v ≡ (i'.first +ℤ pos k) +ℤ pos more → length cur ≡ n → ((o : ℕ) → o < suc more → first + o * stride + Emission.width program value ≤ n) → Then g j q goal t n (mid + 1 + 1 + 1 + 1) st then
-      → Doing limit c f x (turns_at limit cuts c f x s.scope.free (f.base + (t + first)) (i'.first +ℤ pos k) v (keeping (f.base + t) cur g)) j q (stored.bind (Meaning.run_values ops k (suc more) first stride (turn_values i' value env) cur) then) (λ d. on f head st d) goal
-  turning_does {B} {g} {j} {env} {q} {goal} i' value s t n st code each room some stride head mid v jt lc j1 j2 j3 j4 zero k first cur then is len inn go =
+      → (more k first : ℕ) (cur : List ℤ) (then : List ℤ → Stored B) → v ≡ ((Emission.turned_low it) +ℤ pos k) +ℤ pos more → length cur ≡ n → ((o : ℕ) → o < suc more → first + o * stride + Emission.width program value ≤ n) → Then g j q goal t n (mid + 1 + 1 + 1 + 1) st then
+      → Doing limit c f x (turns_at limit cuts c f x s.scope.free (f.base + (t + first)) ((Emission.turned_low it) +ℤ pos k) v (keeping (f.base + t) cur g)) j q (stored.bind (Meaning.run_values ops k (suc more) first stride (turn_values it value env) cur) then) (λ d. on f head st d) goal
+  turning_does {B} {g} {j} {env} {q} {goal} it value s t n st code each room some stride head mid v jt lc j1 j2 j3 j4 zero k first cur then is len inn go =
       let a : ℕ = f.base + (t + first) in
       let here : first + Emission.width program value ≤ n = (let z : first + 0 * stride + Emission.width program value ≤ n = inn 0 (omega arith) in omega (arith, z, zero-mul stride)) in
       does_assoc limit c f x _ _ then
-      (turn_does i' value s t n st code each room some head mid v jt lc k first cur (λ final. stored.bind (Meaning.run_values ops (k + 1) 0 (first + stride) stride (turn_values i' value env) final) then) len here (λ final flen.
+      (turn_does it value s t n st code each room some head mid v jt lc k first cur (λ final. stored.bind (Meaning.run_values ops (k + 1) 0 (first + stride) stride (turn_values it value env) final) then) len here (λ final flen.
       does_returned limit c f x then final
-      (does_first limit c f x (fewer_turns limit cuts c f x s.scope.free (keeping (f.base + t) final g) (frees t n some room final flen) a (i'.first +ℤ pos k) v) (λ t' d' w'.
-      let (d2, w2, goes) = turn_last limit cuts c f x st (keeping (f.base + t) final g) s.scope.free stride a mid head k i'.first v j1 j2 j3 j4 (omega (arith, ints, is)) w' in
-      (d2, fit_turns limit cuts c f x s.scope.free (keeping (f.base + t) final g) (frees t n some room final flen) (a + stride) (i'.first +ℤ pos k) v w2, goes))
+      (does_first limit c f x (fewer_turns limit cuts c f x s.scope.free (keeping (f.base + t) final g) (frees t n some room final flen) a ((Emission.turned_low it) +ℤ pos k) v) (λ t' d' w'.
+      let (d2, w2, goes) = turn_last limit cuts c f x st (keeping (f.base + t) final g) s.scope.free stride a mid head k (Emission.turned_low it) v j1 j2 j3 j4 (omega (arith, ints, is)) w' in
+      (d2, fit_turns limit cuts c f x s.scope.free (keeping (f.base + t) final g) (frees t n some room final flen) (a + stride) ((Emission.turned_low it) +ℤ pos k) v w2, goes))
       (go final flen))))
-  turning_does {B} {g} {j} {env} {q} {goal} i' value s t n st code each room some stride head mid v jt lc j1 j2 j3 j4 (suc more) k first cur then is len inn go =
+  turning_does {B} {g} {j} {env} {q} {goal} it value s t n st code each room some stride head mid v jt lc j1 j2 j3 j4 (suc more) k first cur then is len inn go =
       let a : ℕ = f.base + (t + first) in
       let a' : ℕ = f.base + (t + (first + stride)) in
       let place : a + stride ≡ a' = omega arith in
       let one_more : suc k ≡ k + 1 = omega arith in
       let here : first + Emission.width program value ≤ n = (let z : first + 0 * stride + Emission.width program value ≤ n = inn 0 (omega arith) in omega (arith, z, zero-mul stride)) in
-      let is' : v ≡ (i'.first +ℤ pos (k + 1)) +ℤ pos more = omega (arith, ints, is) in
+      let is' : v ≡ ((Emission.turned_low it) +ℤ pos (k + 1)) +ℤ pos more = omega (arith, ints, is) in
       does_assoc limit c f x _ _ then
-      (turn_does i' value s t n st code each room some head mid v jt lc k first cur (λ final. stored.bind (Meaning.run_values ops (k + 1) (suc more) (first + stride) stride (turn_values i' value env) final) then) len here (λ final flen.
-      does_first limit c f x (fewer_turn limit cuts c f x s.scope.free a a' (i'.first +ℤ pos k) (i'.first +ℤ pos (k + 1)) v v (keeping (f.base + t) final g)) (λ t' d' w'.
-      let (d2, w2, goes) = turn_more limit cuts c f x st (keeping (f.base + t) final g) s.scope.free stride a mid head k more i'.first v j1 j2 j3 j4 is w' in
-      (d2, subst (λ y. Fit (turns_at limit cuts c f x s.scope.free a' (i'.first +ℤ pos y) v (keeping (f.base + t) final g)) t' d2) one_more (subst (λ y. Fit (turns_at limit cuts c f x s.scope.free y (i'.first +ℤ pos (suc k)) v (keeping (f.base + t) final g)) t' d2) place w2), goes))
-      (turning_does i' value s t n st code each room some stride head mid v jt lc j1 j2 j3 j4 more (k + 1) (first + stride) final then is' flen (λ o lt. let z = inn (suc o) (omega (arith, lt)) in omega (arith, z, suc-mul o stride)) go)))
+      (turn_does it value s t n st code each room some head mid v jt lc k first cur (λ final. stored.bind (Meaning.run_values ops (k + 1) (suc more) (first + stride) stride (turn_values it value env) final) then) len here (λ final flen.
+      does_first limit c f x (fewer_turn limit cuts c f x s.scope.free a a' ((Emission.turned_low it) +ℤ pos k) ((Emission.turned_low it) +ℤ pos (k + 1)) v v (keeping (f.base + t) final g)) (λ t' d' w'.
+      let (d2, w2, goes) = turn_more limit cuts c f x st (keeping (f.base + t) final g) s.scope.free stride a mid head k more (Emission.turned_low it) v j1 j2 j3 j4 is w' in
+      (d2, subst (λ y. Fit (turns_at limit cuts c f x s.scope.free a' ((Emission.turned_low it) +ℤ pos y) v (keeping (f.base + t) final g)) t' d2) one_more (subst (λ y. Fit (turns_at limit cuts c f x s.scope.free y ((Emission.turned_low it) +ℤ pos (suc k)) v (keeping (f.base + t) final g)) t' d2) place w2), goes))
+      (turning_does it value s t n st code each room some stride head mid v jt lc j1 j2 j3 j4 more (k + 1) (first + stride) final then is' flen (λ o lt. let z = inn (suc o) (omega (arith, lt)) in omega (arith, z, suc-mul o stride)) go)))
 
   -- a run that has components
-  turning_enters : {B : Type 0} {g j : Ghost} {env : Env} {q : B → Type 0} {goal : B → Dyn → Step} (i' : Iterated) (value : Value) (s : Sight) (h t n : ℕ) (st : List ℤ) (code : Emit) → EachAt i' value env s t st code → Room g j s env t n → s.scope.entry ≡ x.entry → s.scope.free + 1 + 1 < s.cells
+  turning_enters : {B : Type 0} {g j : Ghost} {env : Env} {q : B → Type 0} {goal : B → Dyn → Step} (it : Option Iterated) (value : Value) (s : Sight) (h t n : ℕ) (st : List ℤ) (code : Emit) → EachAt it value env s t st code → Room g j s env t n → s.scope.entry ≡ x.entry → s.scope.free + 1 + 1 < s.cells
       → (count first stride from to : ℕ) (cur : List ℤ) (then : List ℤ → Stored B) → length cur ≡ n → ((o : ℕ) → o < suc count → first + o * stride + Emission.width program value ≤ n)
-      → Stands c (Emission.turning s.scope h t i'.first code (suc count) first stride) from to → Then g j q goal t n to st then
-      → Doing limit c f x (keeping (f.base + t) cur g) j q (stored.bind (Meaning.run_values ops 0 (suc count) first stride (turn_values i' value env) cur) then) (λ d. on f from st d) goal
-  turning_enters {B} {g} {j} {env} {q} {goal} i' value s h t n st code each room en some count first stride from to cur then len inn (jp, (jk, (jp2, (jk2, (jl, (jk3, lo)))))) go =
+      → Stands c (Emission.turning s.scope h t (Emission.turned_low it) code (suc count) first stride) from to → Then g j q goal t n to st then
+      → Doing limit c f x (keeping (f.base + t) cur g) j q (stored.bind (Meaning.run_values ops 0 (suc count) first stride (turn_values it value env) cur) then) (λ d. on f from st d) goal
+  turning_enters {B} {g} {j} {env} {q} {goal} it value s h t n st code each room en some count first stride from to cur then len inn (jp, (jk, (jp2, (jk2, (jl, (jk3, lo)))))) go =
       let N : ℕ = s.scope.free in
       let G : Ghost = keeping (f.base + t) cur g in
       let a : ℕ = f.base + (t + first) in
-      let u : ℤ = i'.first in
-      let v : ℤ = i'.first +ℤ pos (suc count) -ℤ pos 1 in
+      let u : ℤ = (Emission.turned_low it) in
+      let v : ℤ = (Emission.turned_low it) +ℤ pos (suc count) -ℤ pos 1 in
       let start : ℕ = from + 1 + 1 + 1 + 1 + 1 + 1 in
       let free : (k : ℕ) → N ≤ k → k < N + 3 → G.what (f.base + k) ≡ Free = frees t n some room cur len in
       let o = stands_looped c start to s h true (λ exit. one s.scope h i.Turn ⨟ code) (λ head. Emission.stepping s.scope h (N + 1 + 1) stride N head) lo in
       let (jt, lc) = o.turn in
       let (b1, (b2, (b3, (b4, be)))) = o.back in
-      let none_yet : i'.first +ℤ pos 0 ≡ i'.first = omega (arith, ints) in
+      let none_yet : (Emission.turned_low it) +ℤ pos 0 ≡ (Emission.turned_low it) = omega (arith, ints) in
       let free1 : (set_what (f.base + N) (Keeps u) G).what (f.base + (N + 1)) ≡ Free = what_other G (f.base + N) (f.base + (N + 1)) (Keeps u) (λ e. omega (arith, e)) ∙ free (N + 1) (omega arith) (omega arith) in
       let free2 : (set_what (f.base + (N + 1)) (Keeps v) (set_what (f.base + N) (Keeps u) G)).what (f.base + (N + 1 + 1)) ≡ Free =
       what_other (set_what (f.base + N) (Keeps u) G) (f.base + (N + 1)) (f.base + (N + 1 + 1)) (Keeps v) (λ e. omega (arith, e)) ∙ what_other G (f.base + N) (f.base + (N + 1 + 1)) (Keeps u) (λ e. omega (arith, e)) ∙ free (N + 1 + 1) (omega arith) (omega arith) in
@@ -434,30 +446,30 @@ module _ (limit : ℕ) (cuts : ℕ → ℕ → List ℕ) (program : Program) (c 
       (does_before limit c f x (λ d. comes_goes limit c f st (from + 1 + 1 + 1 + 1 + 1) (pos a ∷ st) d jl refl)
       (does_keep limit c f x (from + 1 + 1 + 1 + 1 + 1) (N + 1 + 1) (pos a) st (own_free _ free2) (at_entry en jk3)
       (does_first limit c f x (fewer_enters limit cuts c f x N a u v G) (λ t' d' w'. (d', turn_enters limit cuts c f x N a u v G w', comes_goes limit c f st (start + 1 + 1) st d' o.enter refl))
-      (subst (λ y. Doing limit c f x (turns_at limit cuts c f x N a y v G) j q (stored.bind (Meaning.run_values ops 0 (suc count) first stride (turn_values i' value env) cur) then) (λ d. on f (start + 1 + 1) st d) goal) none_yet
-      (turning_does i' value s t n st code each room some stride (start + 1 + 1) o.mid v (at_entry en jt) lc b1 b2 b3 b4 count 0 first cur then (let z : pos (suc count) ≡ pos count +ℤ pos 1 = omega (arith, ints) in omega (arith, ints, z)) len inn
+      (subst (λ y. Doing limit c f x (turns_at limit cuts c f x N a y v G) j q (stored.bind (Meaning.run_values ops 0 (suc count) first stride (turn_values it value env) cur) then) (λ d. on f (start + 1 + 1) st d) goal) none_yet
+      (turning_does it value s t n st code each room some stride (start + 1 + 1) o.mid v (at_entry en jt) lc b1 b2 b3 b4 count 0 first cur then (let z : pos (suc count) ≡ pos count +ℤ pos 1 = omega (arith, ints) in omega (arith, ints, z)) len inn
       (λ cs l. subst (λ p. Doing limit c f x (keeping (f.base + t) cs g) j q (then cs) (λ d. on f p st d) goal) be (go cs l))))))))))
 
-  -- the runs of an iterated association
-  pub all_turnings : {B : Type 0} {g j : Ghost} {env : Env} {q : B → Type 0} {goal : B → Dyn → Step} (i' : Iterated) (value : Value) (s : Sight) (h t n : ℕ) (st : List ℤ) (code : Emit) → EachAt i' value env s t st code → Room g j s env t n → s.scope.entry ≡ x.entry → s.scope.free + 1 + 1 < s.cells
+  -- the runs of an association whose values take turns
+  pub all_turnings : {B : Type 0} {g j : Ghost} {env : Env} {q : B → Type 0} {goal : B → Dyn → Step} (it : Option Iterated) (value : Value) (s : Sight) (h t n : ℕ) (st : List ℤ) (code : Emit) → EachAt it value env s t st code → Room g j s env t n → s.scope.entry ≡ x.entry → s.scope.free + 1 + 1 < s.cells
       → (rs : List Run) (from to : ℕ) (cur : List ℤ) (then : List ℤ → Stored B) → length cur ≡ n → FittedRuns program globals mains n (Emission.width program value) rs
-      → Stands c (Emission.turnings s.scope h t i'.first code rs) from to → Then g j q goal t n to st then
-      → Doing limit c f x (keeping (f.base + t) cur g) j q (stored.bind (Meaning.runs_values ops rs (turn_values i' value env) cur) then) (λ d. on f from st d) goal
-  all_turnings {g = g} {j = j} {q = q} {goal = goal} i' value s h t n st code each room en some [] from to cur then len ws l go =
+      → Stands c (Emission.turnings s.scope h t (Emission.turned_low it) code rs) from to → Then g j q goal t n to st then
+      → Doing limit c f x (keeping (f.base + t) cur g) j q (stored.bind (Meaning.runs_values ops rs (turn_values it value env) cur) then) (λ d. on f from st d) goal
+  all_turnings {g = g} {j = j} {q = q} {goal = goal} it value s h t n st code each room en some [] from to cur then len ws l go =
       does_returned limit c f x then cur (subst (λ p. Doing limit c f x (keeping (f.base + t) cur g) j q (then cur) (λ d. on f p st d) goal) l (go cur len))
-  all_turnings {B} {g} {j} {env} {q} {goal} i' value s h t n st code each room en some (r ∷ rs) from to cur then len (wr, ws) l go =
-      let (mid, l1, l2) = stands_seq c from to (cond (nat_eq r.count 0) none (Emission.turning s.scope h t i'.first code r.count r.first r.stride)) (Emission.turnings s.scope h t i'.first code rs) l in
+  all_turnings {B} {g} {j} {env} {q} {goal} it value s h t n st code each room en some (r ∷ rs) from to cur then len (wr, ws) l go =
+      let (mid, l1, l2) = stands_seq c from to (cond (nat_eq r.count 0) none (Emission.turning s.scope h t (Emission.turned_low it) code r.count r.first r.stride)) (Emission.turnings s.scope h t (Emission.turned_low it) code rs) l in
       does_assoc limit c f x _ _ then
       (one_run r.count r.first r.stride mid wr l1 (λ cs clen.
-      all_turnings i' value s h t n st code each room en some rs mid to cs then clen ws l2 go))
+      all_turnings it value s h t n st code each room en some rs mid to cs then clen ws l2 go))
     where
       after : List ℤ → Stored B
-      after cs = stored.bind (Meaning.runs_values ops rs (turn_values i' value env) cs) then
+      after cs = stored.bind (Meaning.runs_values ops rs (turn_values it value env) cs) then
 
       one_run : (count first stride mid : ℕ) → ((o : ℕ) → o < count → first + o * stride + Emission.width program value ≤ n)
-          → Stands c (cond (nat_eq count 0) none (Emission.turning s.scope h t i'.first code count first stride)) from mid → Then g j q goal t n mid st after
-          → Doing limit c f x (keeping (f.base + t) cur g) j q (stored.bind (Meaning.run_values ops 0 count first stride (turn_values i' value env) cur) after) (λ d. on f from st d) goal
+          → Stands c (cond (nat_eq count 0) none (Emission.turning s.scope h t (Emission.turned_low it) code count first stride)) from mid → Then g j q goal t n mid st after
+          → Doing limit c f x (keeping (f.base + t) cur g) j q (stored.bind (Meaning.run_values ops 0 count first stride (turn_values it value env) cur) after) (λ d. on f from st d) goal
       one_run zero first stride mid wr l go = does_returned limit c f x after cur (subst (λ p. Doing limit c f x (keeping (f.base + t) cur g) j q (after cur) (λ d. on f p st d) goal) l (go cur len))
       one_run (suc count) first stride mid wr l go =
-          turning_enters i' value s h t n st code each room en some count first stride from mid cur after len wr
-          (subst (λ b. Stands c (cond b none (Emission.turning s.scope h t i'.first code (suc count) first stride)) from mid) (ne_eqb (suc count) 0 (λ e. omega (arith, e))) l) go
+          turning_enters it value s h t n st code each room en some count first stride from mid cur after len wr
+          (subst (λ b. Stands c (cond b none (Emission.turning s.scope h t (Emission.turned_low it) code (suc count) first stride)) from mid) (ne_eqb (suc count) 0 (λ e. omega (arith, e))) l) go

@@ -11,7 +11,7 @@ use Rattle.stack_code.specs.declared.path.Asked.{Asked}
 use Rattle.stack_code.specs.declared.path.Io.TheVariants as io
 use Rattle.stack_code.specs.Machine.{Frame, State, Stop, Done, Left, Spent, Cut, Asks, Constructs, Stuck, Astray, Went, Goes, Stops, sees, step}
 use Rattle.ada_lower.specs.Asking.{Reads, got}
-use Rattle.ada_lower.specs.Driven.{World, Dyn, Path, Step, On, Off, Forks, Forked, clip, cut_to, drive, driven, answered, given_got, alone, sizes_for, shares_at, RunsWell, Safe, with_notes, fork, fork_ended, goes}
+use Rattle.ada_lower.specs.Driven.{World, Dyn, Path, Step, On, Off, Forks, Forked, clip, cut_to, drive, driven, answered, read_into, given_got, alone, sizes_for, shares_at, RunsWell, Safe, with_notes, fork, fork_ended, goes}
 use Rattle.ada_lower.specs.Lending.{Among, Owns}
 use Rattle.ada_lower.proofs.ForkFuel.{safe_drives, safe_forks, safe_forked}
 
@@ -36,7 +36,7 @@ module _ (limit : ℕ) (c : Code) where
   got_noted : (ns : Schedule) (r : Reads) (e : Result ℤ (Option Reason)) (s : State) (w : World) → given_got limit c r e s (record w { notes = ns }) ≡ noted_step ns (given_got limit c r e s w)
   got_noted ns r (Ok v) s w = refl
   got_noted ns r (Err (Some q)) s w = refl
-  got_noted ns r (Err None) s w = off_noted ns Spent (record s { turns = r.turns }) (record w { taken = r.taken; held = r.held; input = r.input })
+  got_noted ns r (Err None) s w = off_noted ns Spent (record s { turns = r.turns }) (read_into limit c r w)
 
   answered_noted : (ns : Schedule) (x : Stop) (s : State) (w : World) → answered limit c x s (record w { notes = ns }) ≡ noted_step ns (answered limit c x s w)
   answered_noted ns (Done v) s w = off_noted ns (Done v) s w
@@ -44,7 +44,7 @@ module _ (limit : ℕ) (c : Code) where
   answered_noted ns Spent s w = off_noted ns Spent s w
   answered_noted ns Cut s w = off_noted ns Cut s w
   answered_noted ns (Asks (io.Write bytes)) s w = refl
-  answered_noted ns (Asks io.Take) s w = let r = got limit (record { turns = s.turns; taken = w.taken; held = w.held; input = w.input }) in got_noted ns r.state r.end s w
+  answered_noted ns (Asks io.Take) s w = let r = got limit (record { turns = s.turns; taken = w.taken; held = w.held; input = w.input; done = w.done }) in got_noted ns r.state r.end s w
   answered_noted ns (Constructs q) s w = refl
   answered_noted ns Stuck s w = off_noted ns Stuck s w
   answered_noted ns Astray s w = off_noted ns Astray s w

@@ -15,17 +15,17 @@ use Rattle.stack_code.specs.declared.path.Gave.TheVariants as gave
 use Rattle.stack_code.specs.declared.path.Leave.TheVariants as leave
 use Rattle.stack_code.specs.Machine.{after}
 use Rattle.ada_lower.specs.Asking.{Reads, Read, at, next, taken_from, reading, got}
-use Rattle.ada_lower.specs.Driven.{Dyn, Fixed, On, on, thrown, state_of, given_got, after_got, At}
+use Rattle.ada_lower.specs.Driven.{Dyn, Fixed, On, on, thrown, state_of, read_into, given_got, after_got, At}
 use Rattle.ada_lower.specs.Fits.{Ghost, Fit, Ends, Lands}
 use Rattle.ada_lower.proofs.Framework.{any, To, itself, comes_here, comes_as, comes_thrown, leads_on}
 use Rattle.ada_lower.proofs.Memory.{right_same}
 use Rattle.ada_lower.proofs.Parts.{Runs}
 
 abbrev pub part : stored.State → Reads
-part s = record { turns = s.turns; taken = s.taken; held = s.held; input = s.input }
+part s = record { turns = s.turns; taken = s.taken; held = s.held; input = s.input; done = s.done }
 
 abbrev pub onto : stored.State → Reads → stored.State
-onto s t = record s { turns = t.turns; taken = t.taken; held = t.held; input = t.input }
+onto s t = record s { turns = t.turns; taken = t.taken; held = t.held; input = t.input; done = t.done }
 
 abbrev pub cause_of : {A : Type 0} → Result A (Option Reason) → Result A Cause
 cause_of (Ok a) = Ok a
@@ -133,7 +133,7 @@ module _ (limit : ℕ) (cuts : ℕ → ℕ → List ℕ) where
 
   module _ (c : Code) (f : Fixed) (x : Ends) where
     with_reads : Reads → Dyn → Dyn
-    with_reads t d = record d { turns = t.turns; world = record d.world { taken = t.taken; held = t.held; input = t.input } }
+    with_reads t d = record d { turns = t.turns; world = read_into limit c t d.world }
 
     fit_reads : {g : Ghost} (s : stored.State) (d : Dyn) (t : Reads) → Fit g s d → s.turns ≤ t.turns → t.turns ≤ g.most → Fit g (onto s t) (with_reads t d)
     unfolding with_reads
@@ -145,7 +145,7 @@ module _ (limit : ℕ) (cuts : ℕ → ℕ → List ℕ) where
       top = w.top;
       least = le_trans w.least more;
       most = most;
-      agrees = record { turns = refl; left = w.agrees.left; taken = refl; held = refl; input = refl; output = w.agrees.output; notes = w.agrees.notes };
+      agrees = record { turns = refl; left = w.agrees.left; taken = refl; held = refl; input = refl; output = w.agrees.output; notes = w.agrees.notes; done = refl };
       plan = w.plan;
       order = w.order;
       cells = λ a. right_same (g.what a) s (onto s t) (slice_get d.cells a) refl refl (w.cells a);
@@ -158,7 +158,7 @@ module _ (limit : ℕ) (cuts : ℕ → ℕ → List ℕ) where
       by = λ s d fit al.
           let w = sim_got.by s in
           let e = got limit (part s) in
-          let reads : ◌≡◌ {A = Reads} (record { turns = d.turns; taken = d.world.taken; held = d.world.held; input = d.world.input }) (part s) = rw (fit.agrees.turns, fit.agrees.taken, fit.agrees.held, fit.agrees.input) refl in
+          let reads : ◌≡◌ {A = Reads} (record { turns = d.turns; taken = d.world.taken; held = d.world.held; input = d.world.input; done = d.world.done }) (part s) = rw (fit.agrees.turns, fit.agrees.taken, fit.agrees.held, fit.agrees.input, fit.agrees.done) refl in
           let comes : To limit c (on f q st d) (given_got limit c e.state e.end (state_of f q st [] None d) d.world) = comes_as limit c f st d a (ap (λ p. after_got limit c (got limit p) (state_of f q st [] None d) d.world) reads) in
           subst (λ t. Lands limit c f x any g (on f q st d) s.turns (λ v d. on f (q + 1) (v ∷ st) d) t ((Meaning.got ops limit).does s).end) (sym w.state)
           (subst (λ r. Lands limit c f x any g (on f q st d) s.turns (λ v d. on f (q + 1) (v ∷ st) d) (onto s e.state) r) (sym w.end)

@@ -119,7 +119,7 @@ module _ (limit : ℕ) (c : Code) (f : Fixed) (x : Ends) where
             top = fit.top;
             least = fit.least;
             most = fit.most;
-            agrees = record { turns = fit.agrees.turns; left = refl; taken = fit.agrees.taken; held = fit.agrees.held; input = fit.agrees.input; output = fit.agrees.output; notes = fit.agrees.notes };
+            agrees = record { turns = fit.agrees.turns; left = refl; taken = fit.agrees.taken; held = fit.agrees.held; input = fit.agrees.input; output = fit.agrees.output; notes = fit.agrees.notes; done = fit.agrees.done };
             plan = fit.plan;
             order = fit.order;
             cells = λ a. right_same (g.what a) s _ (slice_get d.cells a) refl refl (fit.cells a);

@@ -1,7 +1,7 @@
 -- Calls of every depth do what they do.
 use Rattle.ada_lower.proofs.Inner.{InnerDo}
 use Rattle.ada_lower.proofs.ForkLaws.{ForksDo}
-use Rattle.std.proofs.Common.{◌≡◌, ℕ, zero, suc, ◌+◌, ◌-◌, ◌<◌, ◌≤◌, ℤ, pos, List, [], ◌∷◌, ◌++◌, length, slice_get, nat_eq, nat_lt, Option, Some, None, Err, Bool, true, false, cond, refl, sym, ap, ◌∙◌, subst, le_refl, length-append, arith, inl, inr, ⊎_elim, true≢false, ltb-true, ltb-false, lt-ltb}
+use Rattle.std.proofs.Common.{◌≡◌, ℕ, zero, suc, ◌+◌, ◌-◌, ◌<◌, ◌≤◌, ℤ, pos, List, [], ◌∷◌, ◌++◌, length, slice_get, nat_eq, nat_lt, Option, Some, None, Result, Ok, Err, Bool, true, false, cond, refl, sym, ap, ◌∙◌, subst, le_refl, length-append, arith, inl, inr, ⊎_elim, true≢false, ltb-true, ltb-false, lt-ltb}
 use Rattle.std.proofs.lemmas.Bool.{le-ltb, ne_eqb}
 use Rattle.std.proofs.lemmas.Option.{none-some}
 use Rattle.ada_base.specs.declared.reason.Reason.{Reason}
@@ -18,8 +18,7 @@ use Rattle.stack_code.specs.declared.code.Code.{Code}
 use Rattle.stack_code.specs.declared.code.CodeSub.{CodeSub}
 use Rattle.stack_code.specs.declared.instr.Instr.{Instr}
 use Rattle.stack_code.specs.declared.instr.Instr.TheVariants as i
-use Rattle.stack_code.specs.Deeds.{called_at}
-use Rattle.stack_code.specs.Machine.{State, Went, Goes, done, turned, entered_at, failed}
+use Rattle.stack_code.specs.Machine.{Goes, entered_at, failed}
 use Rattle.ada_lower.specs.Driven.{Dyn, Fixed, Step, on, state_of, driven, thrown, cut_to, At, Alike}
 use Rattle.ada_lower.proofs.Alike.{alike}
 use Rattle.ada_lower.specs.Sights.{Amid, Named, Sight, Stands, with_object}
@@ -33,7 +32,7 @@ use Rattle.ada_lower.proofs.Standing.{stands_seq}
 use Rattle.ada_lower.proofs.Parts.{Runs, Fewer, does_is, does_first}
 use Rattle.ada_lower.proofs.Leaving.{does_turned, does_handles}
 use Rattle.ada_lower.proofs.Declared.{keeping, having, knows_having_at, knows_kept, laid_what, laid_out, laid_in, kept_what, stacked_what, among, length_in}
-use Rattle.ada_lower.proofs.Calls.{inner, grown, within_call, called_ends, also_apart, comes_gives, comes_ends, given, CallsDo}
+use Rattle.ada_lower.proofs.Calls.{Calling, CallsDo, Checked, also_apart, call_went, called_ends, comes_ends, comes_gives, given, grown, holds, inner, test_is, test_of, with_kept, within_call}
 use Rattle.ada_lower.proofs.Sent.{Sent, all_passed, flat, aheads, backs, Backs, SpreadOf, AreSpread, BackSuited, AreSuited, suited_cells, laid_split, laid_swap, aheads_at, aheads_swap, aheads_cases, fit_aheads, backs_cut, Also, also_seq, also_returned, also_by, also_weak, also_alike, also_raised, also_elaborates, also_back}
 use Rattle.ada_lower.proofs.Expressions.{at_entry}
 use Rattle.ada_lower.proofs.Statements.{Suits, ParDoes, stmt_does}
@@ -129,7 +128,7 @@ module _ (limit : ℕ) (cuts : ℕ → ℕ → List ℕ) (program : Program) (c 
 
   -- ---- the scope of a call
 
-  module _ (g : Ghost) (f : Fixed) (s : Sight) (env : Env) (k : Knows limit cuts g f s env) (sub n q : ℕ) (st : List ℤ) (u : Callable program globals mains s sub) (frame : ℕ) (whole : n + shapes_cells (shapes program u.unit.formals) ≡ s.scope.free) (room : s.scope.free ≤ s.cells) where
+  module _ (g : Ghost) (f : Fixed) (s : Sight) (env : Env) (k : Knows limit cuts g f s env) (sub n q to : ℕ) (kept st : List ℤ) (u : Callable program globals mains s sub) (frame : ℕ) (whole : n + shapes_cells (shapes program u.unit.formals) ≡ s.scope.free) (room : s.scope.free ≤ s.cells) where
     abbrev top : ℕ
     top = f.base + n + frame
 
@@ -140,7 +139,7 @@ module _ (limit : ℕ) (cuts : ℕ → ℕ → List ℕ) (program : Program) (c 
     cells = g.top + (top - g.top) - (f.base + n)
 
     abbrev f' : Fixed
-    f' = inner f q n st g.top
+    f' = inner (with_kept kept f) q to n st g.top
 
     is_inside : (a : ℕ) (x : Access) (p : Address) → g.what a ≡ StandsFor x p → a < g.top
     is_inside a x p e = go (nat_lt a g.top) refl
@@ -235,40 +234,40 @@ module _ (limit : ℕ) (cuts : ℕ → ℕ → List ℕ) (program : Program) (c 
 
   -- ---- bodies
 
-  abbrev after_call : Fixed → ℕ → List ℤ → ℕ → Option Scalar → ℤ → Dyn → Step
-  after_call f q st top o v d = on f (q + 1) (given o v ++ st) (cut_to top d)
+  abbrev after_call : Fixed → (to : ℕ) → List ℤ → ℕ → Option Scalar → ℤ → Dyn → Step
+  after_call f to st top o v d = on f to (given o v ++ st) (cut_to top d)
 
-  abbrev returned_ends : Fixed → ℕ → List ℤ → ℕ → Option Scalar → Ends → Ends
-  returned_ends f q st top o x = record (called_ends limit c x top) { returns = λ v d. after_call f q st top o (Meaning.value_of (Returns v)) d }
+  abbrev returned_ends : Fixed → (to : ℕ) → List ℤ → ℕ → Option Scalar → Ends → Ends
+  returned_ends f back st top o x = record (called_ends limit c x top) { returns = λ v d. after_call f back st top o (Meaning.value_of (Returns v)) d }
 
-  returns_go : (f : Fixed) (q n : ℕ) (st : List ℤ) (top : ℕ) (o : Option Scalar) (t : Sight) (from to : ℕ) → Stands c (returning t.scope 0 (leaving_of o)) from to → (d : Dyn) → To limit c (on (inner f q n st top) from [] d) (after_call f q st top o (pos 0) d)
-  returns_go f q n st top None t from to l d = comes_ends limit c f q n st top [] d l.0
-  returns_go f q n st top (Some k) t from to (j, (j', z)) d = comes_on limit c (comes_goes limit c (inner f q n st top) [] (from + 1) (pos 0 ∷ []) d j refl) (comes_gives limit c f q n st top (pos 0) [] d j')
+  returns_go : (f : Fixed) (q back n : ℕ) (st : List ℤ) (top : ℕ) (o : Option Scalar) (t : Sight) (from to : ℕ) → Stands c (returning t.scope 0 (leaving_of o)) from to → (d : Dyn) → To limit c (on (inner f q back n st top) from [] d) (after_call f back st top o (pos 0) d)
+  returns_go f q back n st top None t from to l d = comes_ends limit c f q back n st top [] d l.0
+  returns_go f q back n st top (Some k) t from to (j, (j', z)) d = comes_on limit c (comes_goes limit c (inner f q back n st top) [] (from + 1) (pos 0 ∷ []) d j refl) (comes_gives limit c f q back n st top (pos 0) [] d j')
 
-  gives_go : (f : Fixed) (q n : ℕ) (st : List ℤ) (top : ℕ) (o : Option Scalar) (t : Sight) (from to : ℕ) (v : ℤ) → Stands c (returning_value t.scope (leaving_of o)) from to → (d : Dyn) → To limit c (on (inner f q n st top) from (v ∷ []) d) (after_call f q st top o v d)
-  gives_go f q n st top None t from to v l d = comes_ends limit c f q n st top (v ∷ []) d l.0
-  gives_go f q n st top (Some k) t from to v l d = comes_gives limit c f q n st top v [] d l.0
+  gives_go : (f : Fixed) (q back n : ℕ) (st : List ℤ) (top : ℕ) (o : Option Scalar) (t : Sight) (from to : ℕ) (v : ℤ) → Stands c (returning_value t.scope (leaving_of o)) from to → (d : Dyn) → To limit c (on (inner f q back n st top) from (v ∷ []) d) (after_call f back st top o v d)
+  gives_go f q back n st top None t from to v l d = comes_ends limit c f q back n st top (v ∷ []) d l.0
+  gives_go f q back n st top (Some k) t from to v l d = comes_gives limit c f q back n st top v [] d l.0
 
   raise_is : {A : Type 0} (r : Reason) (t : stored.State) → (stored.leaves {A = A} (Raises r)).does t ≡ stored.at t (Err (Left (Raises r)))
   unfolding stored.leaves
   raise_is r t = refl
 
-  ended_does : {g : Ghost} (f : Fixed) (x : Ends) (q n : ℕ) (st : List ℤ) (top : ℕ) (o : Option Scalar) (s : Sight) (from to : ℕ) → s.scope.entry ≡ x.entry → Stands c (ending program globals mains texts text frames s.scope o) from to
-      → Runs limit c (inner f q n st top) x g any (Meaning.ended ops limit program o) (λ d. on (inner f q n st top) from [] d) (λ v d. after_call f q st top o v d)
-  ended_does f x q n st top None s from to en l = does_before limit c (inner f q n st top) x (λ d. comes_ends limit c f q n st top [] d l.0) (does_ret limit c (inner f q n st top) x {to = λ v d. after_call f q st top None v d} (pos 0) tt)
-  ended_does f x q n st top (Some k) s from to en l =
-      does_is limit c (inner f q n st top) x (Err (Left (Raises reason.ProgramError))) (λ t. raise_is reason.ProgramError t) (λ d. comes_fails limit c (inner f q n st top) [] [] reason.ProgramError d (at_entry en l.0) refl)
+  ended_does : {g : Ghost} (f : Fixed) (x : Ends) (q back n : ℕ) (st : List ℤ) (top : ℕ) (o : Option Scalar) (s : Sight) (from to : ℕ) → s.scope.entry ≡ x.entry → Stands c (ending program globals mains texts text frames s.scope o) from to
+      → Runs limit c (inner f q back n st top) x g any (Meaning.ended ops limit program o) (λ d. on (inner f q back n st top) from [] d) (λ v d. after_call f back st top o v d)
+  ended_does f x q back n st top None s from to en l = does_before limit c (inner f q back n st top) x (λ d. comes_ends limit c f q back n st top [] d l.0) (does_ret limit c (inner f q back n st top) x {to = λ v d. after_call f back st top None v d} (pos 0) tt)
+  ended_does f x q back n st top (Some k) s from to en l =
+      does_is limit c (inner f q back n st top) x (Err (Left (Raises reason.ProgramError))) (λ t. raise_is reason.ProgramError t) (λ d. comes_fails limit c (inner f q back n st top) [] [] reason.ProgramError d (at_entry en l.0) refl)
 
-  body_does : {B : Ghost} (f : Fixed) (x : Ends) (q n : ℕ) (st : List ℤ) (top : ℕ) (calls : ℕ → ℕ → Stored (Unit {0}) → List Passed → Stored Returned) (unit : Sub) (s : Sight) (nested entry to : ℕ) (ps : List Sent) (a : ℕ) → AreSpread B a ps → (calls_do : InnerDo limit cuts program globals mains epar c (inner f q n st top) calls) → ParDoes limit cuts program c (inner f q n st top) calls globals mains epar calls_do par
-      → Knows limit cuts B (inner f q n st top) s (Meaning.outset nested) → s.scope.entry ≡ None → s.scope.leaving ≡ leaving_of unit.result → ((m : ℕ) → s.scope.exits m ≡ None) → s.outside ≡ [] → s.texts ≡ c.texts
+  body_does : {B : Ghost} (f : Fixed) (x : Ends) (q back n : ℕ) (st : List ℤ) (top : ℕ) (calls : ℕ → ℕ → Stored (Unit {0}) → List Passed → Stored Returned) (unit : Sub) (s : Sight) (nested entry to : ℕ) (ps : List Sent) (a : ℕ) → AreSpread B a ps → (calls_do : InnerDo limit cuts program globals mains epar c (inner f q back n st top) calls) → ParDoes limit cuts program c (inner f q back n st top) calls globals mains epar calls_do par
+      → Knows limit cuts B (inner f q back n st top) s (Meaning.outset nested) → s.scope.entry ≡ None → s.scope.leaving ≡ leaving_of unit.result → ((m : ℕ) → s.scope.exits m ≡ None) → s.outside ≡ [] → s.texts ≡ c.texts
       → Rattle.ada_lower.specs.Fitted.FittedStmt program globals mains epar par s (Block unit.body.decls unit.body.stmts unit.body.handlers) → Stands c (sub_code program globals mains texts text frames s.scope unit) entry to
-      → Also limit c (inner f q n st top) (called_ends limit c x top) {A = Returned} B B (λ r d. Backs a ps r.cells d.cells)
+      → Also limit c (inner f q back n st top) (called_ends limit c x top) {A = Returned} B B (λ r d. Backs a ps r.cells d.cells)
       (stored.bind (stored.handles (stored.bind (Meaning.exec_body ops limit program calls unit.body Here (Meaning.outset nested)) (λ _. Meaning.ended ops limit program unit.result)) Meaning.returns (λ how. stored.ret (Meaning.value_of how)))
       (λ v. stored.bind (Meaning.back_cells ops limit program (all_passed ps) []) (λ vss. stored.ret (record { value = v; cells = vss }))))
-      (λ d. on (inner f q n st top) entry [] d) (λ r d. after_call f q st top unit.result r.value d)
-  body_does {B} f x q n st top calls unit s nested entry to ps a spread calls_do par_does k none leaving exits out same_texts fitted l =
-      let y : Ends = returned_ends f q st top unit.result x in
-      let f' : Fixed = inner f q n st top in
+      (λ d. on (inner f q back n st top) entry [] d) (λ r d. after_call f back st top unit.result r.value d)
+  body_does {B} f x q back n st top calls unit s nested entry to ps a spread calls_do par_does k none leaving exits out same_texts fitted l =
+      let y : Ends = returned_ends f back st top unit.result x in
+      let f' : Fixed = inner f q back n st top in
       let (m, l1, l2) = stands_seq c entry to (stmt program s.scope (Block unit.body.decls unit.body.stmts unit.body.handlers)) (ending program globals mains texts text frames s.scope unit.result) l in
       let suits : Suits limit c f' y s = record {
         entry = none;
@@ -278,22 +277,22 @@ module _ (limit : ℕ) (cuts : ℕ → ℕ → List ℕ) (program : Program) (c 
         threads = λ n here. absurd (subst (λ ns. Amid n ns) out here);
         away = λ n z here q e at d. absurd (subst (λ ns. Amid n ns) out here);
         exits = λ j p e d. absurd (none-some p (sym (exits j) ∙ e));
-        returns = λ t a b w d. returns_go f q n st top unit.result t a b (subst (λ o. Stands c (returning t.scope 0 o) a b) leaving w) d;
-        gives = λ t a b v w d. gives_go f q n st top unit.result t a b v (subst (λ o. Stands c (returning_value t.scope o) a b) leaving w) d;
+        returns = λ t a b w d. returns_go f q back n st top unit.result t a b (subst (λ o. Stands c (returning t.scope 0 o) a b) leaving w) d;
+        gives = λ t a b v w d. gives_go f q back n st top unit.result t a b v (subst (λ o. Stands c (returning_value t.scope o) a b) leaving w) d;
       } in
-      also_seq limit c f' (called_ends limit c x top) {g = B} {h = B} {j = B} {mid = λ v d. after_call f q st top unit.result v d} (λ s d w. w) (λ ts al. al)
+      also_seq limit c f' (called_ends limit c x top) {g = B} {h = B} {j = B} {mid = λ v d. after_call f back st top unit.result v d} (λ s d w. w) (λ ts al. al)
       (does_handles limit c f' (called_ends limit c x top) cuts y (λ ts al. al)
       (does_bind limit c f' y (stmt_does limit cuts program c f' calls globals mains epar calls_do par par_does (Block unit.body.decls unit.body.stmts unit.body.handlers) entry m y s k suits fitted l1) (λ _ _.
-      ended_does f y q n st top unit.result s m to none l2))
+      ended_does f y q back n st top unit.result s m to none l2))
       taken past)
-      (λ v _. also_back limit cuts program c f' (called_ends limit c x top) ps a v (λ v d. after_call f q st top unit.result v d) spread)
+      (λ v _. also_back limit cuts program c f' (called_ends limit c x top) ps a v (λ v d. after_call f back st top unit.result v d) spread)
     where
-      taken : (l : Leave) → Meaning.returns l ≡ true → Runs limit c (inner f q n st top) (called_ends limit c x top) B any (stored.ret (Meaning.value_of l)) (λ d. left_by (inner f q n st top) (returned_ends f q st top unit.result x) l d) (λ v d. after_call f q st top unit.result v d)
-      taken (Returns v) e = does_ret limit c (inner f q n st top) (called_ends limit c x top) {to = λ v d. after_call f q st top unit.result v d} (Meaning.value_of (Returns v)) tt
+      taken : (l : Leave) → Meaning.returns l ≡ true → Runs limit c (inner f q back n st top) (called_ends limit c x top) B any (stored.ret (Meaning.value_of l)) (λ d. left_by (inner f q back n st top) (returned_ends f back st top unit.result x) l d) (λ v d. after_call f back st top unit.result v d)
+      taken (Returns v) e = does_ret limit c (inner f q back n st top) (called_ends limit c x top) {to = λ v d. after_call f back st top unit.result v d} (Meaning.value_of (Returns v)) tt
       taken (Exits m) e = absurd (true≢false (sym e))
       taken (Raises r) e = absurd (true≢false (sym e))
 
-      past : (l : Leave) → Meaning.returns l ≡ false → (d : Dyn) → To limit c (left_by (inner f q n st top) (returned_ends f q st top unit.result x) l d) (left_by (inner f q n st top) (called_ends limit c x top) l d)
+      past : (l : Leave) → Meaning.returns l ≡ false → (d : Dyn) → To limit c (left_by (inner f q back n st top) (returned_ends f back st top unit.result x) l d) (left_by (inner f q back n st top) (called_ends limit c x top) l d)
       past (Returns v) e d = absurd (true≢false e)
       past (Exits m) e d = comes_here limit c _
       past (Raises r) e d = comes_here limit c _
@@ -301,28 +300,43 @@ module _ (limit : ℕ) (cuts : ℕ → ℕ → List ℕ) (program : Program) (c 
   -- ---- calls
 
   module _ (same_texts : texts ≡ c.texts) (stood : AllStand program globals mains texts text frames epar par c) (asked : Option Program) (pars : (f : Fixed) → f.asked ≡ asked → (depth : ℕ) (all : (f' : Fixed) → Alike f' f → CallsDo limit cuts program globals mains c f' (Meaning.call ops limit program depth)) → ForksDo limit cuts program globals mains epar par c f (Meaning.call ops limit program depth) (all f (alike f))) where
-    call_went : CodeSub → ℕ → State → Went
-    call_went is n s = cond (nat_lt s.calls 1000) (Goes (entered_at is n s)) (Goes (failed reason.StorageError s.stack s))
-
-    call_led : (is : CodeSub) (sub n q : ℕ) (f : Fixed) (st : List ℤ) → slice_get c.subs (sub + 1) ≡ Some is → (d : Dyn) → led limit c f q st d (i.CallAt (sub + 1) n) ≡ driven limit c (turned limit (state_of f q st [] None d) (call_went is n)) d.world
-    unfolding call_went
-    call_led is sub n q f st e d = ap (λ o. driven limit c (done limit (called_at n o) (state_of f q st [] None d)) d.world) e
+    -- what a call comes to behind its turn: whether fewer than 1,000 calls are active, and whether what is checked holds
+    abbrev begun_call : (q n to : ℕ) (f : Fixed) (st : List ℤ) → CodeSub → (few ok : Bool) → Dyn → Step
+    begun_call q n to f st is few ok d = driven limit c
+        (cond few (cond ok (Goes (entered_at is n to (state_of f q st [] None d))) (Goes (failed reason.ConstraintError (st ++ f.below) (state_of f q st [] None d)))) (Goes (failed reason.StorageError (st ++ f.below) (state_of f q st [] None d)))) d.world
 
     -- where 1,000 calls are active
-    full_goes : {q : ℕ} {j : Instr} {e : Option ℕ} (is : CodeSub) (n : ℕ) (f : Fixed) (st : List ℤ) (d : Dyn) → f.calls ≡ 1000 → At c q j e → To limit c (driven limit c (call_went is n (state_of f q st [] None d)) d.world) (thrown reason.StorageError e f d)
-    unfolding call_went
-    full_goes {q} {j} {e} is n f st d many at =
+    full_goes : {q : ℕ} {j : Instr} {e : Option ℕ} (is : CodeSub) (n to : ℕ) (ok : Bool) (f : Fixed) (before after : List ℤ) (d : Dyn) → f.calls ≡ 1000 → At c q j e
+        → To limit c (driven limit c (call_went limit is n to ok (after ++ f.below) (state_of f q before [] None d)) d.world) (thrown reason.StorageError e f d)
+    full_goes {q} {j} {e} is n to ok f before after d many at =
         let ge : nat_lt f.calls 1000 ≡ false = le-ltb f.calls 1000 (omega (arith, many)) in
-        subst (λ b. To limit c (driven limit c (cond b (Goes (entered_at is n (state_of f q st [] None d))) (Goes (failed reason.StorageError (st ++ f.below) (state_of f q st [] None d)))) d.world) (thrown reason.StorageError e f d)) (sym ge)
-        (comes_thrown limit c f st reason.StorageError d at)
+        subst (λ b. To limit c (begun_call q n to f after is b ok d) (thrown reason.StorageError e f d)) (sym ge) (comes_thrown limit c f after reason.StorageError d at)
 
-    -- where fewer are
-    call_goes : {q : ℕ} (is : CodeSub) (n top : ℕ) (f : Fixed) (st : List ℤ) (d : Dyn) → f.calls < 1000 → length d.cells ≡ top → To limit c (driven limit c (call_went is n (state_of f q st [] None d)) d.world) (on (inner f q n st top) is.entry [] (grown (f.base + n + is.frame) d))
-    unfolding call_went
-    call_goes {q} is n top f st d few len =
+    -- where what is checked doesn't hold
+    call_fails : {q : ℕ} {j : Instr} {e : Option ℕ} (is : CodeSub) (n to : ℕ) (ok : Bool) (f : Fixed) (before after : List ℤ) (d : Dyn) → f.calls < 1000 → ok ≡ false → At c q j e
+        → To limit c (driven limit c (call_went limit is n to ok (after ++ f.below) (state_of f q before [] None d)) d.world) (thrown reason.ConstraintError e f d)
+    call_fails {q} {j} {e} is n to ok f before after d few no_ok at =
         let lt : nat_lt f.calls 1000 ≡ true = lt-ltb f.calls 1000 few in
-        subst (λ b. To limit c (driven limit c (cond b (Goes (entered_at is n (state_of f q st [] None d))) (Goes (failed reason.StorageError (st ++ f.below) (state_of f q st [] None d)))) d.world) (on (inner f q n st top) is.entry [] (grown (f.base + n + is.frame) d))) (sym lt)
-        (subst (λ t. To limit c (on (inner f q n st (length d.cells)) is.entry [] (grown (f.base + n + is.frame) d)) (on (inner f q n st t) is.entry [] (grown (f.base + n + is.frame) d))) len (comes_here limit c _))
+        subst (λ b. To limit c (begun_call q n to f after is b ok d) (thrown reason.ConstraintError e f d)) (sym lt)
+        (subst (λ b. To limit c (begun_call q n to f after is true b d) (thrown reason.ConstraintError e f d)) (sym no_ok) (comes_thrown limit c f after reason.ConstraintError d at))
+
+    -- where fewer are, and it does
+    call_goes : {q : ℕ} (is : CodeSub) (n to top : ℕ) (ok : Bool) (f : Fixed) (before after : List ℤ) (d : Dyn) → f.calls < 1000 → ok ≡ true → length d.cells ≡ top
+        → To limit c (driven limit c (call_went limit is n to ok (after ++ f.below) (state_of f q before [] None d)) d.world) (on (inner f q to n after top) is.entry [] (grown (f.base + n + is.frame) d))
+    call_goes {q} is n to top ok f before after d few is_ok len =
+        let lt : nat_lt f.calls 1000 ≡ true = lt-ltb f.calls 1000 few in
+        subst (λ b. To limit c (begun_call q n to f after is b ok d) (on (inner f q to n after top) is.entry [] (grown (f.base + n + is.frame) d))) (sym lt)
+        (subst (λ b. To limit c (begun_call q n to f after is true b d) (on (inner f q to n after top) is.entry [] (grown (f.base + n + is.frame) d))) (sym is_ok)
+        (subst (λ t. To limit c (on (inner f q to n after (length d.cells)) is.entry [] (grown (f.base + n + is.frame) d)) (on (inner f q to n after t) is.entry [] (grown (f.base + n + is.frame) d))) len (comes_here limit c _)))
+
+    -- what is still to be checked
+    test_does : {g : Ghost} {q : ℕ} {j : Instr} (x : Ends) (is : CodeSub) (n to : ℕ) (check : Checked) (f : Fixed) (before after : List ℤ) → f.calls < 1000 → At c q j x.entry
+        → Runs limit c f x g (λ _. holds check ≡ true) (test_of check) (λ d. driven limit c (call_went limit is n to (holds check) (after ++ f.below) (state_of f q before [] None d)) d.world) (λ _ d. driven limit c (call_went limit is n to (holds check) (after ++ f.below) (state_of f q before [] None d)) d.world)
+    test_does {g} {q} {j} x is n to check f before after few at = go (holds check) refl
+      where
+        go : (b : Bool) → holds check ≡ b → Runs limit c f x g (λ _. holds check ≡ true) (test_of check) (λ d. driven limit c (call_went limit is n to (holds check) (after ++ f.below) (state_of f q before [] None d)) d.world) (λ _ d. driven limit c (call_went limit is n to (holds check) (after ++ f.below) (state_of f q before [] None d)) d.world)
+        go true e = does_is limit c f x (Ok tt) (λ s. test_is check s ∙ ap (λ b. stored.at s (cond b (Ok tt) (Err (Left (Raises reason.ConstraintError))))) e) (e, λ d. comes_here limit c _)
+        go false e = does_is limit c f x (Err (Left (Raises reason.ConstraintError))) (λ s. test_is check s ∙ ap (λ b. stored.at s (cond b (Ok tt) (Err (Left (Raises reason.ConstraintError))))) e) (λ d. call_fails is n to (holds check) f before after d few e at)
 
     -- the arguments stand where the formals are
     args_alike : (g : Ghost) (f : Fixed) (n frame : ℕ) (vs : List ℤ) → f.base + n + length vs ≤ g.top → (a : ℕ)
@@ -337,11 +351,15 @@ module _ (limit : ℕ) (cuts : ℕ → ℕ → List ℕ) (program : Program) (c 
         ∙ sym (laid_out (f.base + n) 0 kept_what vs (within_call (f.base + n + frame) g).what a out))
         (among (f.base + n) a vs))
 
-    call_once : {g : Ghost} {env : Env} (depth : ℕ) (f : Fixed) → f.asked ≡ asked → f.calls + suc depth ≡ 1000 → (x : Ends) (s : Sight) (sub n q : ℕ) (st : List ℤ) (ps : List Sent) (u : Callable program globals mains s sub) → ((f' : Fixed) → f'.calls ≡ f.calls + 1 → f'.asked ≡ f.asked → CallsDo limit cuts program globals mains c f' (Meaning.call ops limit program depth))
-        → Knows limit cuts g f s env → n + length (flat ps) ≡ s.scope.free → s.scope.free ≤ s.cells → AreSuited (shapes program u.unit.formals) ps → ((k : ℕ) → k < length (flat ps) → g.what (f.base + n + k) ≡ Free) → At c q (i.CallAt (sub + 1) n) x.entry
-        → Also limit c f x {A = Returned} (keeping (f.base + n) (flat ps) g) (record g { what = aheads (f.base + n) ps g.what }) (λ r d. Backs (f.base + n) ps r.cells d.cells) (Meaning.call ops limit program (suc depth) env.nested sub (stored.ret tt) (all_passed ps)) (λ d. on f q st d) (λ r d. on f (q + 1) (given u.unit.result r.value ++ st) d)
-    call_once {g} {env} depth f same_asked many x s sub n q st ps u calls k whole room suited free at =
+    call_once : {g : Ghost} {env : Env} (depth : ℕ) (f : Fixed) → f.asked ≡ asked → f.calls + suc depth ≡ 1000 → (x : Ends) (s : Sight) (sub n q back : ℕ) (before after : List ℤ) (kept : List ℤ) (check : Checked) (ps : List Sent) (u : Callable program globals mains s sub)
+        → ((f' : Fixed) → f'.calls ≡ f.calls + 1 → f'.asked ≡ f.asked → CallsDo limit cuts program globals mains c f' (Meaning.call ops limit program depth))
+        → Knows limit cuts g f s env → n + length (flat ps) ≡ s.scope.free → s.scope.free ≤ s.cells → AreSuited (shapes program u.unit.formals) ps → ((k : ℕ) → k < length (flat ps) → g.what (f.base + n + k) ≡ Free)
+        → Calling limit c (with_kept kept f) q before after (sub + 1) n back (holds check) x.entry
+        → Also limit c (with_kept kept f) x {A = Returned} (keeping (f.base + n) (flat ps) g) (record g { what = aheads (f.base + n) ps g.what }) (λ r d. Backs (f.base + n) ps r.cells d.cells) (Meaning.call ops limit program (suc depth) env.nested sub (test_of check) (all_passed ps))
+        (λ d. on (with_kept kept f) q before d) (λ r d. on (with_kept kept f) back (given u.unit.result r.value ++ after) d)
+    call_once {g} {env} depth f same_asked many x s sub n q back before after kept check ps u calls k whole room suited free begins =
         let b = stood sub u.unit u.is in
+        let fk : Fixed = with_kept kept f in
         let hs : List Shape = shapes program u.unit.formals in
         let vs : List ℤ = flat ps in
         let gk : Ghost = keeping (f.base + n) vs g in
@@ -350,34 +368,37 @@ module _ (limit : ℕ) (cuts : ℕ → ℕ → List ℕ) (program : Program) (c 
         let here : n + shapes_cells hs ≡ s.scope.free = omega (arith, whole, len) in
         let B : Ghost = within_call (f.base + n + frame) g in
         let cells : ℕ = g.top + (f.base + n + frame - g.top) - (f.base + n) in
-        let f' : Fixed = inner f q n st g.top in
+        let f' : Fixed = inner fk q back n after g.top in
         let t : Sight = sub_scope program globals mains texts text frames sub u.unit cells in
         let top : g.top ≡ f.base + s.cells = k.top in
         let enough : frame ≤ cells = omega arith in
-        let base : Knows limit cuts B f' (outer_scope program globals mains texts text frames sub u.unit cells) (Meaning.outset env.nested) = knows_call g f s env k sub n q st u frame here room in
+        let base : Knows limit cuts B f' (outer_scope program globals mains texts text frames sub u.unit cells) (Meaning.outset env.nested) = knows_call g f s env k sub n q back kept after u frame here room in
         let z0 : f.base + n + 0 ≡ f.base + n = omega arith in
-        also_seq limit c f x {g = gk} {h = gk} {j = record g { what = aheads (f.base + n) ps g.what }} (λ t d w. fit_aheads (f.base + n) ps g free w) (λ ts al. al) (does_turned limit c f x cuts st (call_went b.is n) (call_led b.is sub n q f st b.here) k.most at) (λ _ _.
-        also_returned limit c f x (λ _. Meaning.exec_sub ops limit program (Meaning.call ops limit program depth) (sub_at program.subs sub) env.nested (all_passed ps)) (tt {0})
-        (subst (λ o. Also limit c f x {A = Returned} gk (record g { what = aheads (f.base + n) ps g.what }) (λ r d. Backs (f.base + n) ps r.cells d.cells) (Meaning.exec_sub ops limit program (Meaning.call ops limit program depth) o env.nested (all_passed ps)) (λ d. driven limit c (call_went b.is n (state_of f q st [] None d)) d.world) (λ r d. on f (q + 1) (given u.unit.result r.value ++ st) d)) (sym u.is)
-        (also_by limit c f x (λ t d w. call_goes b.is n g.top f st d (omega (arith, many)) w.top)
-        (also_apart limit c f x {A = Returned} {g = gk} {p = λ r d. Backs (f.base + n + 0) ps r.cells d.cells} {p' = λ r d. Backs (f.base + n) ps r.cells d.cells} n (f.base + n + frame) st (aheads (f.base + n + 0) ps B.what) (aheads (f.base + n) ps g.what) at
+        let few : f.calls < 1000 = omega (arith, many) in
+        let end_ : Ghost = record g { what = aheads (f.base + n) ps g.what } in
+        also_seq limit c fk x {g = gk} {h = gk} {j = end_} (λ t d w. fit_aheads (f.base + n) ps g free w) (λ ts al. al) (does_turned limit c fk x cuts before (call_went limit b.is n back (holds check) (after ++ f.below)) (begins.does b.is b.here) k.most begins.at) (λ _ _.
+        also_seq limit c fk x {g = gk} {h = gk} {j = end_} (λ t d w. fit_aheads (f.base + n) ps g free w) (λ ts al. al) (test_does x b.is n back check fk before after few begins.at) (λ _ good.
+        subst (λ o. Also limit c fk x {A = Returned} gk end_ (λ r d. Backs (f.base + n) ps r.cells d.cells) (Meaning.exec_sub ops limit program (Meaning.call ops limit program depth) o env.nested (all_passed ps)) (λ d. driven limit c (call_went limit b.is n back (holds check) (after ++ f.below) (state_of fk q before [] None d)) d.world) (λ r d. on fk back (given u.unit.result r.value ++ after) d)) (sym u.is)
+        (also_by limit c fk x (λ t d w. call_goes b.is n back g.top (holds check) fk before after d few good w.top)
+        (also_apart limit c fk x {A = Returned} {g = gk} {p = λ r d. Backs (f.base + n + 0) ps r.cells d.cells} {p' = λ r d. Backs (f.base + n) ps r.cells d.cells} back n (f.base + n + frame) after (aheads (f.base + n + 0) ps B.what) (aheads (f.base + n) ps g.what) begins.at
         (λ a le. ⊎_elim (λ e. e ∙ k.beyond a le) (λ r. let (v, e, i, z, l) = r in absurd (omega (arith, z, l, le, whole, room, top))) (aheads_cases (f.base + n) ps g.what a))
-        (λ a lt. ap (λ m. aheads m ps B.what a) z0 ∙ aheads_at (f.base + n) ps B.what g.what a (what_inside g f s env k sub n q st u frame here room a lt))
+        (λ a lt. ap (λ m. aheads m ps B.what a) z0 ∙ aheads_at (f.base + n) ps B.what g.what a (what_inside g f s env k sub n q back kept after u frame here room a lt))
         (λ r d bs. backs_cut g.top (f.base + n) ps r.cells d.cells (omega (arith, whole, room, top)) (subst (λ m. Backs m ps r.cells d.cells) z0 bs))
         (also_alike limit c f' (called_ends limit c x g.top) (keeping (f.base + n + 0) vs B).what (args_alike g f n frame vs (omega (arith, whole, room, top)))
         (formals_do {A = Returned} {q = λ r d. Backs (f.base + n + 0) ps r.cells d.cells} f' (called_ends limit c x g.top) hs ps 0 (outer_scope program globals mains texts text frames sub u.unit cells) B base (omega (arith, len)) (let e = b.enough in omega (arith, e, enough)) (b.fresh cells) suited
-        (λ i lt. free_call g f s env k sub n q st u frame here room (length vs) whole free i lt)
-        (λ B' k'. body_does f x q n st g.top (Meaning.call ops limit program depth) u.unit t env.nested b.is.entry b.to ps (f.base + n + 0) (spread_all f' hs ps 0 (f.base + n + 0) refl suited (b.backs cells) k') (record { called = calls f' refl refl; forked = (pars f' same_asked depth (λ f'' e. calls f'' e.0 e.1)).forked }) (pars f' same_asked depth (λ f'' e. calls f'' e.0 e.1)).parallel k' refl refl (λ m. refl) refl same_texts (b.fitted cells enough) (b.stands cells enough))))))))
+        (λ i lt. free_call g f s env k sub n q back kept after u frame here room (length vs) whole free i lt)
+        (λ B' k'. body_does fk x q back n after g.top (Meaning.call ops limit program depth) u.unit t env.nested b.is.entry b.to ps (f.base + n + 0) (spread_all f' hs ps 0 (f.base + n + 0) refl suited (b.backs cells) k') (record { called = calls f' refl refl; forked = (pars f' same_asked depth (λ f'' e. calls f'' e.0 e.1)).forked }) (pars f' same_asked depth (λ f'' e. calls f'' e.0 e.1)).parallel k' refl refl (λ m. refl) refl same_texts (b.fitted cells enough) (b.stands cells enough))))))))
 
     pub call_do : (depth : ℕ) (f : Fixed) → f.asked ≡ asked → f.calls + depth ≡ 1000 → CallsDo limit cuts program globals mains c f (Meaning.call ops limit program depth)
     call_do zero f same_asked many = record {
-      by = λ {g} x s sub n q st ps u k whole room suited free at.
+      by = λ {g} x s sub n q back before after kept check ps u k whole room suited free begins.
           let b = stood sub u.unit u.is in
-          also_seq limit c f x {h = keeping (f.base + n) (flat ps) g} (λ t d w. fit_aheads (f.base + n) ps _ free w) (λ ts al. al) (does_turned limit c f x cuts st (call_went b.is n) (call_led b.is sub n q f st b.here) k.most at) (λ _ _.
-          also_weak limit c f x (λ t d w. fit_aheads (f.base + n) ps _ free w)
-          (also_raised limit c f x reason.StorageError (λ t. raise_is reason.StorageError t) (λ d. full_goes b.is n f st d (omega (arith, many)) at)));
+          let fk : Fixed = with_kept kept f in
+          also_seq limit c fk x {h = keeping (f.base + n) (flat ps) g} (λ t d w. fit_aheads (f.base + n) ps _ free w) (λ ts al. al) (does_turned limit c fk x cuts before (call_went limit b.is n back (holds check) (after ++ f.below)) (begins.does b.is b.here) k.most begins.at) (λ _ _.
+          also_weak limit c fk x (λ t d w. fit_aheads (f.base + n) ps _ free w)
+          (also_raised limit c fk x reason.StorageError (λ t. raise_is reason.StorageError t) (λ d. full_goes b.is n back (holds check) fk before after d (omega (arith, many)) begins.at)));
     }
     call_do (suc depth) f same_asked many = record {
-      by = λ x s sub n q st ps u k whole room suited free at.
-          call_once depth f same_asked many x s sub n q st ps u (λ f' e a. call_do depth f' (a ∙ same_asked) (omega (arith, many, e))) k whole room suited free at;
+      by = λ x s sub n q back before after kept check ps u k whole room suited free begins.
+          call_once depth f same_asked many x s sub n q back before after kept check ps u (λ f' e a. call_do depth f' (a ∙ same_asked) (omega (arith, many, e))) k whole room suited free begins;
     }

@@ -117,7 +117,7 @@ module _ (y : Entity) (a : ℕ) (vs : List ℤ) (g : Ghost) where
     top = w.top;
     least = w.least;
     most = w.most;
-    agrees = record { turns = w.agrees.turns; left = w.agrees.left; taken = w.agrees.taken; held = w.agrees.held; input = w.agrees.input; output = w.agrees.output; notes = w.agrees.notes };
+    agrees = record { turns = w.agrees.turns; left = w.agrees.left; taken = w.agrees.taken; held = w.agrees.held; input = w.agrees.input; output = w.agrees.output; notes = w.agrees.notes; done = w.agrees.done };
     plan = w.plan;
     order = w.order;
     cells = λ b. ⊎_elim
@@ -152,7 +152,7 @@ module _ (y : Entity) (a : ℕ) (vs : List ℤ) (g : Ghost) where
     top = w.top;
     least = w.least;
     most = w.most;
-    agrees = record { turns = w.agrees.turns; left = w.agrees.left; taken = w.agrees.taken; held = w.agrees.held; input = w.agrees.input; output = w.agrees.output; notes = w.agrees.notes };
+    agrees = record { turns = w.agrees.turns; left = w.agrees.left; taken = w.agrees.taken; held = w.agrees.held; input = w.agrees.input; output = w.agrees.output; notes = w.agrees.notes; done = w.agrees.done };
     plan = w.plan;
     order = w.order;
     cells = λ b. ⊎_elim

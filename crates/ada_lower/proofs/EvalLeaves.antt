@@ -10,7 +10,6 @@ use Rattle.behaviours.specs.Paths.{Leave, Exits, Returns, Raises, Entity, Variab
 use Rattle.typed_tree.specs.declared.scalars.Check.{Check}
 use Rattle.typed_tree.specs.declared.scalars.Class.{Class}
 use Rattle.typed_tree.specs.declared.scalars.Scalar.{Scalar}
-use Rattle.typed_tree.specs.declared.expressions.Iterated.{Iterated}
 use Rattle.typed_tree.specs.declared.expressions.Reducer.{Reducer}
 use Rattle.typed_tree.specs.declared.expressions.Reducer.TheVariants.{Operator, Function}
 use Rattle.typed_tree.specs.declared.expressions.Run.{Run}
@@ -20,6 +19,7 @@ use Rattle.typed_tree.specs.Syntax.{Expr, Static, Variable, Constant, Parameter,
 use Rattle.ada_meaning.specs.Operations.{CheckKind, RangeCheck, IndexCheck, OverflowCheck, ZeroCheck, Operations, operate, reduce}
 use Rattle.ada_meaning.specs.Stored as stored
 use Rattle.ada_meaning.specs.Stored.{Stored, Cause, Left, OutOfTurns, NoRoom, CutOff, Misnoted, Address}
+use Rattle.ada_meaning.specs.Turns.{takes_turns}
 use Rattle.ada_meaning.specs.Meaning
 use Rattle.ada_meaning.specs.Meaning.{Env, ObjectPart, Passed, Returned, inside}
 use Rattle.ada_lower.proofs.ForkLeaves.{only_ret, only_leaves, only_bind, only_look, only_turn, only_handles}
@@ -198,9 +198,9 @@ module _ (may : Leave → Type 0) where
       c_runs [] value so_far h = c_ret so_far
       c_runs (r ∷ rs) value so_far h = c_bind (c_run 0 r.count r.first r.stride value so_far h) (λ cs. c_runs rs value cs h)
 
-      c_iterated : (o : Option Iterated) → Closed may (Meaning.iterated_turn ops o)
-      c_iterated None = c_ret tt
-      c_iterated (Some i) = c_turned
+      c_value_turn : (turns : Bool) → Closed may (Meaning.value_turn ops turns)
+      c_value_turn true = c_turned
+      c_value_turn false = c_ret tt
 
       pub c_while : (n : ℕ) (test : Stored Bool) (body : Stored (Unit {0})) → Closed may test → Closed may body → Closed may (Meaning.while_loop ops n test body)
       c_while zero test body ht hb = c_spent
@@ -280,7 +280,7 @@ module _ (may : Leave → Type 0) where
 
           c_associated : (as' : Associations) (env : Env) (so_far : List ℤ) → Closed may (Meaning.associated ops limit program calls as' env so_far)
           c_associated NoAssociation env so_far = c_ret so_far
-          c_associated (Association runs iterated mentions value rest) env so_far = c_bind (c_runs runs _ so_far (λ k. c_bind (c_iterated iterated) (λ _. c_cells value _))) (λ cs. c_associated rest env cs)
+          c_associated (Association runs iterated mentions value rest) env so_far = c_bind (c_runs runs _ so_far (λ k. c_bind (c_value_turn (takes_turns runs iterated value)) (λ _. c_cells value _))) (λ cs. c_associated rest env cs)
 
           pub c_course : (it : Iteration) (env : Env) → Closed may (Meaning.course ops limit program calls it env)
           c_course (Range k reverse low high check filter) env = c_bind (c_eval low env) (λ l. c_bind (c_eval high env) (λ h. c_bind (c_bounds check l h) (λ _. c_ret _)))

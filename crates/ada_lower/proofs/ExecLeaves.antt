@@ -13,7 +13,7 @@ use Rattle.ada_meaning.specs.Stored as stored
 use Rattle.ada_meaning.specs.Stored.{Stored, Cause, Left}
 use Rattle.ada_meaning.specs.Meaning
 use Rattle.ada_meaning.specs.Meaning.{Env, ObjectPart, Passed, Returned, Back, inside, sub_at}
-use Rattle.ada_lower.specs.Outs.{Out, OutStmt, OutAll, OutCases, OutArms, OutHandlers, AllClosed}
+use Rattle.typed_scopes.specs.Outs.{Out, OutStmt, OutAll, OutCases, OutArms, OutHandlers, AllClosed}
 use Rattle.ada_lower.proofs.EvalLeaves.{Closed, closed_weak, Raised, c_ret, c_leaves, c_bind, c_cond, c_look, c_turn, c_through, c_spent, c_puts, c_recalls, c_keeps, c_takes, c_elaborates, c_apart, c_noted, c_handles, c_raise, c_writes, c_checks, c_turned, c_write_all, c_read_all, c_checked, c_unless, c_opened, c_most, c_while, c_iterate, c_eval, c_holds, c_select, c_pass, c_cells, c_course, c_filtered, c_chunking}
 
 -- a list of loops that are exited, which among others

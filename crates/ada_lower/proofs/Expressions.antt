@@ -4,6 +4,8 @@ use Rattle.behaviours.specs.Paths.{Entity, VariableOf, ConstantOf}
 use Rattle.behaviours.specs.Doings.{folded}
 use Rattle.typed_tree.specs.declared.expressions.Reducer.{Reducer}
 use Rattle.typed_tree.specs.declared.expressions.Reducer.TheVariants.{Operator, Function}
+use Rattle.typed_tree.specs.declared.expressions.Iterated.{Iterated}
+use Rattle.typed_tree.specs.declared.expressions.Run.{Run}
 use Rattle.typed_tree.specs.Syntax.{Expr, Static, Variable, Constant, Parameter, Target, Group, Unary, Binary, AndThen, OrElse, Relation, Membership, If, Call, Convert, Reduction, Range, Components, Optional, Absent, Present, Selections, Whole, Field, Index, Actuals, NoActual, In, InOut, Out, CompositeInOut, CompositeOut, Number, Cells, Program, Value, Composite, WholeVariable, WholeConstant, WholeTarget, CompositeIf, Aggregate, Associations, NoAssociation, Association}
 use Rattle.ada_meaning.specs.Values
 use Rattle.ada_meaning.specs.Values.{between, truth, bit, to_nat, count, compares, base_of}
@@ -19,14 +21,14 @@ use Rattle.ada_lower.specs.Sights.{Emit, Level, Named, Own, Sight, Stands, Where
 use Rattle.ada_lower.specs.Emission
 use Rattle.ada_lower.specs.Emission.{emit, selected, load, binary_instr, unary_instr, compare_instr, Shape, shapes, shapes_cells}
 use Rattle.ada_lower.specs.Fits.{Free, Keeps, Ghost, Ends, Spread, Refers, Knows, Fit}
-use Rattle.ada_lower.specs.Fitted.{Reaches, Fitted, FittedFold, FittedOptional, FittedSelections, FittedIn, FittedAssociations, FittedComposite}
+use Rattle.ada_lower.specs.Fitted.{Reaches, Fitted, FittedFold, FittedOptional, FittedSelections, FittedIn, FittedAssociations, FittedComponent, FittedComposite, FittedGiven, FittedRuns}
 use Rattle.ada_lower.proofs.Framework.{any, To, Doing, comes_here, comes_on, comes_goes, does_ret, does_bind, does_seq, does_assoc, does_before, does_returned}
 use Rattle.ada_lower.proofs.Memory.{number_seen, set_what, own_free, fit_unset, what_same, what_other, fit_alike, IsOwn}
 use Rattle.ada_lower.proofs.Standing.{stands_seq, stands_assoc3, stands_choose, stands_when}
 use Rattle.ada_lower.proofs.Parts.{Runs, allows_fewer, does_first, does_keep, does_operate, does_check}
 use Rattle.ada_lower.proofs.Declared.{keeping, knows_kept, keep_one_more, laid_out, kept_what, laid_what}
 use Rattle.ada_lower.proofs.Blocks.{fit_unkept}
-use Rattle.ada_lower.proofs.Calls.{given}
+use Rattle.ada_lower.proofs.Calls.{called_plainly, given}
 use Rattle.ada_lower.proofs.Inner.{InnerDo}
 pub use Rattle.ada_lower.proofs.Courses.{at_entry}
 use Rattle.ada_lower.proofs.Items.{named_entity, array_refers, items_folds}
@@ -42,7 +44,7 @@ pub use Rattle.ada_lower.proofs.Operands.{does_hold, address_stands, load_stands
 use Rattle.ada_lower.proofs.Operands.{ends_at, push_does, unary_does, compare_deed, choice_does, reads_at, comes_within, comes_negated, rows, ends_ret}
 use Rattle.ada_lower.proofs.Aggregates as aggregates
 pub use Rattle.ada_lower.proofs.Aggregates.{spread_part}
-use Rattle.ada_lower.proofs.Aggregates.{each_plain, all_runs, all_turnings, component_does, zeros_length, fewer_kept, fill_goes, either_do, turn_env}
+use Rattle.ada_lower.proofs.Aggregates.{each_plain, all_runs, all_turnings, component_does, zeros_length, fewer_kept, fill_goes, either_do, given_free, given_sight, turn_env, turn_values}
 
 module _ (limit : ℕ) (cuts : ℕ → ℕ → List ℕ) (program : Program) (c : Code) (f : Fixed) (x : Ends) (calls : ℕ → ℕ → Stored (Unit {0}) → List Passed → Stored Returned) (globals : ℕ → Entity → Option Named) (mains : Entity → Bool) (epar : Sight → Expr → Type 0) (calls_do : InnerDo limit cuts program globals mains epar c f calls) where
   abbrev pub ops : Operations {1}
@@ -182,7 +184,7 @@ module _ (limit : ℕ) (cuts : ℕ → ℕ → List ℕ) (program : Program) (c 
       does_before limit c f x (λ d. comes_goes limit c f (v ∷ st) q st d j6 refl)
       (does_first limit c f x (λ b y p e. inl (alike b ∙ e)) (λ z d w. (d, fit_alike (keeping (f.base + s.scope.free) us g).what alike w, comes_here limit c (on f q st d)))
       (also_then limit c f x {h = record g { what = aheads (f.base + s.scope.free) ps g.what }} {j = g} {k = λ r. stored.ret r.value} (λ z d w. fit_unaheads (f.base + s.scope.free) ps g free w)
-      (calls_do.called.by x t sub s.scope.free q st ps (record { unit = u.unit; is = u.is; outer = u.outer; main = u.main }) kt refl room suited free (at_entry en j7))
+      (called_plainly calls_do.called x t sub s.scope.free q st ps (record { unit = u.unit; is = u.is; outer = u.outer; main = u.main }) kt refl room suited free (at_entry en j7))
       (λ r z d fit _. (
         g,
         fit_unaheads (f.base + s.scope.free) ps g free fit,
@@ -201,6 +203,40 @@ module _ (limit : ℕ) (cuts : ℕ → ℕ → List ℕ) (program : Program) (c 
   item_nested : (constant : Bool) (p : ℕ) (o : ObjectPart) (env : Env) → env.nested ≡ (Meaning.with_item constant p o env).nested
   item_nested true p o env = refl
   item_nested false p o env = refl
+
+  -- the code of an association without a parameter
+  abbrev given_code : Bool → Value → Sight → (h t : ℕ) → List Run → Emit
+  given_code turns value s h t runs =
+      cond turns (Emission.turnings s.scope h t (pos 0) (Emission.component program (taking 3 s).scope h (s.scope.free + 1 + 1) value) runs)
+      (Emission.fillings s.scope h t (Emission.width program value) (Emission.is_plain value) (λ n. Emission.put_into program s.scope h (t + n) value) runs)
+
+  given_entry : (it : Option Iterated) (s : Sight) → (given_sight it s).scope.entry ≡ s.scope.entry
+  given_entry None s = refl
+  given_entry (Some i') s = refl
+
+  -- values that take turns
+  turned_into : (it : Option Iterated) (value : Value) → ComponentDone value → (B : Type 0) (g j : Ghost) (env : Env) (q : B → Type 0) (goal : B → Dyn → Step) (s : Sight) (h t n : ℕ) (st : List ℤ) → Room g j s env t n → s.scope.entry ≡ x.entry → s.scope.free + 1 + 1 < s.cells
+      → (runs : List Run) (from to : ℕ) (cur : List ℤ) (then : List ℤ → Stored B) → length cur ≡ n → FittedRuns program globals mains n (Emission.width program value) runs → FittedComponent program globals mains epar (given_sight it s) value
+      → Stands c (Emission.turnings s.scope h t (Emission.turned_low it) (Emission.component program (given_sight it s).scope h (s.scope.free + 1 + 1) value) runs) from to → Then g j q goal t n to st then
+      → Doing limit c f x (keeping (f.base + t) cur g) j q (stored.bind (Meaning.runs_values ops runs (turn_values limit cuts program c f x calls globals mains epar it value env) cur) then) (λ d. on f from st d) goal
+  unfolding Rattle.ada_lower.specs.Emission.emit
+  turned_into it value does B g j env q goal s h t n st room en some runs from to cur then len w we l go =
+      all_turnings limit cuts program c f x calls globals mains epar it value s h t n st (Emission.component program (given_sight it s).scope h (s.scope.free + 1 + 1) value)
+      (λ B g j q goal k first room kept from to then l go. component_does limit cuts program c f x calls globals mains epar value does B g j (turn_env limit cuts program c f x calls globals mains epar it k env) q goal (given_sight it s) h (s.scope.free + 1 + 1) (t + first) st room
+      (given_entry it s ∙ en) (let e : (given_sight it s).scope.free ≡ s.scope.free + 3 = given_free it s in omega (arith, e)) kept from to then we l go)
+      room en some runs from to cur then len w l go
+
+  -- the values of an association without a parameter, which take turns or don't
+  given_into : (turns : Bool) (value : Value) → ComponentDone value → Into value → (B : Type 0) (g j : Ghost) (env : Env) (q : B → Type 0) (goal : B → Dyn → Step) (s : Sight) (h t n : ℕ) (st : List ℤ) → Room g j s env t n → s.scope.entry ≡ x.entry
+      → (runs : List Run) (from to : ℕ) (cur : List ℤ) (then : List ℤ → Stored B) → length cur ≡ n → FittedRuns program globals mains n (Emission.width program value) runs → FittedGiven program globals mains epar turns s value
+      → Stands c (given_code turns value s h t runs) from to → Then g j q goal t n to st then
+      → Doing limit c f x (keeping (f.base + t) cur g) j q (stored.bind (Meaning.runs_values ops runs (λ k. stored.bind (Meaning.value_turn ops turns) (λ _. Meaning.cells ops limit program calls value env)) cur) then) (λ d. on f from st d) goal
+  unfolding Rattle.ada_lower.specs.Emission.emit
+  given_into true value does into B g j env q goal s h t n st room en runs from to cur then len w (some, we) l go = turned_into None value does B g j env q goal s h t n st room en some runs from to cur then len w we l go
+  given_into false value does into B g j env q goal s h t n st room en runs from to cur then len w we l go =
+      let comp : ℕ → Emit = (λ n. Emission.put_into program s.scope h (t + n) value) in
+      let val : Stored (List ℤ) = stored.bind (stored.ret (tt {0})) (λ _. Meaning.cells ops limit program calls value env) in
+      all_runs limit cuts program c f x calls globals mains epar comp val s h t n (Emission.width program value) st (Emission.is_plain value) (λ p. s_value limit cuts program calls value p env) (each_plain limit cuts program c f x calls globals mains epar value into env s h t (Emission.width program value) st en we) room runs from to cur then len w l go
 
   mutual
     unfolding Rattle.ada_lower.specs.Emission.emit
@@ -301,7 +337,7 @@ module _ (limit : ℕ) (cuts : ℕ → ℕ → List ℕ) (program : Program) (c 
         let many : length (flat ps) ≡ count = suited_cells hs ps suited in
         let loose : (i : ℕ) → i < length (flat ps) → g.what (f.base + n + i) ≡ Free = (λ i lt. free i (omega (arith, lt, many))) in
         also_then limit c f x {h = record g { what = aheads (f.base + n) ps g.what }} {j = g} {k = λ r. stored.ret r.value} (λ t d w. fit_unaheads (f.base + n) ps g loose w)
-        (calls_do.called.by x t sub n m st ps (record { unit = u.unit; is = u.is; outer = u.outer; main = u.main }) kt (omega (arith, whole, many)) room suited loose (at_entry en j))
+        (called_plainly calls_do.called x t sub n m st ps (record { unit = u.unit; is = u.is; outer = u.outer; main = u.main }) kt (omega (arith, whole, many)) room suited loose (at_entry en j))
         (λ r t d fit _. (
           g,
           fit_unaheads (f.base + n) ps g loose fit,
@@ -446,19 +482,15 @@ module _ (limit : ℕ) (cuts : ℕ → ℕ → List ℕ) (program : Program) (c 
         (subst (λ p. Doing limit c f x (keeping (f.base + t) cur g) j q (stored.bind (Meaning.associated ops limit program calls rest env cur) then) (λ d. on f p st d) goal) l1
         (associations_into rest B g j env q goal s h t n st room en m to cur then len w l2 go)))
     associations_into (Association (r ∷ rs) None mentions value rest) B g j env q goal s h t n st room en from to cur then len (w, we, wr) l go =
-        let comp : ℕ → Emit = (λ n. Emission.put_into program s.scope h (t + n) value) in
-        let val : Stored (List ℤ) = stored.bind (stored.ret (tt {0})) (λ _. Meaning.cells ops limit program calls value env) in
-        let (m, l1, l2) = stands_seq c from to (Emission.fillings s.scope h t (Emission.width program value) (Emission.is_plain value) comp (r ∷ rs)) (Emission.associated program s.scope h t rest) l in
+        let turns : Bool = Emission.takes_turns (r ∷ rs) None value in
+        let (m, l1, l2) = stands_seq c from to (given_code turns value s h t (r ∷ rs)) (Emission.associated program s.scope h t rest) l in
         does_assoc limit c f x _ _ then
-        (all_runs limit cuts program c f x calls globals mains epar comp val s h t n (Emission.width program value) st (Emission.is_plain value) (λ p. s_value limit cuts program calls value p env) (each_plain limit cuts program c f x calls globals mains epar value (value_into value) env s h t (Emission.width program value) st en we) room (r ∷ rs) from m cur _ len w l1 (λ cs clen.
+        (given_into turns value (component_done B value) (value_into value) B g j env q goal s h t n st room en (r ∷ rs) from m cur _ len w we l1 (λ cs clen.
         associations_into rest B g j env q goal s h t n st room en m to cs then clen wr l2 go))
     associations_into (Association runs (Some i') mentions value rest) B g j env q goal s h t n st room en from to cur then len (some, w, we, wr) l go =
-        let code : Emit = Emission.component program (iterated_sight s i'.parameter).scope h (s.scope.free + 1 + 1) value in
-        let (m, l1, l2) = stands_seq c from to (Emission.turnings s.scope h t i'.first code runs) (Emission.associated program s.scope h t rest) l in
+        let (m, l1, l2) = stands_seq c from to (Emission.turnings s.scope h t i'.first (Emission.component program (iterated_sight s i'.parameter).scope h (s.scope.free + 1 + 1) value) runs) (Emission.associated program s.scope h t rest) l in
         does_assoc limit c f x _ _ then
-        (all_turnings limit cuts program c f x calls globals mains epar i' value s h t n st code
-        (λ B g j q goal k first room kept from to then l go. component_does limit cuts program c f x calls globals mains epar value (component_done B value) B g j (turn_env limit cuts program c f x calls globals mains epar i' k env) q goal (iterated_sight s i'.parameter) h (s.scope.free + 1 + 1) (t + first) st room en (omega arith) kept from to then we l go)
-        room en some runs from m cur _ len w l1 (λ cs clen.
+        (turned_into (Some i') value (component_done B value) B g j env q goal s h t n st room en some runs from m cur _ len w we l1 (λ cs clen.
         associations_into rest B g j env q goal s h t n st room en m to cs then clen wr l2 go))
 
     composed_into : (co : Composite) (B : Type 0) (g j : Ghost) (env : Env) (q : B → Type 0) (goal : B → Dyn → Step) (s : Sight) (h t n : ℕ) (st : List ℤ) → Room g j s env t n → s.scope.entry ≡ x.entry → (from to : ℕ) (then : List ℤ → Stored B)

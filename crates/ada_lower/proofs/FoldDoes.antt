@@ -5,6 +5,7 @@ use Rattle.behaviours.specs.Doings.{folded}
 use Rattle.behaviours.specs.Paths.{Leave, Exits, Returns, Raises, Entity}
 use Rattle.typed_tree.specs.declared.scalars.Check.{Check}
 use Rattle.typed_tree.specs.declared.scalars.Class.{Class}
+use Rattle.typed_tree.specs.declared.scalars.Scalar.{Scalar}
 use Rattle.typed_tree.specs.declared.expressions.Root.{Root}
 use Rattle.typed_tree.specs.declared.expressions.Reducer.{Reducer}
 use Rattle.typed_tree.specs.declared.expressions.Reducer.TheVariants.{Operator, Function}
@@ -40,6 +41,9 @@ use Rattle.ada_lower.proofs.Items.{named_entity}
 use Rattle.ada_lower.proofs.ForkRange.{chunk_entry, knows_forked, Chunks}
 use Rattle.ada_lower.proofs.ForkSteps.{operands}
 use Rattle.ada_lower.proofs.ForkReduce.{OnlyRaises, reduced_does}
+use Rattle.ada_lower.proofs.ForkKept.{kept_does}
+use Rattle.ada_lower.proofs.FoldCalls.{function_combines}
+use Rattle.ada_lower.proofs.Alike.{alike}
 use Rattle.ada_lower.proofs.ForkSites.{Finish, range_reduction_does, items_reduction_does}
 use Rattle.ada_lower.proofs.ForkFine.{Lends}
 use Rattle.ada_lower.proofs.ForkInside.{nested_in}
@@ -131,24 +135,50 @@ module _ (limit : ℕ) (cuts : ℕ → ℕ → List ℕ) (program : Program) (c 
       (reduced_does limit cuts c f x gg kn.kept qf past st jump unnest cs site l u cl ch start site_at fork o attribute class
       (λ vs. ap (λ kd. answer_of c kd q (gave.Numbers vs)) kind ∙ folded_kind c chunk token o class q vs) some few team body ok threads (knows_forked kg) lends seen js dealt oks)
 
+  kept_kind : (chunk : Chunk) (token sub : ℕ) (accumulator value : Scalar) (q : Asked) (vs : List ℤ) → answer_of c (reduction_kind (Function token sub accumulator value) chunk) q (gave.Numbers vs) ≡ combined_by c None q.initial vs
+  kept_kind NoChunk token sub accumulator value q vs = refl
+  kept_kind (Count e) token sub accumulator value q vs = refl
+  kept_kind (Each k low high check) token sub accumulator value q vs = refl
+
+  -- accumulators that are kept, and combined by calls of a function
+  function_finishes : (f : Fixed) (calls_all : (f' : Fixed) → Alike f' f → InnerDo limit cuts program globals mains epar c f' calls)
+      (x : Ends) (g : Ghost) (env : Env) (s : Sight) (kn : Knows limit cuts g f s env) (en : s.scope.entry ≡ x.entry) (room : s.scope.free + 3 < s.cells) (ht : ℕ) (st : List ℤ)
+      (chunk : Chunk) (token sub : ℕ) (accumulator value : Scalar) (attribute : ℕ) (cs : CodeSite) (site : ℕ) (site_at : slice_get c.sites site ≡ Some cs) (kind : cs.kind ≡ reduction_kind (Function token sub accumulator value) chunk) (four : 4 ≤ cs.frame) (entry : (qf : ℕ) → slice_get c.instrs qf ≡ Some (i.Fork site) → cs.entry ≡ qf + 1 + 1)
+      (initial : Expr) (values : Env → Stored (Option ℤ)) → FittedFold program globals mains (taking 2 (taking 2 (taking 1 s))) (Function token sub accumulator value) → Finish limit cuts program c f calls globals mains epar calls_all x g env s kn en room ht st chunk (Function token sub accumulator value) attribute cs site site_at kind four entry initial values
+  function_finishes f calls_all x g env s kn en room ht st chunk token sub accumulator value attribute cs site site_at kind four entry initial values fitted gg kg l u cl ch start qf past to jump unnest lz fork some few team body ok threads lends seen js dealt oks =
+      let q : Asked = Deeds.asked site l u cl ch start in
+      kept_does limit cuts c f x gg kn.kept qf past st jump unnest cs site l u cl ch start site_at fork (λ vs. ap (λ kd. answer_of c kd q (gave.Numbers vs)) kind ∙ kept_kind chunk token sub accumulator value q vs) some few team body ok threads (knows_forked kg) lends seen js dealt oks
+      (reduce stored.doings stored.checks (Function token sub accumulator value) attribute (Meaning.combine_call ops limit program calls (Function token sub accumulator value) env.nested)) to
+      (λ a more. function_combines limit cuts program c f calls globals mains epar (calls_all f (alike f)) x gg env (taking 2 (taking 2 (taking 1 s))) kg en ht st token sub accumulator value fitted (past + 1) to lz more a)
+
+  -- accumulators that are combined
+  finishes : (f : Fixed) (calls_all : (f' : Fixed) → Alike f' f → InnerDo limit cuts program globals mains epar c f' calls)
+      (x : Ends) (g : Ghost) (env : Env) (s : Sight) (kn : Knows limit cuts g f s env) (en : s.scope.entry ≡ x.entry) (room : s.scope.free + 3 < s.cells) (ht : ℕ) (st : List ℤ)
+      (chunk : Chunk) (by : Reducer) (attribute : ℕ) (cs : CodeSite) (site : ℕ) (site_at : slice_get c.sites site ≡ Some cs) (kind : cs.kind ≡ reduction_kind by chunk) (four : 4 ≤ cs.frame) (entry : (qf : ℕ) → slice_get c.instrs qf ≡ Some (i.Fork site) → cs.entry ≡ qf + 1 + 1)
+      (initial : Expr) (values : Env → Stored (Option ℤ)) → FittedFold program globals mains (taking 2 (taking 2 (taking 1 s))) by → Finish limit cuts program c f calls globals mains epar calls_all x g env s kn en room ht st chunk by attribute cs site site_at kind four entry initial values
+  finishes f calls_all x g env s kn en room ht st chunk (Operator token o class) attribute cs site site_at kind four entry initial values fitted =
+      operator_finishes f calls_all x g env s kn en room ht st chunk token o class attribute cs site site_at kind four entry initial values
+  finishes f calls_all x g env s kn en room ht st chunk (Function token sub accumulator value) attribute cs site site_at kind four entry initial values fitted =
+      function_finishes f calls_all x g env s kn en room ht st chunk token sub accumulator value attribute cs site site_at kind four entry initial values fitted
+
 module _ (asked : Option Program) (lent : Bool → Sight → ℕ → CodeSite → Type 0) (limit : ℕ) (cuts : ℕ → ℕ → List ℕ) (lending : Lending limit cuts asked lent) (within : Within cuts) (program : Program) (c : Code) (globals : ℕ → Entity → Option Named) (mains : Entity → Bool) where
   -- parallel reductions, in one another
   pub folds_do : (n : ℕ) (f : Fixed) → f.asked ≡ asked → (calls : ℕ → ℕ → Stored (Unit {0}) → List Passed → Stored Returned) (calls_only : (n s : ℕ) (before : Stored (Unit {0})) (passed : List Passed) → Closed Raised before → Closed Raised (calls n s before passed))
       (calls_all : (f' : Fixed) → Alike f' f → CallsDo limit cuts program globals mains c f' calls) → ExprsDo limit cuts program c f calls (FittedReductions program globals mains lent c n)
   folds_do zero f fa calls calls_only calls_all e from to g env x s h st k en w l = absurd w
-  folds_do (suc n) f fa calls calls_only calls_all (Reduction at attribute (Operator token o class) initial (Some site) chunk (Range p false low high check filter) value) from to g env x s h st k en (cs, (site_at, frame, four, entry), here, kind, room4, wi, wc, wl, wh, wf, wv) l =
+  folds_do (suc n) f fa calls calls_only calls_all (Reduction at attribute by initial (Some site) chunk (Range p false low high check filter) value) from to g env x s h st k en (cs, (site_at, frame, four, entry), here, kind, room4, wi, wc, wl, wh, wf, wv, wb, wk) l =
       let room : s.scope.free + 3 < s.cells = omega (arith, room4) in
       let epar : Sight → Expr → Type 0 = FittedReductions program globals mains lent c n in
       let all_in : (f' : Fixed) → Alike f' f → InnerDo limit cuts program globals mains epar c f' calls = (λ f' e. record { called = calls_all f' e; forked = folds_do n f' (e.1 ∙ fa) calls calls_only (λ f'' e'. calls_all f'' (e'.0 ∙ e.0, e'.1 ∙ e.1)) }) in
-      site_range_does limit cuts program c globals mains epar calls f calls_only all_in x g env s k en room h st chunk (Operator token o class) attribute at cs site site_at kind four entry initial filter value
-      (operator_finishes limit cuts program c globals mains epar calls f all_in x g env s k en room h st chunk token o class attribute cs site site_at kind four entry initial (values_of limit cuts program c globals mains epar calls filter value))
-      room4 p low high check (λ start cl ch l u k told gg kk. lending.folds f fa s env site cs here chunk p low high check filter k start cl ch l u (Operator token o class) kind told gg kk) wi wc wl wh wf tt wv from to l
-  folds_do (suc n) f fa calls calls_only calls_all (Reduction at attribute (Operator token o class) initial (Some site) chunk (Components p constant a r selections count stride dimensions filter) value) from to g env x s h st k en (cs, (site_at, frame, four, entry), here, five, kind, room, wi, wc, (e, is, reach), ws, wf, wv) l =
+      site_range_does limit cuts program c globals mains epar calls f calls_only all_in x g env s k en room h st chunk by attribute at cs site site_at kind four entry initial filter value
+      (finishes limit cuts program c globals mains epar calls f all_in x g env s k en room h st chunk by attribute cs site site_at kind four entry initial (values_of limit cuts program c globals mains epar calls filter value) wk)
+      room4 p low high check (λ start cl ch l u k told gg kk. lending.folds f fa s env site cs here chunk p low high check filter k start cl ch l u by kind told gg kk) wi wc wl wh wf wb wv from to l
+  folds_do (suc n) f fa calls calls_only calls_all (Reduction at attribute by initial (Some site) chunk (Components p constant a r selections count stride dimensions filter) value) from to g env x s h st k en (cs, (site_at, frame, four, entry), here, five, kind, room, wi, wc, (e, is, reach), ws, wf, wv, wb, wk) l =
       let epar : Sight → Expr → Type 0 = FittedReductions program globals mains lent c n in
       let all_in : (f' : Fixed) → Alike f' f → InnerDo limit cuts program globals mains epar c f' calls = (λ f' e. record { called = calls_all f' e; forked = folds_do n f' (e.1 ∙ fa) calls calls_only (λ f'' e'. calls_all f'' (e'.0 ∙ e.0, e'.1 ∙ e.1)) }) in
-      site_items_does limit cuts program c globals mains epar calls f calls_only all_in x g env s k en room h st chunk (Operator token o class) attribute at cs site site_at kind four entry initial filter value
-      (operator_finishes limit cuts program c globals mains epar calls f all_in x g env s k en room h st chunk token o class attribute cs site site_at kind four entry initial (values_of limit cuts program c globals mains epar calls filter value))
-      within five {e = e} p constant a r selections count stride dimensions (λ start cl ch q a0 k told gg kk part. lending.item_folds f fa s env site cs here chunk p constant a r selections count stride dimensions filter k start cl ch q a0 told gg kk part) wi wc is reach ws wf tt wv from to l
+      site_items_does limit cuts program c globals mains epar calls f calls_only all_in x g env s k en room h st chunk by attribute at cs site site_at kind four entry initial filter value
+      (finishes limit cuts program c globals mains epar calls f all_in x g env s k en room h st chunk by attribute cs site site_at kind four entry initial (values_of limit cuts program c globals mains epar calls filter value) wk)
+      within five {e = e} p constant a r selections count stride dimensions (λ start cl ch q a0 k told gg kk part. lending.item_folds f fa s env site cs here chunk p constant a r selections count stride dimensions filter k start cl ch q a0 told gg kk part) wi wc is reach ws wf wb wv from to l
   folds_do (suc n) f fa calls calls_only calls_all (Static a1 a2 a3 a4) from to g env x s h st k en w l = absurd w
   folds_do (suc n) f fa calls calls_only calls_all (Variable a1 a2 a3 a4) from to g env x s h st k en w l = absurd w
   folds_do (suc n) f fa calls calls_only calls_all (Constant a1 a2 a3 a4) from to g env x s h st k en w l = absurd w
@@ -164,10 +194,8 @@ module _ (asked : Option Program) (lent : Bool → Sight → ℕ → CodeSite �
   folds_do (suc n) f fa calls calls_only calls_all (If a1 a2 a3) from to g env x s h st k en w l = absurd w
   folds_do (suc n) f fa calls calls_only calls_all (Call a1 a2 a3 a4) from to g env x s h st k en w l = absurd w
   folds_do (suc n) f fa calls calls_only calls_all (Convert a1 a2) from to g env x s h st k en w l = absurd w
-  folds_do (suc n) f fa calls calls_only calls_all (Reduction a1 a2 (Operator b1 b2 b3) a4 None a6 a7 a8) from to g env x s h st k en w l = absurd w
-  folds_do (suc n) f fa calls calls_only calls_all (Reduction a1 a2 (Function b1 b2 b3 b4) a4 None a6 a7 a8) from to g env x s h st k en w l = absurd w
-  folds_do (suc n) f fa calls calls_only calls_all (Reduction a1 a2 (Function b1 b2 b3 b4) a4 (Some a5) a6 a7 a8) from to g env x s h st k en w l = absurd w
-  folds_do (suc n) f fa calls calls_only calls_all (Reduction a1 a2 (Operator b1 b2 b3) a4 (Some a5) a6 (Range c1 true c3 c4 c5 c6) a8) from to g env x s h st k en w l = absurd w
+  folds_do (suc n) f fa calls calls_only calls_all (Reduction a1 a2 a3 a4 None a6 a7 a8) from to g env x s h st k en w l = absurd w
+  folds_do (suc n) f fa calls calls_only calls_all (Reduction a1 a2 a3 a4 (Some a5) a6 (Range c1 true c3 c4 c5 c6) a8) from to g env x s h st k en w l = absurd w
 
   -- what is done within, where so many may be within one another
   pub inner_all : (n : ℕ) (f : Fixed) → f.asked ≡ asked → (calls : ℕ → ℕ → Stored (Unit {0}) → List Passed → Stored Returned) (calls_only : (n s : ℕ) (before : Stored (Unit {0})) (passed : List Passed) → Closed Raised before → Closed Raised (calls n s before passed))

@@ -114,9 +114,9 @@ fitted = (
   ((
     (site 0 kind.Loop, (refl, refl, omega arith, sited 0 refl), tt, omega arith, refl, omega arith, tt, (array, refl, omega arith), tt, [], (λ m h. h), tt, (tt, tt), tt, ((item, refl, omega arith, tt, (omega arith, tt)), tt)),
     (
-      (omega arith, ((site 1 sums, (refl, refl, omega arith, sited 1 refl), tt, omega arith, refl, omega arith, tt, tt, (array, refl, omega arith), tt, tt, ((item, refl, omega arith), tt)), tt)),
+      (omega arith, ((site 1 sums, (refl, refl, omega arith, sited 1 refl), tt, omega arith, refl, omega arith, tt, tt, (array, refl, omega arith), tt, tt, ((item, refl, omega arith), tt), tt, tt), tt)),
       (
-        (omega arith, ((site 2 sums, (refl, refl, omega arith, sited 2 refl), tt, refl, omega arith, tt, tt, tt, tt, tt, (record { level = Own; cell = 2 }, refl)), tt)),
+        (omega arith, ((site 2 sums, (refl, refl, omega arith, sited 2 refl), tt, refl, omega arith, tt, tt, tt, tt, tt, (record { level = Own; cell = 2 }, refl), tt, tt), tt)),
         tt,
       ),
     ),

@@ -9,7 +9,7 @@ use Rattle.ada_meaning.specs.Operations.{Sized, Operations}
 use Rattle.ada_meaning.specs.Stored as stored
 use Rattle.ada_meaning.specs.Stored.{Stored}
 use Rattle.ada_meaning.specs.Meaning
-use Rattle.ada_meaning.specs.Meaning.{Env, Passed, Returned, inside}
+use Rattle.ada_meaning.specs.Meaning.{Env, Passed, Returned, inside, most_threads}
 use Rattle.stack_code.specs.declared.code.Code.{Code}
 use Rattle.stack_code.specs.declared.code.CodeSite.{CodeSite}
 use Rattle.stack_code.specs.declared.code.SiteKind.TheVariants as site_kind
@@ -93,7 +93,7 @@ module _ (limit : ℕ) (cuts : ℕ → ℕ → List ℕ) (program : Program) (c 
   module _ (arms : (f' : Fixed) (fc : Alike f' f) (top : ℕ) (is : f' ≡ threaded (nested_in f) top) (gi : Ghost) (k : ℕ) → Knows limit cuts gi f' t (inside env) → ArmDoes limit cuts program c f' calls globals mains epar (λ f'' e. calls_all f'' (e.0 ∙ fc.0, e.1 ∙ fc.1)) t refl gi (slice_get es k) (acts k))
       (leaves_so : (first size : ℕ) (w : stored.State) (l : Leave) → ((through stored.doings first size tt (λ k (_ : Unit {0}). acts k)).does w).end ≡ Err (stored.Left l) → BlockLeaves l)
       (lends : (ch : ℤ) (gg : Ghost) → Knows limit cuts gg (nested_in f) (taking 2 s) (inside env) → Lends (nested_in f) gg cs (Deeds.asked site (pos 0) (pos (length es - 1)) (pos 1) ch (pos 0)) (Meaning.block_site site) (deal 0 0 (sizes_for gg.plan cs.kind (Deeds.asked site (pos 0) (pos (length es - 1)) (pos 1) ch (pos 0))))) where
-    numbered : (ch : ℤ) (from to : ℕ) → nat_le 1 (many (pos 1) ch) ≡ true → nat_le (many (pos 1) ch) 4096 ≡ true → Stands c rest from to
+    numbered : (ch : ℤ) (from to : ℕ) → nat_le 1 (many (pos 1) ch) ≡ true → nat_le (many (pos 1) ch) most_threads ≡ true → Stands c rest from to
         → Runs limit c f x (g1 (pos 1) ch) any (dealt (many (pos 1) ch)) (λ d. on fi from [] d) (λ _ d. on f to [] d)
     numbered ch from to some few (ja, (jb, r1)) =
         let last : ℤ = pos (length es - 1) in
@@ -117,7 +117,7 @@ module _ (limit : ℕ) (cuts : ℕ → ℕ → List ℕ) (program : Program) (c 
         (knows_forked (kn1 (pos 1) ch)) (lends ch gg (knows_forked (kn1 (pos 1) ch)))
         (λ owner apart j _. block_thread limit cuts program c fi calls globals mains epar calls_all (view_ghost owner j.number gg) (no_free (taking 2 s)) (inside env) (knows_view owner j.number (knows_forked (kn1 (pos 1) ch)) apart) site cs four last (pos 1) ch j BlockLeaves es acts m4
         (subst (λ a. Stands c tb a m4) (sym (entry (from + 1 + 1 + 1 + 1 + 1) (itself refl jf))) bd) (λ gi k kk. arms (threaded fi gg.top) (alike f) gg.top refl gi k kk) (λ w l e. leaves_so j.first j.size w l e))
-        (ap (λ n. nat_le n 4611686018427387904 && (nat_le 1 (many (pos 1) ch) && nat_le (many (pos 1) ch) 4096)) (many_arms (length es) some_arms)
+        (ap (λ n. nat_le n 4611686018427387904 && (nat_le 1 (many (pos 1) ch) && nat_le (many (pos 1) ch) most_threads)) (many_arms (length es) some_arms)
         ∙ ap₂ (λ a b. a && b) (le-leb (length es) 4611686018427387904 few_arms) (ap₂ (λ t u. t && u) some few))
         (λ w m. m.1))
 
@@ -126,7 +126,7 @@ module _ (limit : ℕ) (cuts : ℕ → ℕ → List ℕ) (program : Program) (c 
     left_as_back (Returns v) d = comes_here limit c (x.returns v d)
     left_as_back (Raises r) d = subst (λ y. To limit c (thrown r x.entry f d) y) (sym (raises_same limit c f x r d)) (comes_here limit c (thrown r x.entry f d))
 
-    follows : (ch : ℤ) (from to : ℕ) → nat_le 1 (many (pos 1) ch) ≡ true → nat_le (many (pos 1) ch) 4096 ≡ true → Stands c rest from to
+    follows : (ch : ℤ) (from to : ℕ) → nat_le 1 (many (pos 1) ch) ≡ true → nat_le (many (pos 1) ch) most_threads ≡ true → Stands c rest from to
         → Runs limit c fi x (g1 (pos 1) ch) any (dealt (many (pos 1) ch)) (λ d. on fi from [] d) (λ _ d. on f to [] d)
     follows ch from to some few l = does_inside limit c fi x f refl refl left_as_back (numbered ch from to some few l)
 
@@ -138,12 +138,12 @@ module _ (limit : ℕ) (cuts : ℕ → ℕ → List ℕ) (program : Program) (c 
         let room1 : s.scope.free < s.cells = omega (arith, room) in
         does_before limit c fi x (λ d. comes_goes limit c fi [] (from + 1) (pos 1 ∷ []) d j1 refl)
         (does_keep limit c fi x (from + 1) s.scope.free (pos 1) [] (own_free (g.what (f.base + s.scope.free)) (kn.free s.scope.free (le_refl s.scope.free) room1)) (at_entry su.entry j2)
-        (does_before limit c fi x (λ d. comes_goes limit c fi [] (from + 1 + 1 + 1) (pos 4096 ∷ []) d j3 refl)
-        (two_kept limit cuts program c fi calls globals mains epar calls_all x g (inside env) r (knows_nested (knows_forked kn)) su.entry (omega (arith, room)) 0 [] (Unit {0}) (pos 1) (pos 4096) (from + 1 + 1 + 1) (at_entry su.entry j4)
-        (does_returned limit c fi x dealt 4096
-        (does_weak limit c fi x (λ st d y. fit_uncount limit cuts c f s (pos 1) (pos 4096) (omega (arith, room)) kn st d y)
-        (subst (λ q. Runs limit c fi x (g1 (pos 1) (pos 4096)) any (dealt 4096) (λ d. on fi q [] d) (λ _ d. on f to [] d)) z
-        (follows (pos 4096) m1 to refl refl lr)))))))
+        (does_before limit c fi x (λ d. comes_goes limit c fi [] (from + 1 + 1 + 1) (pos most_threads ∷ []) d j3 refl)
+        (two_kept limit cuts program c fi calls globals mains epar calls_all x g (inside env) r (knows_nested (knows_forked kn)) su.entry (omega (arith, room)) 0 [] (Unit {0}) (pos 1) (pos most_threads) (from + 1 + 1 + 1) (at_entry su.entry j4)
+        (does_returned limit c fi x dealt most_threads
+        (does_weak limit c fi x (λ st d y. fit_uncount limit cuts c f s (pos 1) (pos most_threads) (omega (arith, room)) kn st d y)
+        (subst (λ q. Runs limit c fi x (g1 (pos 1) (pos most_threads)) any (dealt most_threads) (λ d. on fi q [] d) (λ _ d. on f to [] d)) z
+        (follows (pos most_threads) m1 to refl refl lr)))))))
     counted (Present e) w from to l =
         let (m1, lc, lr) = stands_seq c from to (chunk_code program r.scope 0 (Count e)) rest l in
         does_assoc limit c fi x _ _ dealt

@@ -10,7 +10,7 @@ use Rattle.ada_meaning.specs.Stored as stored
 use Rattle.ada_meaning.specs.Stored.{Stored}
 use Rattle.ada_meaning.specs.Operations.{Operations}
 use Rattle.ada_meaning.specs.Meaning
-use Rattle.ada_meaning.specs.Meaning.{Env, Passed, Returned, Chunking, inside}
+use Rattle.ada_meaning.specs.Meaning.{Env, Passed, Returned, Chunking, inside, most_threads}
 use Rattle.stack_code.specs.declared.code.Code.{Code}
 use Rattle.stack_code.specs.declared.instr.Instr.TheVariants as i
 use Rattle.stack_code.specs.Deeds.{many}
@@ -58,19 +58,19 @@ module _ (limit : ℕ) (cuts : ℕ → ℕ → List ℕ) (program : Program) (c 
 
   -- none
   pub none_does : (from to : ℕ) → Stands c (chunk_code program s.scope ht NoChunk) from to → (then : Chunking → Stored R) (goal : R → Dyn → Step)
-      → ((k : Chunking) (cl ch : ℤ) → Chunks NoChunk cl ch k → nat_le 1 (many cl ch) ≡ true → nat_le (many cl ch) 4096 ≡ true → Runs limit c f x (bounds cl ch) any (then k) (λ d. on f to stk d) goal)
+      → ((k : Chunking) (cl ch : ℤ) → Chunks NoChunk cl ch k → nat_le 1 (many cl ch) ≡ true → nat_le (many cl ch) most_threads ≡ true → Runs limit c f x (bounds cl ch) any (then k) (λ d. on f to stk d) goal)
       → Runs limit c f x g any (stored.bind (Meaning.chunking oper limit program calls NoChunk env) then) (λ d. on f from stk d) goal
   unfolding Rattle.ada_lower.specs.Emission.emit
   none_does from to (j1, (j2, (j3, (j4, z)))) then goal k =
       let room1 : s.scope.free < s.cells = omega (arith, room) in
       does_before limit c f x (λ d. comes_goes limit c f stk (from + 1) (pos 1 ∷ stk) d j1 refl)
       (does_keep limit c f x (from + 1) s.scope.free (pos 1) stk (own_free (g.what (f.base + s.scope.free)) (kn.free s.scope.free (le_refl s.scope.free) room1)) (at_entry en j2)
-      (does_before limit c f x (λ d. comes_goes limit c f stk (from + 1 + 1 + 1) (pos 4096 ∷ stk) d j3 refl)
-      (two_kept (pos 1) (pos 4096) (from + 1 + 1 + 1) (at_entry en j4)
-      (does_returned limit c f x then (record { most = 4096; even = false; bound = λ j e. e })
-      (does_weak limit c f x (λ stt d w. fit_uncount limit cuts c f s (pos 1) (pos 4096) room kn stt d w)
-      (subst (λ q. Runs limit c f x (bounds (pos 1) (pos 4096)) any (then (record { most = 4096; even = false; bound = λ j e. e })) (λ d. on f q stk d) goal) z
-      (k (record { most = 4096; even = false; bound = λ j e. e }) (pos 1) (pos 4096) refl refl refl)))))))
+      (does_before limit c f x (λ d. comes_goes limit c f stk (from + 1 + 1 + 1) (pos most_threads ∷ stk) d j3 refl)
+      (two_kept (pos 1) (pos most_threads) (from + 1 + 1 + 1) (at_entry en j4)
+      (does_returned limit c f x then (record { most = most_threads; even = false; bound = λ j e. e })
+      (does_weak limit c f x (λ stt d w. fit_uncount limit cuts c f s (pos 1) (pos most_threads) room kn stt d w)
+      (subst (λ q. Runs limit c f x (bounds (pos 1) (pos most_threads)) any (then (record { most = most_threads; even = false; bound = λ j e. e })) (λ d. on f q stk d) goal) z
+      (k (record { most = most_threads; even = false; bound = λ j e. e }) (pos 1) (pos most_threads) refl refl refl)))))))
 
   -- ---- a number of threads, and a range
 
@@ -111,24 +111,24 @@ module _ (limit : ℕ) (cuts : ℕ → ℕ → List ℕ) (program : Program) (c 
   back_two : (u w : ℤ) (st : stored.State) (d : Dyn) → Fit (bounds u w) st d → Fit g st d
   back_two u w st d z = fit_uncount limit cuts c f s u w room kn st d z
 
-  -- the least of a number and 4096
-  most_same : (v : ℤ) → int_lt (pos 0) v ≡ true → many (pos 1) (int_min v (pos 4096)) ≡ min (Values.to_nat v) 4096
-  most_same (pos n) e = go (int_lt (pos 4096) (pos n)) refl
+  -- the least of a number and the most threads
+  most_same : (v : ℤ) → int_lt (pos 0) v ≡ true → many (pos 1) (int_min v (pos most_threads)) ≡ min (Values.to_nat v) most_threads
+  most_same (pos n) e = go (int_lt (pos most_threads) (pos n)) refl
     where
       natural_same : (m : ℕ) → many (pos 1) (pos m) ≡ m
       natural_same m = ap Deeds.natural (let z : pos m +ℤ pos 1 -ℤ pos 1 ≡ pos m = omega (arith, ints) in z)
 
-      go : (b : Bool) → int_lt (pos 4096) (pos n) ≡ b → many (pos 1) (cond (int_lt (pos 4096) (pos n)) (pos 4096) (pos n)) ≡ min n 4096
-      go true h = ap (λ b. many (pos 1) (cond b (pos 4096) (pos n))) h ∙ natural_same 4096 ∙ (let z : 4096 ≡ min n 4096 = omega (arith, ints, h) in z)
-      go false h = ap (λ b. many (pos 1) (cond b (pos 4096) (pos n))) h ∙ natural_same n ∙ (let z : n ≡ min n 4096 = omega (arith, ints, h) in z)
+      go : (b : Bool) → int_lt (pos most_threads) (pos n) ≡ b → many (pos 1) (cond (int_lt (pos most_threads) (pos n)) (pos most_threads) (pos n)) ≡ min n most_threads
+      go true h = ap (λ b. many (pos 1) (cond b (pos most_threads) (pos n))) h ∙ natural_same most_threads ∙ (let z : most_threads ≡ min n most_threads = omega (arith, ints, h) in z)
+      go false h = ap (λ b. many (pos 1) (cond b (pos most_threads) (pos n))) h ∙ natural_same n ∙ (let z : n ≡ min n most_threads = omega (arith, ints, h) in z)
   most_same (negsuc n) e = absurd (omega (arith, ints, e))
 
-  least_pos : (v : ℤ) → int_lt (pos 0) v ≡ true → 1 ≤ min (Values.to_nat v) 4096
+  least_pos : (v : ℤ) → int_lt (pos 0) v ≡ true → 1 ≤ min (Values.to_nat v) most_threads
   least_pos (pos n) e = omega (arith, ints, e)
   least_pos (negsuc n) e = absurd (omega (arith, ints, e))
 
-  above_same : (v : ℤ) → int_le (pos 1) (int_min v (pos 4096)) ≡ int_lt (pos 0) v
-  above_same v = go (int_lt (pos 4096) v) refl
+  above_same : (v : ℤ) → int_le (pos 1) (int_min v (pos most_threads)) ≡ int_lt (pos 0) v
+  above_same v = go (int_lt (pos most_threads) v) refl
     where
       leaf : (z : ℤ) (b c : Bool) → int_le (pos 1) z ≡ b → int_lt (pos 0) v ≡ c → (b ≡ true → c ≡ false → ⊥) → (b ≡ false → c ≡ true → ⊥) → b ≡ c
       leaf z true true e e' p q = refl
@@ -136,53 +136,53 @@ module _ (limit : ℕ) (cuts : ℕ → ℕ → List ℕ) (program : Program) (c 
       leaf z false true e e' p q = absurd (q refl refl)
       leaf z false false e e' p q = refl
 
-      go : (b : Bool) → int_lt (pos 4096) v ≡ b → int_le (pos 1) (cond (int_lt (pos 4096) v) (pos 4096) v) ≡ int_lt (pos 0) v
-      go true h = ap (λ b. int_le (pos 1) (cond b (pos 4096) v)) h ∙ leaf (pos 4096) (int_le (pos 1) (pos 4096)) (int_lt (pos 0) v) refl refl (λ e e'. omega (arith, ints, h, e')) (λ e e'. true≢false e)
-      go false h = ap (λ b. int_le (pos 1) (cond b (pos 4096) v)) h ∙ leaf v (int_le (pos 1) v) (int_lt (pos 0) v) refl refl (λ e e'. omega (arith, ints, e, e')) (λ e e'. omega (arith, ints, e, e'))
+      go : (b : Bool) → int_lt (pos most_threads) v ≡ b → int_le (pos 1) (cond (int_lt (pos most_threads) v) (pos most_threads) v) ≡ int_lt (pos 0) v
+      go true h = ap (λ b. int_le (pos 1) (cond b (pos most_threads) v)) h ∙ leaf (pos most_threads) (int_le (pos 1) (pos most_threads)) (int_lt (pos 0) v) refl refl (λ e e'. omega (arith, ints, h, e')) (λ e e'. true≢false e)
+      go false h = ap (λ b. int_le (pos 1) (cond b (pos most_threads) v)) h ∙ leaf v (int_le (pos 1) v) (int_lt (pos 0) v) refl refl (λ e e'. omega (arith, ints, e, e')) (λ e e'. omega (arith, ints, e, e'))
 
   -- ---- a number
 
   pub number_does : (e : Expr) (from to : ℕ) → Stands c (chunk_code program s.scope ht (Count e)) from to → Fitted program globals mains epar (taking 1 s) e → (then : ℕ → Stored R) (goal : R → Dyn → Step) (rest : ℤ → Stored R)
       → ((v : ℤ) (h : Ghost) (at_ : Dyn → Step) → Doing limit c f x h g any (stored.bind (Meaning.most_of oper v) then) at_ goal → Doing limit c f x h g any (rest v) at_ goal)
-      → ((n : ℕ) (ch : ℤ) → n ≡ many (pos 1) ch → nat_le 1 (many (pos 1) ch) ≡ true → nat_le (many (pos 1) ch) 4096 ≡ true → Runs limit c f x (bounds (pos 1) ch) any (then n) (λ d. on f to stk d) goal)
+      → ((n : ℕ) (ch : ℤ) → n ≡ many (pos 1) ch → nat_le 1 (many (pos 1) ch) ≡ true → nat_le (many (pos 1) ch) most_threads ≡ true → Runs limit c f x (bounds (pos 1) ch) any (then n) (λ d. on f to stk d) goal)
       → Runs limit c f x g any (stored.bind (Meaning.eval oper limit program calls e env) rest) (λ d. on f from stk d) goal
   unfolding Rattle.ada_lower.specs.Emission.emit
   number_does e from to (j1, (j2, l2)) w then goal rest as_ k =
       let room1 : s.scope.free < s.cells = omega (arith, room) in
       let free1 = kn.free s.scope.free (le_refl s.scope.free) room1 in
-      let (m1, le, (j3, (j4, (j5, lr)))) = stands_seq c (from + 1 + 1) to (emit program (taking 1 s).scope ht e) (one s.scope (ht + 1) (i.Push (pos 4096)) ⨟ one s.scope (ht + 1 + 1) i.Min ⨟ Emission.keep s.scope (ht + 1) (s.scope.free + 1) ⨟ Emission.raise_above s.scope ht s.scope.free) l2 in
+      let (m1, le, (j3, (j4, (j5, lr)))) = stands_seq c (from + 1 + 1) to (emit program (taking 1 s).scope ht e) (one s.scope (ht + 1) (i.Push (pos most_threads)) ⨟ one s.scope (ht + 1 + 1) i.Min ⨟ Emission.keep s.scope (ht + 1) (s.scope.free + 1) ⨟ Emission.raise_above s.scope ht s.scope.free) l2 in
       does_before limit c f x (λ d. comes_goes limit c f stk (from + 1) (pos 1 ∷ stk) d j1 refl)
       (does_keep limit c f x (from + 1) s.scope.free (pos 1) stk (own_free (g.what (f.base + s.scope.free)) free1) (at_entry en j2)
       (does_seq limit c f x (λ st d z. fit_unset (f.base + s.scope.free) (pos 1) free1 z) (λ ts al. al) (value_does limit cuts program c f x calls globals mains epar (calls_all f (alike f)) e (from + 1 + 1) m1 (taking 1 s) ht stk (knows_env (knows_keep (pos 1) room1 kn)) en w le) (λ v _.
-      does_before limit c f x (λ d. comes_on limit c (comes_goes limit c f (v ∷ stk) (m1 + 1) (pos 4096 ∷ v ∷ stk) d j3 refl) (comes_goes limit c f (pos 4096 ∷ v ∷ stk) (m1 + 1 + 1) (int_min v (pos 4096) ∷ stk) d j4 refl))
-      (two_kept (pos 1) (int_min v (pos 4096)) (m1 + 1 + 1) (at_entry en j5)
-      (as_ v (bounds (pos 1) (int_min v (pos 4096))) (λ d. on f (m1 + 1 + 1 + 1) stk d) (tests v (m1 + 1 + 1 + 1) lr (int_lt (pos 0) v) refl))))))
+      does_before limit c f x (λ d. comes_on limit c (comes_goes limit c f (v ∷ stk) (m1 + 1) (pos most_threads ∷ v ∷ stk) d j3 refl) (comes_goes limit c f (pos most_threads ∷ v ∷ stk) (m1 + 1 + 1) (int_min v (pos most_threads) ∷ stk) d j4 refl))
+      (two_kept (pos 1) (int_min v (pos most_threads)) (m1 + 1 + 1) (at_entry en j5)
+      (as_ v (bounds (pos 1) (int_min v (pos most_threads))) (λ d. on f (m1 + 1 + 1 + 1) stk d) (tests v (m1 + 1 + 1 + 1) lr (int_lt (pos 0) v) refl))))))
     where
       knows_env : {h : Ghost} {u : Sight} → Knows limit cuts h f u env → Knows limit cuts h f u env
       knows_env k = record { most = k.most; nested = k.nested; plan = k.plan; kept = k.kept; top = k.top; beyond = k.beyond; global = k.global; outside = k.outside; one = k.one; old = k.old; hidden = k.hidden; object = k.object; parameter = k.parameter; item = k.item; constant_item = k.constant_item; target = k.target; handled = k.handled; free = k.free }
 
       tests : (v : ℤ) (p : ℕ) → Stands c (Emission.raise_above s.scope ht s.scope.free) p to → (b : Bool) → int_lt (pos 0) v ≡ b
-          → Doing limit c f x (bounds (pos 1) (int_min v (pos 4096))) g any (stored.bind (Meaning.most_of oper v) then) (λ d. on f p stk d) goal
+          → Doing limit c f x (bounds (pos 1) (int_min v (pos most_threads))) g any (stored.bind (Meaning.most_of oper v) then) (λ d. on f p stk d) goal
       tests v p l true e =
-          above_goes (pos 1) (int_min v (pos 4096)) p to l
+          above_goes (pos 1) (int_min v (pos most_threads)) p to l
           (λ h. does_assoc limit c f x _ _ then
-          (subst (λ b. Doing limit c f x (bounds (pos 1) (int_min v (pos 4096))) g any (stored.bind (Meaning.unless oper b reason.ProgramError) (λ _. stored.bind (stored.ret (min (Values.to_nat v) 4096)) then)) (λ d. on f to stk d) goal) (sym e)
-          (does_returned limit c f x (λ _. stored.bind (stored.ret (min (Values.to_nat v) 4096)) then) (tt {0})
-          (does_returned limit c f x then (min (Values.to_nat v) 4096)
-          (does_weak limit c f x (λ st d z. back_two (pos 1) (int_min v (pos 4096)) st d z)
-          (k (min (Values.to_nat v) 4096) (int_min v (pos 4096)) (sym (most_same v e))
-          (ap (λ n. nat_le 1 n) (most_same v e) ∙ le-leb 1 (min (Values.to_nat v) 4096) (least_pos v e))
-          (ap (λ n. nat_le n 4096) (most_same v e) ∙ le-leb (min (Values.to_nat v) 4096) 4096 (omega arith))))))))
+          (subst (λ b. Doing limit c f x (bounds (pos 1) (int_min v (pos most_threads))) g any (stored.bind (Meaning.unless oper b reason.ProgramError) (λ _. stored.bind (stored.ret (min (Values.to_nat v) most_threads)) then)) (λ d. on f to stk d) goal) (sym e)
+          (does_returned limit c f x (λ _. stored.bind (stored.ret (min (Values.to_nat v) most_threads)) then) (tt {0})
+          (does_returned limit c f x then (min (Values.to_nat v) most_threads)
+          (does_weak limit c f x (λ st d z. back_two (pos 1) (int_min v (pos most_threads)) st d z)
+          (k (min (Values.to_nat v) most_threads) (int_min v (pos most_threads)) (sym (most_same v e))
+          (ap (λ n. nat_le 1 n) (most_same v e) ∙ le-leb 1 (min (Values.to_nat v) most_threads) (least_pos v e))
+          (ap (λ n. nat_le n most_threads) (most_same v e) ∙ le-leb (min (Values.to_nat v) most_threads) most_threads (omega arith))))))))
           (λ h. absurd (true≢false (sym (above_same v ∙ e) ∙ h)))
       tests v p l false e =
-          above_goes (pos 1) (int_min v (pos 4096)) p to l
+          above_goes (pos 1) (int_min v (pos most_threads)) p to l
           (λ h. absurd (true≢false (sym h ∙ (above_same v ∙ e))))
           (λ h. does_assoc limit c f x _ _ then
-          (subst (λ b. Doing limit c f x (bounds (pos 1) (int_min v (pos 4096))) g any (stored.bind (Meaning.unless oper b reason.ProgramError) (λ _. stored.bind (stored.ret (min (Values.to_nat v) 4096)) then)) (λ d. thrown reason.ProgramError x.entry f d) goal) (sym e)
-          (raised reason.ProgramError (λ _. stored.bind (stored.ret (min (Values.to_nat v) 4096)) then) (back_two (pos 1) (int_min v (pos 4096))))))
+          (subst (λ b. Doing limit c f x (bounds (pos 1) (int_min v (pos most_threads))) g any (stored.bind (Meaning.unless oper b reason.ProgramError) (λ _. stored.bind (stored.ret (min (Values.to_nat v) most_threads)) then)) (λ d. thrown reason.ProgramError x.entry f d) goal) (sym e)
+          (raised reason.ProgramError (λ _. stored.bind (stored.ret (min (Values.to_nat v) most_threads)) then) (back_two (pos 1) (int_min v (pos most_threads))))))
 
   pub count_does : (e : Expr) (from to : ℕ) → Stands c (chunk_code program s.scope ht (Count e)) from to → Fitted program globals mains epar (taking 1 s) e → (then : Chunking → Stored R) (goal : R → Dyn → Step)
-      → ((k : Chunking) (cl ch : ℤ) → Chunks (Count e) cl ch k → nat_le 1 (many cl ch) ≡ true → nat_le (many cl ch) 4096 ≡ true → Runs limit c f x (bounds cl ch) any (then k) (λ d. on f to stk d) goal)
+      → ((k : Chunking) (cl ch : ℤ) → Chunks (Count e) cl ch k → nat_le 1 (many cl ch) ≡ true → nat_le (many cl ch) most_threads ≡ true → Runs limit c f x (bounds cl ch) any (then k) (λ d. on f to stk d) goal)
       → Runs limit c f x g any (stored.bind (Meaning.chunking oper limit program calls (Count e) env) then) (λ d. on f from stk d) goal
   count_does e from to l w then goal k =
       does_assoc limit c f x _ _ then
@@ -195,18 +195,18 @@ module _ (limit : ℕ) (cuts : ℕ → ℕ → List ℕ) (program : Program) (c 
   -- ---- a range
 
   -- how many values it has, and the test of their number
-  few_same : (l h : ℤ) → int_le (l +ℤ pos 4096) h ≡ not (nat_le (Values.count l h) 4096)
+  few_same : (l h : ℤ) → int_le (l +ℤ pos most_threads) h ≡ not (nat_le (Values.count l h) most_threads)
   few_same l h = go (h +ℤ pos 1 -ℤ l) refl
     where
-      leaf : (n : ℕ) (a b : Bool) → int_le (l +ℤ pos 4096) h ≡ a → nat_le n 4096 ≡ b → (a ≡ true → b ≡ true → ⊥) → (a ≡ false → b ≡ false → ⊥) → int_le (l +ℤ pos 4096) h ≡ not (nat_le n 4096)
+      leaf : (n : ℕ) (a b : Bool) → int_le (l +ℤ pos most_threads) h ≡ a → nat_le n most_threads ≡ b → (a ≡ true → b ≡ true → ⊥) → (a ≡ false → b ≡ false → ⊥) → int_le (l +ℤ pos most_threads) h ≡ not (nat_le n most_threads)
       leaf n true true e e' p q = absurd (p refl refl)
       leaf n true false e e' p q = e ∙ ap not (sym e')
       leaf n false true e e' p q = e ∙ ap not (sym e')
       leaf n false false e e' p q = absurd (q refl refl)
 
-      go : (z : ℤ) → z ≡ h +ℤ pos 1 -ℤ l → int_le (l +ℤ pos 4096) h ≡ not (nat_le (Values.to_nat z) 4096)
-      go (pos n) is = leaf n (int_le (l +ℤ pos 4096) h) (nat_le n 4096) refl refl (λ e e'. let le = leb-true n 4096 e' in omega (arith, ints, e, le, is)) (λ e e'. let gt = leb-false n 4096 e' in omega (arith, ints, e, gt, is))
-      go (negsuc n) is = leaf 0 (int_le (l +ℤ pos 4096) h) true refl refl (λ e e'. omega (arith, ints, e, is)) (λ e e'. true≢false e')
+      go : (z : ℤ) → z ≡ h +ℤ pos 1 -ℤ l → int_le (l +ℤ pos most_threads) h ≡ not (nat_le (Values.to_nat z) most_threads)
+      go (pos n) is = leaf n (int_le (l +ℤ pos most_threads) h) (nat_le n most_threads) refl refl (λ e e'. let le = leb-true n most_threads e' in omega (arith, ints, e, le, is)) (λ e e'. let gt = leb-false n most_threads e' in omega (arith, ints, e, gt, is))
+      go (negsuc n) is = leaf 0 (int_le (l +ℤ pos most_threads) h) true refl refl (λ e e'. omega (arith, ints, e, is)) (λ e e'. true≢false e')
 
   one_least : (l h : ℤ) → int_le l h ≡ true → nat_le 1 (Values.count l h) ≡ true
   one_least l h e = go (h +ℤ pos 1 -ℤ l) refl
@@ -220,36 +220,36 @@ module _ (limit : ℕ) (cuts : ℕ → ℕ → List ℕ) (program : Program) (c 
     chunking_of l h = record { most = Values.count l h; even = true; bound = λ j. Meaning.with_parameter kc (l +ℤ pos j) }
 
     abbrev last_test : ℤ → ℤ → Stored R
-    last_test l h = stored.bind (stored.bind (Meaning.unless oper (nat_le (Values.count l h) 4096) reason.StorageError) (λ _. stored.ret (chunking_of l h))) then
+    last_test l h = stored.bind (stored.bind (Meaning.unless oper (nat_le (Values.count l h) most_threads) reason.StorageError) (λ _. stored.ret (chunking_of l h))) then
 
     abbrev Onward : ℕ → Type 0
-    Onward to = (k : Chunking) (cl ch : ℤ) → Chunks (Each kc low high check) cl ch k → nat_le 1 (many cl ch) ≡ true → nat_le (many cl ch) 4096 ≡ true → Runs limit c f x (bounds cl ch) any (then k) (λ d. on f to stk d) goal
+    Onward to = (k : Chunking) (cl ch : ℤ) → Chunks (Each kc low high check) cl ch k → nat_le 1 (many cl ch) ≡ true → nat_le (many cl ch) most_threads ≡ true → Runs limit c f x (bounds cl ch) any (then k) (λ d. on f to stk d) goal
 
-    few_goes : (l h : ℤ) (from to : ℕ) → int_le l h ≡ true → Stands c (one s.scope ht (i.LoadL s.scope.free) ⨟ one s.scope (ht + 1) (i.Field 4096) ⨟ one s.scope (ht + 1) (i.LoadL (s.scope.free + 1)) ⨟ one s.scope (ht + 1 + 1) i.Le ⨟ when_ s.scope ht (one s.scope ht (i.Raise reason.StorageError))) from to → Onward to
+    few_goes : (l h : ℤ) (from to : ℕ) → int_le l h ≡ true → Stands c (one s.scope ht (i.LoadL s.scope.free) ⨟ one s.scope (ht + 1) (i.Field most_threads) ⨟ one s.scope (ht + 1) (i.LoadL (s.scope.free + 1)) ⨟ one s.scope (ht + 1 + 1) i.Le ⨟ when_ s.scope ht (one s.scope ht (i.Raise reason.StorageError))) from to → Onward to
         → Doing limit c f x (bounds l h) g any (last_test l h) (λ d. on f from stk d) goal
     few_goes l h from to le (j1, (j2, (j3, (j4, r)))) k =
         let (at, ar) = stands_when c (from + 1 + 1 + 1 + 1) to s ht (one s.scope ht (i.Raise reason.StorageError)) r in
         does_by limit c f x (λ st d z. comes_on limit c (comes_kept limit cuts c f s.scope.free l stk d z (first_at limit cuts c f x s.scope.free l h g) j1)
-        (comes_on limit c (comes_goes limit c f (l ∷ stk) (from + 1 + 1) ((l +ℤ pos 4096) ∷ stk) d j2 refl)
-        (comes_on limit c (comes_kept limit cuts c f (s.scope.free + 1) h ((l +ℤ pos 4096) ∷ stk) d z (last_at limit cuts c f x s.scope.free l h g) j3)
-        (comes_goes limit c f (h ∷ (l +ℤ pos 4096) ∷ stk) (from + 1 + 1 + 1 + 1) (Deeds.bit (int_le (l +ℤ pos 4096) h) ∷ stk) d j4 refl))))
-        (raise_goes reason.StorageError (nat_le (Values.count l h) 4096) l h (Deeds.bit (int_le (l +ℤ pos 4096) h)) (from + 1 + 1 + 1 + 1) to (truth_bit (int_le (l +ℤ pos 4096) h) ∙ few_same l h) (at_entry en at) ar
+        (comes_on limit c (comes_goes limit c f (l ∷ stk) (from + 1 + 1) ((l +ℤ pos most_threads) ∷ stk) d j2 refl)
+        (comes_on limit c (comes_kept limit cuts c f (s.scope.free + 1) h ((l +ℤ pos most_threads) ∷ stk) d z (last_at limit cuts c f x s.scope.free l h g) j3)
+        (comes_goes limit c f (h ∷ (l +ℤ pos most_threads) ∷ stk) (from + 1 + 1 + 1 + 1) (Deeds.bit (int_le (l +ℤ pos most_threads) h) ∷ stk) d j4 refl))))
+        (raise_goes reason.StorageError (nat_le (Values.count l h) most_threads) l h (Deeds.bit (int_le (l +ℤ pos most_threads) h)) (from + 1 + 1 + 1 + 1) to (truth_bit (int_le (l +ℤ pos most_threads) h) ∙ few_same l h) (at_entry en at) ar
         (λ e. does_assoc limit c f x _ _ then
         (subst (λ b. Doing limit c f x (bounds l h) g any (stored.bind (Meaning.unless oper b reason.StorageError) (λ _. stored.bind (stored.ret (chunking_of l h)) then)) (λ d. on f to stk d) goal) (sym e)
         (does_returned limit c f x (λ _. stored.bind (stored.ret (chunking_of l h)) then) (tt {0})
         (does_returned limit c f x then (chunking_of l h)
         (does_weak limit c f x (λ st d z. back_two l h st d z)
         (k (chunking_of l h) l h (ap (λ n. record { most = n; even = true; bound = λ j. Meaning.with_parameter kc (l +ℤ pos j) }) (sym (to_nat_same (h +ℤ pos 1 -ℤ l))))
-        (ap (λ n. nat_le 1 n) (to_nat_same (h +ℤ pos 1 -ℤ l)) ∙ one_least l h le) (ap (λ n. nat_le n 4096) (to_nat_same (h +ℤ pos 1 -ℤ l)) ∙ e)))))))
+        (ap (λ n. nat_le 1 n) (to_nat_same (h +ℤ pos 1 -ℤ l)) ∙ one_least l h le) (ap (λ n. nat_le n most_threads) (to_nat_same (h +ℤ pos 1 -ℤ l)) ∙ e)))))))
         (λ e. does_assoc limit c f x _ _ then
         (subst (λ b. Doing limit c f x (bounds l h) g any (stored.bind (Meaning.unless oper b reason.StorageError) (λ _. stored.bind (stored.ret (chunking_of l h)) then)) (λ d. thrown reason.StorageError x.entry f d) goal) (sym e)
         (raised reason.StorageError (λ _. stored.bind (stored.ret (chunking_of l h)) then) (back_two l h)))))
 
     abbrev tests_of : ℤ → ℤ → Stored Chunking
-    tests_of l h = stored.bind (Meaning.unless oper (int_le l h) reason.ProgramError) (λ _. stored.bind (Meaning.unless oper (nat_le (Values.count l h) 4096) reason.StorageError) (λ _. stored.ret (chunking_of l h)))
+    tests_of l h = stored.bind (Meaning.unless oper (int_le l h) reason.ProgramError) (λ _. stored.bind (Meaning.unless oper (nat_le (Values.count l h) most_threads) reason.StorageError) (λ _. stored.ret (chunking_of l h)))
 
     abbrev tail_code : Emit
-    tail_code = one s.scope ht (i.LoadL s.scope.free) ⨟ one s.scope (ht + 1) (i.Field 4096) ⨟ one s.scope (ht + 1) (i.LoadL (s.scope.free + 1)) ⨟ one s.scope (ht + 1 + 1) i.Le ⨟ when_ s.scope ht (one s.scope ht (i.Raise reason.StorageError))
+    tail_code = one s.scope ht (i.LoadL s.scope.free) ⨟ one s.scope (ht + 1) (i.Field most_threads) ⨟ one s.scope (ht + 1) (i.LoadL (s.scope.free + 1)) ⨟ one s.scope (ht + 1 + 1) i.Le ⨟ when_ s.scope ht (one s.scope ht (i.Raise reason.StorageError))
 
     -- the range has a value
     passes : (l h : ℤ) (from to : ℕ) → int_le l h ≡ true → Stands c tail_code from to → Onward to → Doing limit c f x (bounds l h) g any (stored.bind (tests_of l h) then) (λ d. on f from stk d) goal
@@ -304,7 +304,7 @@ module _ (limit : ℕ) (cuts : ℕ → ℕ → List ℕ) (program : Program) (c 
 
   -- any of them
   pub chunk_does : (chunk : Chunk) (from to : ℕ) → Stands c (chunk_code program s.scope ht chunk) from to → FittedChunk program globals mains epar s chunk → (then : Chunking → Stored R) (goal : R → Dyn → Step)
-      → ((k : Chunking) (cl ch : ℤ) → Chunks chunk cl ch k → nat_le 1 (many cl ch) ≡ true → nat_le (many cl ch) 4096 ≡ true → Runs limit c f x (bounds cl ch) any (then k) (λ d. on f to stk d) goal)
+      → ((k : Chunking) (cl ch : ℤ) → Chunks chunk cl ch k → nat_le 1 (many cl ch) ≡ true → nat_le (many cl ch) most_threads ≡ true → Runs limit c f x (bounds cl ch) any (then k) (λ d. on f to stk d) goal)
       → Runs limit c f x g any (stored.bind (Meaning.chunking oper limit program calls chunk env) then) (λ d. on f from stk d) goal
   chunk_does NoChunk from to l w then goal k = none_does from to l then goal k
   chunk_does (Count e) from to l w then goal k = count_does e from to l w then goal k

@@ -20,7 +20,7 @@ use Rattle.ada_lower.specs.Emission.{all, arm_codes, exits_of, arm_exits, return
 use Rattle.ada_lower.specs.Fits.{Ghost, Knows}
 use Rattle.ada_lower.specs.FittedForks.{FittedForks, FittedReductions, FittedArms, Within}
 use Rattle.ada_lower.specs.Forks.{threaded, thread_ends}
-use Rattle.ada_lower.specs.Outs.{Out}
+use Rattle.typed_scopes.specs.Outs.{Out}
 use Rattle.ada_lower.proofs.Calls.{CallsDo}
 use Rattle.ada_lower.proofs.Inner.{InnerDo}
 use Rattle.ada_lower.proofs.FoldDoes.{inner_all}

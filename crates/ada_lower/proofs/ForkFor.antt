@@ -9,7 +9,7 @@ use Rattle.ada_meaning.specs.Operations.{Cut, Operations}
 use Rattle.ada_meaning.specs.Stored as stored
 use Rattle.ada_meaning.specs.Stored.{Stored, Cause, OutOfTurns, NoRoom, CutOff, Misnoted, Touch}
 use Rattle.ada_meaning.specs.Meaning
-use Rattle.ada_meaning.specs.Meaning.{Env, Passed, Returned, most_iterations}
+use Rattle.ada_meaning.specs.Meaning.{Env, Passed, Returned, most_iterations, most_threads}
 use Rattle.stack_code.specs.declared.code.Code.{Code}
 use Rattle.stack_code.specs.declared.code.CodeSite.{CodeSite}
 use Rattle.stack_code.specs.declared.instr.Instr.TheVariants as i
@@ -107,7 +107,7 @@ module _ (limit : ℕ) (cuts : ℕ → ℕ → List ℕ) (program : Program) (c 
     -- the fork itself
     module _ (cs : CodeSite) (site : ℕ) (first last chunk last_chunk : ℤ) (site_at : slice_get c.sites site ≡ Some cs) (fork : At c qf (i.Fork site) x.entry)
         (plain : (vs : List ℤ) → answer_of c cs.kind (asked site first last chunk last_chunk (pos 0)) (gave.Numbers vs) ≡ gave.Nothing)
-        (some : nat_le 1 (many chunk last_chunk) ≡ true) (few_threads : nat_le (many chunk last_chunk) 4096 ≡ true)
+        (some : nat_le 1 (many chunk last_chunk) ≡ true) (few_threads : nat_le (many chunk last_chunk) most_threads ≡ true)
         (team : Site) (body : ℕ → ℕ → Stored (Unit {0})) (cut : Cut) (sizes : stored.sizes_of limit cuts cut ≡ sizes_for h.plan cs.kind (asked site first last chunk last_chunk (pos 0)))
         (ok : Share → Type 0) (oks : Every ok (deal 0 0 (sizes_for h.plan cs.kind (asked site first last chunk last_chunk (pos 0)))))
         (threads : (j : Share) → ok j → ThreadDoes limit c (may) h fi cs (asked site first last chunk last_chunk (pos 0)) (λ (u : Unit {0}). None) j (stored.loop_thread (λ j. body (Rattle.ada_meaning.specs.Operations.chunk_of cut j)) j))
@@ -158,9 +158,9 @@ module _ (limit : ℕ) (cuts : ℕ → ℕ → List ℕ) (program : Program) (c 
           go : (b : Bool) → nat_le (many first last) most_iterations ≡ b
               → Doing limit c f x h g any (stored.bind (Meaning.unless ops b reason.StorageError) (λ _. stored.handles (stored.noted_loops limit cuts team cut body) (Meaning.exits number) (λ _. stored.ret (tt {0})))) from_fork (λ _ d. on f to [] d)
           go true e = does_returned limit c f x (λ _. stored.handles (stored.noted_loops limit cuts team cut body) (Meaning.exits number) (λ _. stored.ret (tt {0}))) (tt {0})
-              (caught (inside_by (ap (λ t. t && (nat_le 1 (many chunk last_chunk) && nat_le (many chunk last_chunk) 4096)) e ∙ ap₂ (λ t u. t && u) some few_threads)))
+              (caught (inside_by (ap (λ t. t && (nat_le 1 (many chunk last_chunk) && nat_le (many chunk last_chunk) most_threads)) e ∙ ap₂ (λ t u. t && u) some few_threads)))
           go false e = weaker (does_is limit c f x {to = λ _ d. on f to [] d} (Err (stored.Left (Raises reason.StorageError))) (λ st. refl)
-              (λ d. comes_on limit c (comes_too_many limit c fi first last chunk last_chunk (pos 0) [] d fork (ap (λ t. t && (nat_le 1 (many chunk last_chunk) && nat_le (many chunk last_chunk) 4096)) e)) (left_as_nested limit c f x (Raises reason.StorageError) d)))
+              (λ d. comes_on limit c (comes_too_many limit c fi first last chunk last_chunk (pos 0) [] d fork (ap (λ t. t && (nat_le 1 (many chunk last_chunk) && nat_le (many chunk last_chunk) most_threads)) e)) (left_as_nested limit c f x (Raises reason.StorageError) d)))
 
       -- where nothing is handled and the count is static
       pub blocked_does : can_fork (many first last) (many chunk last_chunk) ≡ true → ((w : Leave) → may w → Meaning.exits number w ≡ false)

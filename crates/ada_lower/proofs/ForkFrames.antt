@@ -119,7 +119,7 @@ fit_framed {g} {s} {d} ns mine order w = record {
   least = w.least;
   most = w.most;
   top = length-append d.cells ns ∙ ap (λ n. n + length ns) w.top;
-  agrees = record { turns = w.agrees.turns; left = w.agrees.left; taken = w.agrees.taken; held = w.agrees.held; input = w.agrees.input; output = w.agrees.output; notes = w.agrees.notes };
+  agrees = record { turns = w.agrees.turns; left = w.agrees.left; taken = w.agrees.taken; held = w.agrees.held; input = w.agrees.input; output = w.agrees.output; notes = w.agrees.notes; done = w.agrees.done };
   plan = w.plan;
   order = λ o. order;
   cells = λ a. go a (nat_lt a g.top) (nat_lt a (g.top + length ns)) refl refl;
@@ -171,7 +171,7 @@ fit_unframed {g} {h} {s} {d} n beyond e1 e2 e3 e4 e5 e6 e7 same w =
       top = length_take g.top d.cells (omega (arith, len));
       least = subst (λ n. n ≤ s.turns) e5 w.least;
       most = subst (λ n. s.turns ≤ n) e6 w.most;
-      agrees = record { turns = w.agrees.turns; left = w.agrees.left; taken = w.agrees.taken; held = w.agrees.held; input = w.agrees.input; output = w.agrees.output; notes = w.agrees.notes };
+      agrees = record { turns = w.agrees.turns; left = w.agrees.left; taken = w.agrees.taken; held = w.agrees.held; input = w.agrees.input; output = w.agrees.output; notes = w.agrees.notes; done = w.agrees.done };
       plan = w.plan ∙ e7.0;
       order = λ o. w.order e7.1;
       cells = λ a. go a (nat_lt a g.top) refl;

@@ -126,7 +126,7 @@ module _ (limit : ℕ) (c : Code) where
   some_is e = cc
 
   -- what the threads of a fork come to is one
-  fork_once : (n m : ℕ) (q : Asked) (p : Path) (r r' : Forked) → ((m : ℕ) → n ≤ m → fork c (λ x. goes limit c m x) q p ≡ Some r) → fork c (λ x. goes limit c m x) q p ≡ Some r' → r ≡ r'
+  pub fork_once : (n m : ℕ) (q : Asked) (p : Path) (r r' : Forked) → ((m : ℕ) → n ≤ m → fork c (λ x. goes limit c m x) q p ≡ Some r) → fork c (λ x. goes limit c m x) q p ≡ Some r' → r ≡ r'
   fork_once n m q p r r' is e =
       some_is (sym (is (n + m) (omega arith)) ∙ site_more (λ x. goes limit c m x) (λ x. goes limit c (n + m) x) (λ x f z. goes_by m (n + m) x f (omega arith) z) (slice_get c.sites q.site) q p r' e)
 

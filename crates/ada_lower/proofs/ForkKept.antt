@@ -9,7 +9,7 @@ use Rattle.ada_meaning.specs.Operations.{Operations}
 use Rattle.ada_meaning.specs.Stored as stored
 use Rattle.ada_meaning.specs.Stored.{Stored, Cause, OutOfTurns, NoRoom, CutOff, Misnoted}
 use Rattle.ada_meaning.specs.Meaning
-use Rattle.ada_meaning.specs.Meaning.{most_iterations, Env}
+use Rattle.ada_meaning.specs.Meaning.{most_iterations, Env, most_threads}
 use Rattle.stack_code.specs.declared.code.Code.{Code}
 use Rattle.stack_code.specs.declared.code.CodeSite.{CodeSite}
 use Rattle.stack_code.specs.declared.instr.Instr.TheVariants as i
@@ -60,7 +60,7 @@ module _ (limit : ℕ) (cuts : ℕ → ℕ → List ℕ) (c : Code) (f : Fixed) 
   with_accumulators (a ∷ more) d = on (keeping more f) (past + 1) (a ∷ st) d
 
   module _ (given_all : (vs : List ℤ) → answer_of c cs.kind q (gave.Numbers vs) ≡ combined_by c None initial vs)
-      (some : nat_le 1 (many chunk last_chunk) ≡ true) (few_threads : nat_le (many chunk last_chunk) 4096 ≡ true)
+      (some : nat_le 1 (many chunk last_chunk) ≡ true) (few_threads : nat_le (many chunk last_chunk) most_threads ≡ true)
       (team : Site) (body : Share → Stored ℤ) (ok : Share → Type 0) (threads : (j : Share) → ok j → ThreadDoes limit c OnlyRaises h fi cs q (λ a. Some a) j (body j))
       {sh : Sight} {eh : Env} (knows : Knows limit cuts h fi sh eh) (lends : Lends fi h cs q team (deal 0 0 (sizes_for h.plan cs.kind q)))
       (seen : (owner : ℕ → Option ℕ) → Apart h owner → (j : Share) → ok j → ThreadDoes limit c OnlyRaises (view_ghost owner j.number h) fi cs q (λ a. Some a) j (body j)) where
@@ -114,8 +114,8 @@ module _ (limit : ℕ) (cuts : ℕ → ℕ → List ℕ) (c : Code) (f : Fixed) 
           → Runs limit c f x h any (stored.bind (Meaning.unless oper (nat_le (many first last) most_iterations) reason.StorageError) (λ _. stored.bind (stored.noted_team team stored.after_all [] js body) (λ accs. stored.combined limit cuts initial accs combine))) from_fork (λ v d. on f to (v ∷ st) d)
       kept_does combine to law = does_bind limit c f x
           (does_unless limit c f x {to = from_fork} cuts (nat_le (many first last) most_iterations) reason.StorageError (λ e d. comes_here limit c (from_fork d))
-          (λ e d. comes_on limit c (comes_too_many limit c fi first last chunk last_chunk initial st d fork (ap (λ t. t && (nat_le 1 (many chunk last_chunk) && nat_le (many chunk last_chunk) 4096)) e)) (left_as_nested limit c f x (Raises reason.StorageError) d)))
-          (λ u e. does_bind limit c f x (team_does (ap (λ t. t && (nat_le 1 (many chunk last_chunk) && nat_le (many chunk last_chunk) 4096)) e ∙ ap₂ (λ t u. t && u) some few_threads)) (λ accs _. combines accs))
+          (λ e d. comes_on limit c (comes_too_many limit c fi first last chunk last_chunk initial st d fork (ap (λ t. t && (nat_le 1 (many chunk last_chunk) && nat_le (many chunk last_chunk) most_threads)) e)) (left_as_nested limit c f x (Raises reason.StorageError) d)))
+          (λ u e. does_bind limit c f x (team_does (ap (λ t. t && (nat_le 1 (many chunk last_chunk) && nat_le (many chunk last_chunk) most_threads)) e ∙ ap₂ (λ t u. t && u) some few_threads)) (λ accs _. combines accs))
         where
           combines : (accs : List ℤ) → Runs limit c f x h any (stored.combined limit cuts initial accs combine) (with_accumulators accs) (λ v d. on f to (v ∷ st) d)
           combines [] = law initial []

@@ -11,7 +11,7 @@ use Rattle.ada_meaning.specs.Operations.{chunk_of, Operations}
 use Rattle.ada_meaning.specs.Stored as stored
 use Rattle.ada_meaning.specs.Stored.{Stored}
 use Rattle.ada_meaning.specs.Meaning
-use Rattle.ada_meaning.specs.Meaning.{Env, ObjectPart, Passed, Returned, Chunking, Course, inside, most_iterations, cut_of}
+use Rattle.ada_meaning.specs.Meaning.{Env, ObjectPart, Passed, Returned, Chunking, Course, inside, most_iterations, cut_of, most_threads}
 use Rattle.stack_code.specs.declared.code.Code.{Code}
 use Rattle.stack_code.specs.declared.code.CodeSite.{CodeSite}
 use Rattle.stack_code.specs.declared.instr.Instr.TheVariants as i
@@ -164,7 +164,7 @@ module _ (limit : ℕ) (cuts : ℕ → ℕ → List ℕ) (within : Within cuts) 
         (lends : (k : Chunking) (cl ch : ℤ) (q : ObjectPart) (a0 : ℕ) → Chunks chunk cl ch k → (gg : Ghost) → Knows limit cuts gg (nested_in f) (taking 2 (taking 2 s)) (inside env) → Spread gg (named_entity constant q.object) q.offset (count * stride) a0
         → Lends (nested_in f) gg cs (Deeds.asked site (pos 1) (pos count) cl ch (pos 0)) (team_of k q) (deal 0 0 (sizes_for gg.plan cs.kind (Deeds.asked site (pos 1) (pos count) cl ch (pos 0))))) where
       -- from the array on
-      ranged : (k : Chunking) (cl ch : ℤ) (q : ObjectPart) (a0 : ℕ) → Spread (g2 cl ch a0) (named_entity constant q.object) q.offset (count * stride) a0 → Chunks chunk cl ch k → nat_le 1 (many cl ch) ≡ true → nat_le (many cl ch) 4096 ≡ true → (m2 to : ℕ)
+      ranged : (k : Chunking) (cl ch : ℤ) (q : ObjectPart) (a0 : ℕ) → Spread (g2 cl ch a0) (named_entity constant q.object) q.offset (count * stride) a0 → Chunks chunk cl ch k → nat_le 1 (many cl ch) ≡ true → nat_le (many cl ch) most_threads ≡ true → (m2 to : ℕ)
           → Stands c (ends_code (taking 2 r).scope 0 it ⨟ fork_code r.scope 0 2 (loop_kind chunk) site s.scope.free (one r.scope 4 (i.Push (pos 0)))
           (let t = thread_sight site cs.frame (taking 2 (taking 2 s)) in Emission.threaded program t.scope 0 chunk (s.scope.free + 1 + 1) it body ⨟ one (chunk_sight chunk (taking 2 t)).scope 0 i.End)
           ⨟ one r.scope 2 i.Unnest ⨟ left_code (taking 2 (taking 2 s)).scope number all) m2 to

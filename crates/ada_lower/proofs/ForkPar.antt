@@ -32,7 +32,7 @@ fit_noted {g} {s} {d} ns order w = record {
   top = w.top;
   least = w.least;
   most = w.most;
-  agrees = record { turns = w.agrees.turns; left = w.agrees.left; taken = w.agrees.taken; held = w.agrees.held; input = w.agrees.input; output = w.agrees.output; notes = refl };
+  agrees = record { turns = w.agrees.turns; left = w.agrees.left; taken = w.agrees.taken; held = w.agrees.held; input = w.agrees.input; output = w.agrees.output; notes = refl; done = w.agrees.done };
   plan = w.plan;
   order = order;
   cells = λ a. right_same (g.what a) s (record s { notes = ns }) _ refl refl (w.cells a);

@@ -12,7 +12,7 @@ use Rattle.ada_meaning.specs.Operations.{chunk_of, Operations}
 use Rattle.ada_meaning.specs.Stored as stored
 use Rattle.ada_meaning.specs.Stored.{Stored}
 use Rattle.ada_meaning.specs.Meaning
-use Rattle.ada_meaning.specs.Meaning.{Env, Passed, Returned, Chunking, Course, inside, most_iterations, cut_of}
+use Rattle.ada_meaning.specs.Meaning.{Env, Passed, Returned, Chunking, Course, inside, most_iterations, cut_of, most_threads}
 use Rattle.stack_code.specs.declared.code.Code.{Code}
 use Rattle.stack_code.specs.declared.code.CodeSite.{CodeSite}
 use Rattle.stack_code.specs.declared.instr.Instr.TheVariants as i
@@ -245,7 +245,7 @@ module _ (limit : ℕ) (cuts : ℕ → ℕ → List ℕ) (program : Program) (c 
         (lends : (k : Chunking) (cl ch l u : ℤ) → Chunks chunk cl ch k → (gg : Ghost) → Knows limit cuts gg (nested_in f) (taking 2 (taking 2 s)) (inside env)
         → Lends (nested_in f) gg cs (Rattle.stack_code.specs.Deeds.asked site l u cl ch (pos 0)) (team_of k l u) (deal 0 0 (sizes_for gg.plan cs.kind (Rattle.stack_code.specs.Deeds.asked site l u cl ch (pos 0))))) where
       -- from the two ranges on
-      ranged : (k : Chunking) (cl ch l u : ℤ) → Chunks chunk cl ch k → nat_le 1 (many cl ch) ≡ true → nat_le (many cl ch) 4096 ≡ true → (m2 to : ℕ)
+      ranged : (k : Chunking) (cl ch l u : ℤ) → Chunks chunk cl ch k → nat_le 1 (many cl ch) ≡ true → nat_le (many cl ch) most_threads ≡ true → (m2 to : ℕ)
           → Stands c (ends_code (taking 2 r).scope 0 it ⨟ fork_code r.scope 0 2 (loop_kind chunk) site s.scope.free (one r.scope 4 (i.Push (pos 0)))
           (let t = thread_sight site cs.frame (taking 2 (taking 2 s)) in Emission.threaded program t.scope 0 chunk (s.scope.free + 1 + 1) it body ⨟ one (chunk_sight chunk (taking 2 t)).scope 0 i.End)
           ⨟ one r.scope 2 i.Unnest ⨟ left_code (taking 2 (taking 2 s)).scope number all) m2 to
@@ -292,7 +292,7 @@ module _ (limit : ℕ) (cuts : ℕ → ℕ → List ℕ) (program : Program) (c 
       -- what the code of a chunk specification does
       abbrev pub ChunkLaw : Type 1
       ChunkLaw = (from to : ℕ) → Stands c (chunk_code program r.scope 0 chunk) from to → (then : Chunking → Stored (Unit {0})) (goal : Unit {0} → Dyn → Step)
-          → ((k : Chunking) (cl ch : ℤ) → Chunks chunk cl ch k → nat_le 1 (many cl ch) ≡ true → nat_le (many cl ch) 4096 ≡ true → Runs limit c fi x (g1 cl ch) any (then k) (λ d. on fi to [] d) goal)
+          → ((k : Chunking) (cl ch : ℤ) → Chunks chunk cl ch k → nat_le 1 (many cl ch) ≡ true → nat_le (many cl ch) most_threads ≡ true → Runs limit c fi x (g1 cl ch) any (then k) (λ d. on fi to [] d) goal)
           → Runs limit c fi x g any (stored.bind (Meaning.chunking oper limit program calls chunk (inside env)) then) (λ d. on fi from [] d) goal
 
       abbrev pub parallel : Stored (Unit {0})

@@ -84,7 +84,7 @@ module _ (owner : ℕ → Option ℕ) (j : ℕ) where
     plan = w.plan;
     order = w.order;
     top = length_viewed (λ a. access_by (owner a) j) 0 d.cells ∙ w.top;
-    agrees = record { turns = w.agrees.turns; left = w.agrees.left; taken = w.agrees.taken; held = w.agrees.held; input = w.agrees.input; output = w.agrees.output; notes = w.agrees.notes };
+    agrees = record { turns = w.agrees.turns; left = w.agrees.left; taken = w.agrees.taken; held = w.agrees.held; input = w.agrees.input; output = w.agrees.output; notes = w.agrees.notes; done = w.agrees.done };
     cells = λ a. right_view (λ a. access_by (owner a) j) s d.cells a (g.what a) (w.cells a);
   }
 

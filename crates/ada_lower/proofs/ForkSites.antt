@@ -14,7 +14,7 @@ use Rattle.ada_meaning.specs.Operations.{chunk_of, Operations, reduce}
 use Rattle.ada_meaning.specs.Stored as stored
 use Rattle.ada_meaning.specs.Stored.{Stored}
 use Rattle.ada_meaning.specs.Meaning
-use Rattle.ada_meaning.specs.Meaning.{Env, ObjectPart, Passed, Returned, Chunking, Course, inside, most_iterations, value_cut_of}
+use Rattle.ada_meaning.specs.Meaning.{Env, ObjectPart, Passed, Returned, Chunking, Course, inside, most_iterations, value_cut_of, most_threads}
 use Rattle.stack_code.specs.declared.code.Code.{Code}
 use Rattle.stack_code.specs.declared.code.CodeSite.{CodeSite}
 use Rattle.stack_code.specs.declared.instr.Instr.TheVariants as i
@@ -127,8 +127,8 @@ module _ (limit : ℕ) (cuts : ℕ → ℕ → List ℕ) (program : Program) (c 
 
   -- what code does from a fork to where its accumulators are one
   abbrev pub Finish : Type 1
-  Finish = (gg : Ghost) → Knows limit cuts gg f s5 env → (l u cl ch start : ℤ) (qf past to : ℕ) → At c (qf + 1) (i.Jump past) x.entry → At c past i.Unnest x.entry → Stands c (combined s.scope (ht + 1) by) (past + 1) to → At c qf (i.Fork site) x.entry
-      → nat_le 1 (many cl ch) ≡ true → nat_le (many cl ch) 4096 ≡ true → (team : Site) (body : Share → Stored ℤ) (ok : Share → Type 0) → ((j : Share) → ok j → ThreadDoes limit c OnlyRaises gg fi cs (Deeds.asked site l u cl ch start) (λ a. Some a) j (body j))
+  Finish = (gg : Ghost) → Knows limit cuts gg f s5 env → (l u cl ch start : ℤ) (qf past to : ℕ) → At c (qf + 1) (i.Jump past) x.entry → At c past i.Unnest x.entry → Stands c (combined s5.scope ht by) (past + 1) to → At c qf (i.Fork site) x.entry
+      → nat_le 1 (many cl ch) ≡ true → nat_le (many cl ch) most_threads ≡ true → (team : Site) (body : Share → Stored ℤ) (ok : Share → Type 0) → ((j : Share) → ok j → ThreadDoes limit c OnlyRaises gg fi cs (Deeds.asked site l u cl ch start) (λ a. Some a) j (body j))
       → Lends fi gg cs (Deeds.asked site l u cl ch start) team (deal 0 0 (sizes_for gg.plan cs.kind (Deeds.asked site l u cl ch start)))
       → ((owner : ℕ → Option ℕ) → Apart gg owner → (j : Share) → ok j → ThreadDoes limit c OnlyRaises (view_ghost owner j.number gg) fi cs (Deeds.asked site l u cl ch start) (λ a. Some a) j (body j))
       → (js : List Share) → js ≡ deal 0 0 (sizes_for gg.plan cs.kind (Deeds.asked site l u cl ch start)) → Every ok (deal 0 0 (sizes_for gg.plan cs.kind (Deeds.asked site l u cl ch start)))
@@ -137,16 +137,16 @@ module _ (limit : ℕ) (cuts : ℕ → ℕ → List ℕ) (program : Program) (c 
 
   module _ (finish : Finish) where
     -- from the first and the last on the stack on
-    core : (it : Iteration) (co : Course) (l u : ℤ) → many l u ≡ co.count → (gg : Ghost) → Knows limit cuts gg f s5 env → gg.plan ≡ cuts → (start cl ch : ℤ) (k : Chunking) → Chunks chunk cl ch k → nat_le 1 (many cl ch) ≡ true → nat_le (many cl ch) 4096 ≡ true
+    core : (it : Iteration) (co : Course) (l u : ℤ) → many l u ≡ co.count → (gg : Ghost) → Knows limit cuts gg f s5 env → gg.plan ≡ cuts → (start cl ch : ℤ) (k : Chunking) → Chunks chunk cl ch k → nat_le 1 (many cl ch) ≡ true → nat_le (many cl ch) most_threads ≡ true
         → gg.what (f.base + s.scope.free) ≡ Keeps start → gg.what (f.base + s1.scope.free) ≡ Keeps cl → gg.what (f.base + (s1.scope.free + 1)) ≡ Keeps ch → (tb : Emit) (m3 to : ℕ)
-        → Stands c (fork_code r.scope ht (ht + 1) (reduction_kind by chunk) site (s.scope.free + 1) (one r.scope (ht + 1 + 1 + 1 + 1) (i.LoadL s.scope.free)) tb ⨟ one r.scope (ht + 1) i.Unnest ⨟ combined s.scope (ht + 1) by) m3 to
+        → Stands c (fork_code r.scope ht (ht + 1) (reduction_kind by chunk) site (s.scope.free + 1) (one r.scope (ht + 1 + 1 + 1 + 1) (i.LoadL s.scope.free)) tb ⨟ one r.scope (ht + 1) i.Unnest ⨟ combined s5.scope ht by) m3 to
         → (ok : Share → Type 0) → Every ok (deal 0 0 (sizes_for gg.plan cs.kind (Deeds.asked site l u cl ch start)))
         → ((m4 : ℕ) → Stands c tb cs.entry m4 → (j : Share) → ok j → ThreadDoes limit c OnlyRaises gg fi cs (Deeds.asked site l u cl ch start) (λ z. Some z) j (thread_of co start k j))
         → Lends fi gg cs (Deeds.asked site l u cl ch start) (Meaning.site_at site chunk it (value_cut_of k co.count) k co (inside env)) (deal 0 0 (sizes_for gg.plan cs.kind (Deeds.asked site l u cl ch start)))
         → ((m4 : ℕ) → Stands c tb cs.entry m4 → (owner : ℕ → Option ℕ) → Apart gg owner → (j : Share) → ok j → ThreadDoes limit c OnlyRaises (view_ghost owner j.number gg) fi cs (Deeds.asked site l u cl ch start) (λ z. Some z) j (thread_of co start k j))
         → Runs limit c f x gg any (after_course it start k co) (λ d. on fi m3 (u ∷ l ∷ st) d) (λ v d. on f to (v ∷ st) d)
     core it co l u counted gg kg plan start cl ch k told some few e0 e1 e2 tb m3 to stands ok oks threads lends seen =
-        let (m4, (jd0, (jd1, (jp, (jf, lb)))), (ju, lz)) = stands_seq c m3 to (fork_code r.scope ht (ht + 1) (reduction_kind by chunk) site (s.scope.free + 1) (one r.scope (ht + 1 + 1 + 1 + 1) (i.LoadL s.scope.free)) tb) (one r.scope (ht + 1) i.Unnest ⨟ combined s.scope (ht + 1) by) stands in
+        let (m4, (jd0, (jd1, (jp, (jf, lb)))), (ju, lz)) = stands_seq c m3 to (fork_code r.scope ht (ht + 1) (reduction_kind by chunk) site (s.scope.free + 1) (one r.scope (ht + 1 + 1 + 1 + 1) (i.LoadL s.scope.free)) tb) (one r.scope (ht + 1) i.Unnest ⨟ combined s5.scope ht by) stands in
         let (jj, bd) = stands_behind c (m3 + 1 + 1 + 1 + 1) m4 r.scope (ht + 1) tb lb in
         let q : Asked = Deeds.asked site l u cl ch start in
         does_by limit c f x (λ w d z.
@@ -168,7 +168,7 @@ module _ (limit : ℕ) (cuts : ℕ → ℕ → List ℕ) (program : Program) (c 
     -- up to where the construct's course is known
     begun_does : (it : Iteration) → Fitted program globals mains epar s initial → FittedChunk program globals mains epar r chunk → (rest : Emit) (from to : ℕ)
         → Stands c (emit program s.scope ht initial ⨟ Emission.keep s.scope (ht + 1) s.scope.free ⨟ one s.scope ht i.Nest ⨟ chunk_code program r.scope ht chunk ⨟ rest) from to
-        → ((start cl ch : ℤ) (k : Chunking) (m1 : ℕ) → Chunks chunk cl ch k → nat_le 1 (many cl ch) ≡ true → nat_le (many cl ch) 4096 ≡ true → Stands c rest m1 to
+        → ((start cl ch : ℤ) (k : Chunking) (m1 : ℕ) → Chunks chunk cl ch k → nat_le 1 (many cl ch) ≡ true → nat_le (many cl ch) most_threads ≡ true → Stands c rest m1 to
         → Runs limit c fi x (g1 start cl ch) any (stored.bind (Meaning.course oper limit program calls it (inside env)) (λ co. after_course it start k co)) (λ d. on fi m1 st d) (λ v d. on f to (v ∷ st) d))
         → Runs limit c f x g any (stored.bind (Meaning.eval oper limit program calls initial env) (reducing it)) (λ d. on f from st d) (λ v d. on f to (v ∷ st) d)
     begun_does it wi wc rest from to stands go =
@@ -215,18 +215,18 @@ module _ (limit : ℕ) (cuts : ℕ → ℕ → List ℕ) (program : Program) (c 
       tb = one t1.scope 0 (i.LoadL 1) ⨟ Emission.turns_code t1.scope 1 2 (one t1.scope 1 i.Turn ⨟ value turn.scope) ⨟ one t1.scope 1 i.EndV
 
       abbrev tail_code : Emit
-      tail_code = ends_code (taking 2 r).scope ht it ⨟ fork_code r.scope ht (ht + 1) (reduction_kind by chunk) site (s.scope.free + 1) (one r.scope (ht + 1 + 1 + 1 + 1) (i.LoadL s.scope.free)) tb ⨟ one r.scope (ht + 1) i.Unnest ⨟ combined s.scope (ht + 1) by
+      tail_code = ends_code (taking 2 r).scope ht it ⨟ fork_code r.scope ht (ht + 1) (reduction_kind by chunk) site (s.scope.free + 1) (one r.scope (ht + 1 + 1 + 1 + 1) (i.LoadL s.scope.free)) tb ⨟ one r.scope (ht + 1) i.Unnest ⨟ combined s5.scope ht by
 
       module _ (step : (f' : Fixed) (fc : Alike f' f) → f'.nested ≡ f.nested + 1 → (g' : Ghost) (env' : Env) (a : ℤ) (head mid : ℕ) → Knows limit cuts g' f' turn env' → Stands c (one t1.scope 1 i.Turn ⨟ value turn.scope) head mid
           → Runs limit c f' thread_ends g' any (turning env' a) (λ d. on f' head (a ∷ []) d) (λ b d. on f' mid (b ∷ []) d))
           (leaves_so : (first size : ℕ) (start : ℤ) (envs : ℕ → Env) (w : stored.State) (l : Leave) → ((through stored.doings first size start (λ i a. turning (envs i) a)).does w).end ≡ Err (stored.Left l) → OnlyRaises l)
           (lends : (start cl ch l u : ℤ) (k : Chunking) → Chunks chunk cl ch k → (gg : Ghost) → Knows limit cuts gg (nested_in f) s5 (inside env)
           → Lends (nested_in f) gg cs (Deeds.asked site l u cl ch start) (Meaning.site_at site chunk it (value_cut_of k (Values.count l u)) k (course_of l u) (inside env)) (deal 0 0 (sizes_for gg.plan cs.kind (Deeds.asked site l u cl ch start)))) where
-        ranged : (start cl ch l u : ℤ) (k : Chunking) → Chunks chunk cl ch k → nat_le 1 (many cl ch) ≡ true → nat_le (many cl ch) 4096 ≡ true → (m2 to : ℕ) → Stands c tail_code m2 to
+        ranged : (start cl ch l u : ℤ) (k : Chunking) → Chunks chunk cl ch k → nat_le 1 (many cl ch) ≡ true → nat_le (many cl ch) most_threads ≡ true → (m2 to : ℕ) → Stands c tail_code m2 to
             → Runs limit c f x (g2 start cl ch l u) any (after_course it start k (course_of l u)) (λ d. on fi m2 st d) (λ v d. on f to (v ∷ st) d)
         unfolding Rattle.ada_lower.specs.Emission.emit
         ranged start cl ch l u k told some few m2 to stands =
-            let rest : Emit = fork_code r.scope ht (ht + 1) (reduction_kind by chunk) site (s.scope.free + 1) (one r.scope (ht + 1 + 1 + 1 + 1) (i.LoadL s.scope.free)) tb ⨟ one r.scope (ht + 1) i.Unnest ⨟ combined s.scope (ht + 1) by in
+            let rest : Emit = fork_code r.scope ht (ht + 1) (reduction_kind by chunk) site (s.scope.free + 1) (one r.scope (ht + 1 + 1 + 1 + 1) (i.LoadL s.scope.free)) tb ⨟ one r.scope (ht + 1) i.Unnest ⨟ combined s5.scope ht by in
             let (m3, (je1, (je2, ze)), r3) = stands_seq c m2 to (ends_code (taking 2 r).scope ht it) rest stands in
             let gg : Ghost = g2 start cl ch l u in
             does_by limit c f x (λ w d z.
@@ -293,17 +293,17 @@ module _ (limit : ℕ) (cuts : ℕ → ℕ → List ℕ) (program : Program) (c 
       tbi = one t1.scope 0 (i.LoadL 1) ⨟ Emission.items_code t1.scope 1 2 (s.scope.free + 1 + 1 + 1) stride count (one t1.scope 1 i.Turn ⨟ item_value item_turn.scope) ⨟ one t1.scope 1 i.EndV
 
       abbrev tail_items : Emit
-      tail_items = ends_code (taking 2 r).scope ht its ⨟ fork_code r.scope ht (ht + 1) (reduction_kind by chunk) site (s.scope.free + 1) (one r.scope (ht + 1 + 1 + 1 + 1) (i.LoadL s.scope.free)) tbi ⨟ one r.scope (ht + 1) i.Unnest ⨟ combined s.scope (ht + 1) by
+      tail_items = ends_code (taking 2 r).scope ht its ⨟ fork_code r.scope ht (ht + 1) (reduction_kind by chunk) site (s.scope.free + 1) (one r.scope (ht + 1 + 1 + 1 + 1) (i.LoadL s.scope.free)) tbi ⨟ one r.scope (ht + 1) i.Unnest ⨟ combined s5.scope ht by
 
       module _ (step : (f' : Fixed) (fc : Alike f' f) → f'.nested ≡ f.nested + 1 → (g' : Ghost) (env' : Env) (a : ℤ) (head mid : ℕ) → Knows limit cuts g' f' item_turn env' → Stands c (one t1.scope 1 i.Turn ⨟ item_value item_turn.scope) head mid
           → Runs limit c f' thread_ends g' any (turning env' a) (λ d. on f' head (a ∷ []) d) (λ b d. on f' mid (b ∷ []) d))
           (leaves_so : (first size : ℕ) (start : ℤ) (envs : ℕ → Env) (w : stored.State) (l : Leave) → ((through stored.doings first size start (λ i a. turning (envs i) a)).does w).end ≡ Err (stored.Left l) → OnlyRaises l)
           (lends : (start cl ch : ℤ) (q : ObjectPart) (a0 : ℕ) (k : Chunking) → Chunks chunk cl ch k → (gg : Ghost) → Knows limit cuts gg (nested_in f) s5 (inside env) → Spread gg (named_entity constant q.object) q.offset (count * stride) a0
           → Lends (nested_in f) gg cs (Deeds.asked site (pos 1) (pos count) cl ch start) (Meaning.site_at site chunk its (value_cut_of k count) k (course_with q) (inside env)) (deal 0 0 (sizes_for gg.plan cs.kind (Deeds.asked site (pos 1) (pos count) cl ch start)))) where
-        listed_on : (start cl ch : ℤ) (q : ObjectPart) (a0 : ℕ) → Spread (ga start cl ch a0) (named_entity constant q.object) q.offset (count * stride) a0 → (k : Chunking) → Chunks chunk cl ch k → nat_le 1 (many cl ch) ≡ true → nat_le (many cl ch) 4096 ≡ true → (m2 to : ℕ) → Stands c tail_items m2 to
+        listed_on : (start cl ch : ℤ) (q : ObjectPart) (a0 : ℕ) → Spread (ga start cl ch a0) (named_entity constant q.object) q.offset (count * stride) a0 → (k : Chunking) → Chunks chunk cl ch k → nat_le 1 (many cl ch) ≡ true → nat_le (many cl ch) most_threads ≡ true → (m2 to : ℕ) → Stands c tail_items m2 to
             → Runs limit c f x (ga start cl ch a0) any (after_course its start k (course_with q)) (λ d. on fi m2 st d) (λ v d. on f to (v ∷ st) d)
         listed_on start cl ch q a0 part k told some few m2 to stands =
-            let rest : Emit = fork_code r.scope ht (ht + 1) (reduction_kind by chunk) site (s.scope.free + 1) (one r.scope (ht + 1 + 1 + 1 + 1) (i.LoadL s.scope.free)) tbi ⨟ one r.scope (ht + 1) i.Unnest ⨟ combined s.scope (ht + 1) by in
+            let rest : Emit = fork_code r.scope ht (ht + 1) (reduction_kind by chunk) site (s.scope.free + 1) (one r.scope (ht + 1 + 1 + 1 + 1) (i.LoadL s.scope.free)) tbi ⨟ one r.scope (ht + 1) i.Unnest ⨟ combined s5.scope ht by in
             let (m3, (je1, (je2, ze)), r3) = stands_seq c m2 to (ends_code (taking 2 r).scope ht its) rest stands in
             let gg : Ghost = ga start cl ch a0 in
             let same_cell : s.scope.free + 1 + 1 + 1 ≡ s1.scope.free + 2 = omega arith in

@@ -34,7 +34,7 @@ fit_moved {g} {s} {d} n l ns order low high w = record {
   top = w.top;
   least = low;
   most = high;
-  agrees = record { turns = refl; left = refl; taken = w.agrees.taken; held = w.agrees.held; input = w.agrees.input; output = w.agrees.output; notes = refl };
+  agrees = record { turns = refl; left = refl; taken = w.agrees.taken; held = w.agrees.held; input = w.agrees.input; output = w.agrees.output; notes = refl; done = w.agrees.done };
   plan = w.plan;
   order = order;
   cells = λ a. right_same (g.what a) s (moved n l ns s) _ refl refl (w.cells a);
@@ -50,7 +50,7 @@ fit_turned {g} {s} {d} n low high w = record {
   top = w.top;
   least = low;
   most = high;
-  agrees = record { turns = refl; left = w.agrees.left; taken = w.agrees.taken; held = w.agrees.held; input = w.agrees.input; output = w.agrees.output; notes = w.agrees.notes };
+  agrees = record { turns = refl; left = w.agrees.left; taken = w.agrees.taken; held = w.agrees.held; input = w.agrees.input; output = w.agrees.output; notes = w.agrees.notes; done = w.agrees.done };
   plan = w.plan;
   order = w.order;
   cells = λ a. right_same (g.what a) s (record s { turns = n }) _ refl refl (w.cells a);

@@ -9,7 +9,7 @@ use Rattle.stack_code.specs.Operands.{flow_of}
 use Rattle.stack_code.specs.Stands.{IsTarget}
 use Rattle.lower_emission.specs.declared.types.Mark.{Mark}
 use Rattle.lower_emission.specs.declared.types.Placed.{Placed}
-use Rattle.lower_emission.specs.Emits.{Emit, Nothing, One, Seq, Choose, When, Looped, Guarded, Aside, listed, placed}
+use Rattle.lower_emission.specs.Emits.{Emit, Nothing, One, Seq, Choose, When, Looped, Guarded, Aside, From, listed, placed}
 use Rattle.lower_emission.specs.Tables.{begins}
 
 -- ---- code as it is put together
@@ -36,6 +36,7 @@ Fore l t (When m h a) = Marked l m × Fore l t a
 Fore l t (Looped m h at_body body test) = Marked l m × (BeginsTurn body × (((x : ℕ) → Fore (λ y. Also l x y) t (body x)) × ((x : ℕ) → Fore l (λ y. Also t x y) (test x))))
 Fore l t (Guarded m handlers body) = Marked l m × (Fore l t handlers × ((x : ℕ) → Fore (λ y. Also l x y) t (body x)))
 Fore l t (Aside m h a) = Marked l m × Fore l t a
+Fore l t (From a) = (x : ℕ) → Fore l t (a x)
 
 -- ---- where it stands in a list
 
@@ -113,6 +114,7 @@ module _ (ps : List Placed) where
     ((λ n z. inl (omega (arith, z))), (λ n is. lower (omega arith) (omega arith) (lm n (e n is)))),
     all_right l t a (q + 1) fa s (λ n is. lower (omega arith) (omega arith) (lm n is)) tn,
   )
+  all_right l t (From a) q f s lm tn = all_right l t (a q) q (f q) s lm tn
   all_right l t (Looped m h at_body body test) q (e, (begins, (fb, ft))) (s1, (s2, s)) lm tn =
       let bs : List Placed = listed (body (q + 1)) (q + 1 + 1) in
       let at : ℕ = q + 1 + 1 + length bs in

@@ -1,5 +1,5 @@
 -- The code of expressions, values, aggregates, actual parameters and iterations is put together forward.
-use Rattle.std.proofs.Common.{◌≡◌, ℕ, zero, suc, ◌+◌, ◌-◌, min, ℤ, ◌&&◌, List, [], ◌∷◌, nat_eq, nat_lt, Option, Some, None, Bool, true, false, cond, refl, sym, ◌∙◌, inl, inr}
+use Rattle.std.proofs.Common.{◌≡◌, ℕ, zero, suc, ◌+◌, ◌-◌, min, ℤ, pos, ◌&&◌, List, [], ◌∷◌, nat_eq, nat_lt, Option, Some, None, Bool, true, false, cond, refl, sym, ◌∙◌, inl, inr}
 use Rattle.std.proofs.lemmas.Option.{none-some}
 use Rattle.ada_meaning.proofs.Cells.{some_same}
 use Rattle.ada_base.specs.declared.operation.Op.{Op}
@@ -8,6 +8,7 @@ use Rattle.typed_tree.specs.declared.scalars.Class.{Class}
 use Rattle.ada_base.specs.declared.operation.Comparison.{Comparison}
 use Rattle.ada_base.specs.declared.operation.Comparison.TheVariants as comparison
 use Rattle.typed_tree.specs.declared.scalars.Check.{Check}
+use Rattle.typed_tree.specs.declared.scalars.Scalar.{Scalar}
 use Rattle.typed_tree.specs.declared.expressions.Run.{Run}
 use Rattle.typed_tree.specs.declared.expressions.Sign.{Sign}
 use Rattle.typed_tree.specs.declared.expressions.Sign.TheVariants as sign
@@ -20,7 +21,7 @@ use Rattle.stack_code.specs.Stands.{IsTarget}
 use Rattle.lower_emission.specs.Emits.{Emit}
 use Rattle.lower_emission.specs.Scope.{Scope, own, taking, with_exit, with_parameter, with_item, nested, thread_scope, load_at, address_at, load_of, address_of, none, one, ◌⨟◌, root_of, constant_root_of}
 use Rattle.ada_lower.specs.Sights.{Level, Own, Around, Main, Where, Named}
-use Rattle.ada_lower.specs.Emission.{emit, selected, passed, put_into, composed, associated, component, filtered, iterated, chunk_code, course_code, threaded, lost, checked, load_by, load, load_named, load_where, address, is_whole, part_of, unary_instr, binary_instr, compare_instr, falsity, truth, within, negated_code, leaving_by, first_parameter, range_scope, item_scope, counting, bounds_code, ascending, stepping, folding, combined, doubled, filling, fillings, is_plain, iterated_scope, turning, turnings, width, composite_width, array_root_of, chunk_scope, raise_above, raise_beyond, ends_code, fork_code, turns_code, items_code, turn_range, turn_component, cells_of, formal_of, passing}
+use Rattle.ada_lower.specs.Emission.{emit, selected, passed, put_into, composed, associated, component, filtered, iterated, chunk_code, course_code, threaded, lost, checked, load_by, load, load_named, load_where, address, is_whole, part_of, unary_instr, binary_instr, compare_instr, falsity, truth, within, negated_code, leaving_by, first_parameter, range_scope, item_scope, counting, bounds_code, ascending, stepping, folding, ranged, combined, doubled, filling, fillings, is_plain, takes_turns, iterated_scope, turning, turnings, width, composite_width, array_root_of, chunk_scope, raise_above, raise_beyond, ends_code, fork_code, turns_code, items_code, turn_range, turn_component, cells_of, formal_of, passing}
 use Rattle.ada_lower.proofs.Forward.{BeginsTurn, Also, Fore}
 
 -- the handler and the exits that are known where code is emitted are landmarks
@@ -137,9 +138,13 @@ module _ (l t : ℕ → Type 0) (s : Scope) (k : Known l s) where
   fore_folding h (Operator at o class) = fore_binary (h + 1 + 1) o class
   fore_folding h (Function at sub accumulator value) = (((λ n z. absurd z), k.0), (((λ n z. absurd z), k.0), (((λ n z. absurd z), k.0), (((λ n z. absurd z), k.0), (((λ n z. absurd z), k.0), (((λ n z. absurd z), k.0), ((λ n z. absurd z), k.0)))))))
 
+  fore_ranged : (h n : ℕ) (subtype : Scalar) → Fore l t (ranged s h n subtype)
+  fore_ranged h n subtype = (((λ n z. absurd z), k.0), (((λ n z. absurd z), k.0), (((λ n z. absurd z), k.0), (((λ n z. absurd z), k.0), (((λ n z. absurd z), k.0), (((λ n z. absurd z), k.0), ((λ n z. absurd z), k.0)))))))
+
   fore_combined : (h : ℕ) (by : Reducer) → Fore l t (combined s h by)
   fore_combined h (Operator at o class) = tt
-  fore_combined h (Function at sub accumulator value) = ((λ n z. absurd z), k.0)
+  fore_combined h (Function at sub accumulator value) = λ x.
+      (((λ n z. absurd z), k.0), ((k.0, ((((λ n z. absurd z), k.0), (((λ n z. absurd z), k.0), (fore_ranged h s.free accumulator, (fore_ranged (h + 1) (s.free + 1) value, ((λ n z. absurd z), k.0))))), ((λ n z. absurd z), k.0))), ((λ n z. absurd z), k.0)))
 
   fore_raise_above : (h d : ℕ) → Fore l t (raise_above s h d)
   fore_raise_above h d = (((λ n z. absurd z), k.0), (((λ n z. absurd z), k.0), (((λ n z. absurd z), k.0), (k.0, ((λ n z. absurd z), k.0)))))
@@ -278,7 +283,7 @@ module _ (program : Program) where
                       ),
                     ),
                   ),
-                  (((λ n z. absurd z), k.0), fore_combined l t s k (h + 1) by),
+                  (((λ n z. absurd z), k.0), fore_combined l t (taking 2 (taking 2 (taking 1 s))) k h by),
                 ),
               ),
             ),
@@ -317,7 +322,11 @@ module _ (program : Program) where
 
     pub fore_associated : (l t : ℕ → Type 0) (s : Scope) (h n : ℕ) (x : Associations) → Known l s → Fore l t (associated program s h n x)
     fore_associated l t s h n NoAssociation k = tt
-    fore_associated l t s h n (Association runs None mentions value rest) k = (fore_fillings l t s k h n (width program value) (is_plain value) _ runs (λ m. fore_into l t s h (n + m) value k), fore_associated l t s h n rest k)
+    fore_associated l t s h n (Association runs None mentions value rest) k = (
+      fore_cond l t s k (takes_turns runs None value) _ _ (fore_turnings l t s k h n (pos 0) _ runs (λ l' up. fore_component l' t (taking 3 s) h (s.free + 1 + 1) value ((λ e is. up e (k.0 e is)), (λ j e is. up e (k.1 j e is)))))
+          (fore_fillings l t s k h n (width program value) (is_plain value) _ runs (λ m. fore_into l t s h (n + m) value k)),
+      fore_associated l t s h n rest k,
+    )
     fore_associated l t s h n (Association runs (Some x) mentions value rest) k =
         (fore_turnings l t s k h n x.first _ runs (λ l' up. fore_component l' t (iterated_scope s x.parameter) h (s.free + 1 + 1) value ((λ e is. up e (k.0 e is)), (λ j e is. up e (k.1 j e is)))), fore_associated l t s h n rest k)
 

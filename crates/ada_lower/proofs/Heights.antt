@@ -9,12 +9,12 @@ use Rattle.stack_code.specs.declared.code.SiteKind.{SiteKind}
 use Rattle.stack_code.specs.declared.instr.Instr.{Instr}
 use Rattle.stack_code.specs.declared.instr.Instr.TheVariants.{Jump, JFalse, Fork, Words}
 use Rattle.stack_code.specs.declared.operands.Flow.{Flow}
-use Rattle.stack_code.specs.declared.operands.Flow.TheVariants.{On, To, Branch, Ends}
+use Rattle.stack_code.specs.declared.operands.Flow.TheVariants.{On, To, Branch, Back, Ends}
 use Rattle.stack_code.specs.Operands.{takes, pushes, ends_of, nest_after, flow_of}
 use Rattle.stack_code.specs.Valid.{Has, HasFrame, Belongs}
 use Rattle.lower_emission.specs.declared.types.Mark.{Mark}
 use Rattle.lower_emission.specs.declared.types.Placed.{Placed}
-use Rattle.lower_emission.specs.Emits.{Emit, Nothing, One, Seq, Choose, When, Looped, Guarded, Aside, listed, placed}
+use Rattle.lower_emission.specs.Emits.{Emit, Nothing, One, Seq, Choose, When, Looped, Guarded, Aside, From, listed, placed}
 
 -- where code stands: in which body, with what height, and how many constructs begun; behind a fork, the threads of that
 -- construct begin behind what follows
@@ -65,12 +65,14 @@ module _ (c : Code) where
   Kept (Looped m h at_body body test) = In m.body m.cells
   Kept (Guarded m handlers body) = In m.body m.cells × Kept handlers
   Kept (Aside m h a) = In m.body m.cells × Kept a
+  Kept (From a) = Unit {0}
 
   -- where the code goes behind an instruction that leaves this
   abbrev pub Ways : (ℕ → Place → Type 0) → Option ℕ → Flow → Body → (stack nest : ℕ) → Place → Type 0
   Ways l o On b h n P = P ≡ behind o b h n
   Ways l o (To t) b h n P = l t (Here b h n)
   Ways l o (Branch t) b h n P = l t (Here b h n) × (P ≡ behind o b h n)
+  Ways l o (Back t) b h n P = l t (Here b h n)
   Ways l o Ends b h n P = Unit {0}
 
   -- what holds an instruction is known
@@ -103,6 +105,7 @@ module _ (c : Code) where
       × ((x : ℕ) → Kept (body x) → Firm (Also l x (Here m.body 1 m.nest)) (body x) P P)
   Firm l (Aside m h a) P Q =
       (site : ℕ) × (P ≡ Behind site m.body h m.nest) × Marked l m × (Q ≡ Here m.body h m.nest) × Firm l a (Here (Site site) 0 0) Q
+  Firm l (From a) P Q = (x : ℕ) → Kept (a x) → Firm (Also l x P) (a x) P Q
 
   -- ---- where it stands in a list
 
@@ -120,6 +123,7 @@ module _ (c : Code) where
     Leads q b h n On = Stood b h n (q + 1)
     Leads q b h n (To t) = Stood b h n t
     Leads q b h n (Branch t) = Stood b h n t × Stood b h n (q + 1)
+    Leads q b h n (Back t) = Stood b h n t
     Leads q b h n Ends = Unit {0}
 
     pub record Fit (q : ℕ) (p : Placed) : Type 0 where
@@ -171,6 +175,7 @@ module _ (c : Code) where
           let (sb, sh) = there_split (q + 1 + 1) bs (placed m 0 (Jump (at + 1 + length hs)) ∷ hs) ss in
           ((house q _ s).0, kept handlers (at + 1) sh.1)
       kept (Aside m h a) q (s, ss) = ((house q _ s).0, kept a (q + 1) ss)
+      kept (From a) q s = tt
 
       abbrev Known : (ℕ → Place → Type 0) → Type 0
       Known l = (n : ℕ) (P : Place) → l n P → Landing P n
@@ -200,6 +205,7 @@ module _ (c : Code) where
           let xs : List Placed = listed a (q + 1) in
           let z : q + suc (length xs) ≡ q + 1 + length xs = omega arith in
           subst (λ P. Landing P q) (sym eP) ((_, s, refl, refl, refl), lands l a (Here (Site site) 0 0) Q (q + 1) fa ss (subst (λ n. Landing Q n) z w))
+      lands l (From a) P Q q f s w = lands (Also l q P) (a q) P Q q (f q (kept (a q) q s)) s w
 
       forks_on : (i : Instr) (site : ℕ) → forks i ≡ Some site → flow_of i ≡ On
       forks_on (Fork s) site e = refl
@@ -229,6 +235,14 @@ module _ (c : Code) where
           is_on f = ⊥
 
           to_on : (t : ℕ) → Branch t ≡ On → ⊥
+          to_on t e = subst is_on (sym e) tt
+      leads_by l o (Back t) b h n q Q k w land = ((λ e. absurd (to_on t e)), k t (Here b h n) w)
+        where
+          is_on : Flow → Type 0
+          is_on On = Unit {0}
+          is_on f = ⊥
+
+          to_on : (t : ℕ) → Back t ≡ On → ⊥
           to_on t e = subst is_on (sym e) tt
       leads_by l o Ends b h n q Q k w land = ((λ e. absurd (subst is_on (sym e) tt)), tt)
         where
@@ -353,3 +367,6 @@ module _ (c : Code) where
             jumps q m h (q + 1 + length xs) (marked_fits l m k mk) (subst (λ P. Landing P (q + 1 + length xs)) eQ end_),
             firm_fits l a (Here (Site site) 0 0) Q (q + 1) fa ss k end_,
           )
+      firm_fits l (From a) P Q q f s k w =
+          let fa : Firm (Also l q P) (a q) P Q = f q (kept (a q) q s) in
+          firm_fits (Also l q P) (a q) P Q q fa s (known_also l q P k (lands (Also l q P) (a q) P Q q fa s w)) w

@@ -3,6 +3,7 @@ use Rattle.std.proofs.Common.{◌≡◌, ℕ, suc, ◌+◌, ◌<◌, ◌≤◌, 
 use Rattle.std.specs.Prelude.{IsSomeAnd}
 use Rattle.std.proofs.lemmas.Option.{none-some}
 use Rattle.ada_meaning.proofs.Cells.{some_same}
+use Rattle.ada_meaning.specs.Meaning.{most_threads}
 use Rattle.behaviours.specs.Paths.{Entity, VariableOf, ConstantOf, entity_eq}
 use Rattle.ada_base.specs.declared.operation.Op.{Op}
 use Rattle.ada_base.specs.declared.operation.Op.TheVariants as op
@@ -71,6 +72,7 @@ IsPlain i.Flip = Unit {0}
 IsPlain i.Differ = Unit {0}
 IsPlain (i.Range low high) = Unit {0}
 IsPlain i.Turn = Unit {0}
+IsPlain i.Part = Unit {0}
 IsPlain i.Img = Unit {0}
 IsPlain i.Bool = Unit {0}
 IsPlain (i.Wide w) = Unit {0}
@@ -251,6 +253,7 @@ module _ (c : Code) where
     plain_step m mk base i.Differ w = record { here = refl; marked = mk; base = base; operands = refl; begun = omega arith; ways = refl; belongs = λ q. tt }
     plain_step m mk base (i.Range low high) w = record { here = refl; marked = mk; base = base; operands = refl; begun = omega arith; ways = refl; belongs = λ q. tt }
     plain_step m mk base i.Turn w = record { here = refl; marked = mk; base = base; operands = refl; begun = omega arith; ways = refl; belongs = λ q. tt }
+    plain_step m mk base i.Part w = record { here = refl; marked = mk; base = base; operands = refl; begun = omega arith; ways = refl; belongs = λ q. tt }
     plain_step m mk base i.Img w = record { here = refl; marked = mk; base = base; operands = refl; begun = omega arith; ways = refl; belongs = λ q. tt }
     plain_step m mk base i.Bool w = record { here = refl; marked = mk; base = base; operands = refl; begun = omega arith; ways = refl; belongs = λ q. tt }
     plain_step m mk base (i.Wide n) w = record { here = refl; marked = mk; base = base; operands = refl; begun = omega arith; ways = refl; belongs = λ q. tt }
@@ -398,7 +401,7 @@ module _ (c : Code) where
 
     pub firm_raise_beyond : (h : ℕ) → In c s.body s.free → In c s.body (s.free + 1) → Firm c l (raise_beyond s h) (at s h) (at s h)
     firm_raise_beyond h r r' =
-        (at s (h + 1), firm_own h s.free r, (at s (h + 1), plain h (i.Field 4096) tt, (at s (h + 1 + 1), firm_own (h + 1) (s.free + 1) r', (at s (h + 1), plain h i.Le tt, (refl, k.entry, refl, firm_raise h _ (at s h))))))
+        (at s (h + 1), firm_own h s.free r, (at s (h + 1), plain h (i.Field most_threads) tt, (at s (h + 1 + 1), firm_own (h + 1) (s.free + 1) r', (at s (h + 1), plain h i.Le tt, (refl, k.entry, refl, firm_raise h _ (at s h))))))
 
     -- the end of a turn
     pub firm_counting : (h : ℕ) (reverse : Bool) (d head : ℕ) → In c s.body d → In c s.body (d + 1) → Firm c (Also l head (at s h)) (one s h (counting reverse d head)) (at s h) (at s h)
@@ -419,6 +422,21 @@ module _ (c : Code) where
           begun = omega arith;
           ways = ap (λ n. at s (up h n)) (sym e);
           belongs = λ q. (omega arith, has_map (slice_get c.subs (sub + 1)) (λ u. (u.takes ≡ 0) × (u.gives ≡ gives)) (λ u. u.takes ≡ 0) (λ u f. f.0) has);
+        }
+
+    -- one that goes on where its value is on the stack
+    pub firm_call_back : (h sub n to : ℕ) → Has c.subs (sub + 1) (λ u. (u.takes ≡ 0) × (u.gives ≡ true)) → (Q : Place) → Firm c (Also l to (at s (h + 1))) (one s (h + 1) (i.CallTo (sub + 1) n to)) (at s (h + 1)) Q
+    firm_call_back h sub n to has Q =
+        let (u, is, (none, given)) = has_one (slice_get c.subs (sub + 1)) (λ u. (u.takes ≡ 0) × (u.gives ≡ true)) has in
+        let e : given_by (slice_get c.subs (sub + 1)) ≡ 1 = ap given_by is ∙ ap (λ b. cond b 1 0) given in
+        record {
+          here = refl;
+          marked = λ e is. inl (k.entry e is);
+          base = h;
+          operands = refl;
+          begun = omega arith;
+          ways = inr (refl, ap (λ n. at s (up h n)) e);
+          belongs = λ q. (omega arith, has_map (slice_get c.subs (sub + 1)) (λ u. (u.takes ≡ 0) × (u.gives ≡ true)) (λ u. u.takes ≡ 0) (λ u f. f.0) has);
         }
 
   -- the end of a turn over components

@@ -3,6 +3,7 @@ use Rattle.std.proofs.Common.{◌≡◌, ℕ, zero, suc, ◌+◌, ◌-◌, ◌*�
 use Rattle.std.specs.Prelude.{IsSomeAnd}
 use Rattle.std.proofs.lemmas.Bool.{eqb-false}
 use Rattle.behaviours.specs.Paths.{Entity, VariableOf, ConstantOf, entity_eq}
+use Rattle.typed_tree.specs.declared.scalars.Scalar.{Scalar}
 use Rattle.typed_tree.specs.declared.expressions.Run.{Run}
 use Rattle.typed_tree.specs.declared.expressions.Root.{Root}
 use Rattle.typed_tree.specs.declared.expressions.Reducer.{Reducer}
@@ -19,11 +20,12 @@ use Rattle.stack_code.proofs.Standing.{has_one}
 use Rattle.stack_code.proofs.Slacks.{has_map}
 use Rattle.lower_emission.specs.Emits.{Emit}
 use Rattle.lower_emission.specs.Scope.{Scope, own, taking, nested, thread_scope, with_parameter, with_item, root_of, constant_root_of, array_root_of, none, one, keep, ◌⨟◌}
-use Rattle.lower_emission.specs.Emission.{Shape, lead, shapes, shapes_cells, formal_cell, address, folding, combined, leaving_by, first_parameter, range_scope, item_scope, doubled, filling, fillings, iterated_scope, turning, turnings, is_whole, chunk_scope, ends_code, reduction_kind, fork_code, turn_range, turn_component, cells_of, formals_in, formal_of, passing, composite_width, width}
-unfoldable use Rattle.lower_emission.specs.Emission.{is_plain, emit, selected, passed, put_into, composed, associated, component, filtered, iterated, chunk_code, course_code, threaded}
+use Rattle.lower_emission.specs.Emission.{is_plain, takes_turns, Shape, lead, shapes, shapes_cells, formal_cell, address, folding, ranged, reducing, combined, leaving_by, first_parameter, range_scope, item_scope, doubled, filling, fillings, iterated_scope, turning, turnings, is_whole, chunk_scope, ends_code, reduction_kind, fork_code, turn_range, turn_component, cells_of, formals_in, formal_of, passing, composite_width, width}
+unfoldable use Rattle.lower_emission.specs.Emission.{emit, selected, passed, put_into, composed, associated, component, filtered, iterated, chunk_code, course_code, threaded}
 use Rattle.ada_lower.specs.Ready.{RunsIn, Calls, ReadyReducer, ReadyExpr, ReadyOptional, ReadySelections, ReadyActuals, ReadyValue, ReadyComposite, ReadyAssociations, ReadyIteration, ReadyChunk}
 use Rattle.ada_lower.proofs.Heights.{Place, Here, Behind, up, Also, In, Told, Kept, Firm}
-use Rattle.ada_lower.proofs.HeightsScopes.{at, Known, in_le, known_taking, known_nested, known_more, known_parameter, known_item, known_leaving, known_thread, known_chunk, plain, firm_raise, firm_own, firm_local, kept_next, firm_keep, firm_cond, firm_named, firm_where, firm_address, root_fits, constant_root_fits, array_root_fits, firm_part, firm_unary, firm_binary, firm_compare, firm_within, firm_negated, firm_checked, firm_bounds, firm_ascending, firm_raise_above, firm_raise_beyond, firm_counting, firm_call, firm_stepping}
+use Rattle.ada_lower.proofs.HeightsScopes.{at, Known, in_le, known_taking, known_nested, known_more, known_parameter, known_item, known_leaving, known_thread, known_chunk, plain, firm_raise, firm_own, firm_local, kept_next, firm_keep, firm_cond, firm_named, firm_where, firm_address, root_fits, constant_root_fits, array_root_fits, firm_part, firm_unary, firm_binary, firm_compare, firm_within, firm_negated, firm_checked, firm_bounds, firm_ascending, firm_raise_above, firm_raise_beyond, firm_counting, firm_call, firm_call_back, firm_stepping}
+use Rattle.ada_meaning.specs.Meaning.{most_threads}
 
 -- ---- scopes that differ in names alone
 
@@ -200,9 +202,25 @@ module _ (c : Code) (program : Program) (subs : (sub : ℕ) (gives : Bool) → C
       let all : In c s.body (s.free + 1 + 1) = kept_next c l s k (s.free + 1) r1.0 in
       (at s (h + 1), firm_keep c l s k (h + 1) (s.free + 1) r1, (at s (h + 1), firm_checked c l s k h accumulator, (at s h, firm_keep c l s k h s.free r3, (at s (h + 1), firm_own c l s k h (s.free + 1) (in_le c s.body (s.free + 1) (s.free + 1 + 1) (omega arith) all), (at s (h + 1), firm_checked c l s k h value, (at s h, plain c l s k h i.Pop tt, firm_call c l s k h sub s.free true (subs sub true w)))))))
 
-  firm_combined : (l : ℕ → Place → Type 0) (s : Scope) (h : ℕ) (by : Reducer) → Known c l s → Firm c l (combined s h by) (at s h) (at s h)
-  firm_combined l s h (Operator a o class) k = refl
-  firm_combined l s h (Function a sub accumulator value) k = firm_raise c l s k h _ (at s h)
+  firm_ranged : (l : ℕ → Place → Type 0) (s : Scope) → Known c l s → (h n : ℕ) (subtype : Scalar) → In c s.body n → Firm c l (ranged s h n subtype) (at s h) (at s (h + 1))
+  firm_ranged l s k h n subtype r =
+      (at s (h + 1), firm_own c l s k h n r, (at s (h + 1 + 1), plain c l s k (h + 1) (i.Push subtype.low) tt, (at s (h + 1), plain c l s k h i.Ge tt, (at s (h + 1 + 1), firm_own c l s k (h + 1) n r, (at s (h + 1 + 1 + 1), plain c l s k (h + 1 + 1) (i.Push subtype.high) tt, (at s (h + 1 + 1), plain c l s k (h + 1) i.Le tt, plain c l s k h i.Min tt))))))
+
+  firm_combined : (l : ℕ → Place → Type 0) (s : Scope) (h : ℕ) (by : Reducer) → ReadyReducer program by → Known c l s → Firm c l (combined s h by) (at s (h + 1)) (at s (h + 1))
+  firm_combined l s h (Operator a o class) w k = refl
+  firm_combined l s h (Function a sub accumulator value) w k = λ x r.
+      let (r1, ((r2, ((f1, (f2, f3)), r3)), r4)) = r in
+      let l' : ℕ → Place → Type 0 = Also l x (at s (h + 1)) in
+      let k' : Known c l' s = known_more c l s x (at s (h + 1)) k in
+      let all : In c s.body (s.free + 1 + 1) = kept_next c l s k (s.free + 1) f1.0 in
+      let first : In c s.body s.free = in_le c s.body s.free (s.free + 1 + 1) (omega arith) all in
+      let second : In c s.body (s.free + 1) = in_le c s.body (s.free + 1) (s.free + 1 + 1) (omega arith) all in
+      let checks : Firm c l' (reducing s h accumulator value) (at s (h + 1 + 1)) (at s (h + 1)) =
+      (at s (h + 1), firm_keep c l' s k' (h + 1) (s.free + 1) f1, (at s h, firm_keep c l' s k' h s.free f2, (at s (h + 1), firm_ranged l' s k' h s.free accumulator first, (at s (h + 1 + 1), firm_ranged l' s k' (h + 1) (s.free + 1) value second, plain c l' s k' h i.Min tt)))) in (
+        at s (h + 1 + 1 + 1),
+        plain c l' s k' (h + 1) i.Part tt,
+        (at s (h + 1 + 1), (refl, k'.entry, refl, (at s (h + 1), checks, firm_call_back c l s k h sub s.free x (subs sub true w) (at s (h + 1 + 1)))), plain c l' s k' (h + 1) i.Pop tt),
+      )
 
   -- what is kept of a construct's chunks, and of its course
   pub chunk_room : (l : ℕ → Place → Type 0) (s : Scope) (k : Known c l s) (h : ℕ) (chunk : Chunk) → Kept c (chunk_code program s h chunk) → In c s.body (s.free + 1 + 1)
@@ -258,6 +276,14 @@ module _ (c : Code) (program : Program) (subs : (sub : ℕ) (gives : Bool) → C
       → Firm c l (one s h (i.Local (d + 1)) ⨟ address s (h + 1) (root_of s q) ⨟ moved ⨟ one s (h + 1 + 1) i.Dup ⨟ keep s (h + 1 + 1 + 1) d ⨟ one s (h + 1 + 1) (i.Copy (cells_of program subtype))) (at s h) (at s h)
   firm_back l s h d q moved subtype k f (r1, (r2, (r3, (r4, (r5, r6))))) =
       (at s (h + 1), firm_local c l s k h (d + 1) (kept_next c l s k d r5.0), (at s (h + 1 + 1), firm_address c l s k (h + 1) (root_of s q) (root_fits c l s k q) r2, (at s (h + 1 + 1), f r3, (at s (h + 1 + 1 + 1), plain c l s k (h + 1) i.Dup tt, (at s (h + 1 + 1), firm_keep c l s k (h + 1 + 1) d r5, plain c l s k h (i.Copy (cells_of program subtype)) tt)))))
+
+  -- the values of an association without a parameter, which take turns or don't
+  firm_given : (turns : Bool) (l : ℕ → Place → Type 0) (s : Scope) (h t n size : ℕ) (runs : List Run) (part : Emit) (flat : Bool) (value : ℕ → Emit) → RunsIn n size runs → Known c l s → t + n ≤ s.free → In c s.body s.free
+      → ((y : ℕ) → In c s.body (s.free + 1 + 1) → Kept c part → Firm c (Also l y (at s h)) part (at s h) (at s h))
+      → ((m : ℕ) → m + size ≤ n → Kept c (value m) → Firm c l (value m) (at s h) (at s h))
+      → Kept c (cond turns (turnings s h t (pos 0) part runs) (fillings s h t size flat value runs)) → Firm c l (cond turns (turnings s h t (pos 0) part runs) (fillings s h t size flat value runs)) (at s h) (at s h)
+  firm_given true l s h t n size runs part flat value lie k le room fc fi r = firm_turnings c l s k room h t n size (pos 0) part runs le lie fc r
+  firm_given false l s h t n size runs part flat value lie k le room fc fi r = firm_fillings c l s k room h t n size flat value runs le lie fi r
 
   mutual
     unfolding emit
@@ -324,7 +350,7 @@ module _ (c : Code) (program : Program) (subs : (sub : ℕ) (gives : Bool) → C
                           (λ r. firm_threaded l t 1 chunk (s.free + 1 + 1 + 1) it (λ y. emit program y 1 value ⨟ folding y 0 by) w.3 kt (subst (λ b. In c b 3) (sym (chunk_same chunk (taking 2 t)).0) (told_cells c site s.body (reduction_kind by chunk) told))
                           (subst (λ b. IsSomeAnd (outward c (Some b) 1) (λ b. In c b (s.free + 1 + 1 + 1))) (sym (chunk_same chunk (taking 2 t)).0) (told_far c site s.body (reduction_kind by chunk) (s.free + 1 + 1 + 1) told (in_le c s.body (s.free + 1 + 1 + 1) (s.free + 1 + 2) (omega arith) course)))
                           (λ x y same k' r. firm_value l x y (at (chunk_scope chunk (taking 2 t)) 1) 0 by (emit program y 1 value) w.0 (sym (at_same (chunk_scope chunk (taking 2 t)) y 1 same)) k' (λ r. firm_emit (Also l x (at (chunk_scope chunk (taking 2 t)) 1)) y 1 value w.4 k' r) r) r) (b1, (b2, b3))) told,
-                      (at s (h + 1), firm_unnest c l (taking 1 s) (known_taking c l s 1 k) (h + 1), firm_combined l s (h + 1) by k),
+                      (at s (h + 1), firm_unnest c l (taking 1 s) (known_taking c l s 1 k) (h + 1), firm_combined l (taking 2 (taking 2 (taking 1 s))) h by w.0 (known_taking c l (taking 2 (taking 1 s)) 2 (known_taking c l (taking 1 s) 2 (known_taking c l s 1 k)))),
                     ),
                   ),
                 ),
@@ -384,8 +410,13 @@ module _ (c : Code) (program : Program) (subs : (sub : ℕ) (gives : Bool) → C
 
     firm_associated : (l : ℕ → Place → Type 0) (s : Scope) (h t n : ℕ) (x : Associations) → ReadyAssociations program n x → Known c l s → t + n ≤ s.free → In c s.body s.free → Kept c (associated program s h t x) → Firm c l (associated program s h t x) (at s h) (at s h)
     firm_associated l s h t n NoAssociation w k le room r = refl
-    firm_associated l s h t n (Association runs None mentions value rest) w k le room (r1, r2) =
-        (at s h, firm_fillings c l s k room h t n (width program value) (is_plain value) (λ m. put_into program s h (t + m) value) runs le w.0 (λ m inside r. firm_into l s h (t + m) (width program value) value w.1 k (omega (arith, inside, le)) r) r1, firm_associated l s h t n rest w.2 k le room r2)
+    firm_associated l s h t n (Association runs None mentions value rest) w k le room (r1, r2) = (
+      at s h,
+      firm_given (takes_turns runs None value) l s h t n (width program value) runs (component program (taking 3 s) h (s.free + 1 + 1) value) (is_plain value) (λ m. put_into program s h (t + m) value) w.0 k le room
+          (λ y c2 r. firm_component (Also l y (at s h)) (taking 3 s) h (s.free + 1 + 1) value w.1 (known_taking c (Also l y (at s h)) s 3 (known_more c l s y (at s h) k)) c2 r)
+          (λ m inside r. firm_into l s h (t + m) (width program value) value w.1 k (omega (arith, inside, le)) r) r1,
+      firm_associated l s h t n rest w.2 k le room r2,
+    )
     firm_associated l s h t n (Association runs (Some x) mentions value rest) w k le room (r1, r2) = (
       at s h,
       firm_turnings c l s k room h t n (width program value) x.first (component program (iterated_scope s x.parameter) h (s.free + 1 + 1) value) runs le w.0
@@ -497,10 +528,10 @@ module _ (c : Code) (program : Program) (subs : (sub : ℕ) (gives : Bool) → C
     )
 
     pub firm_chunk : (l : ℕ → Place → Type 0) (s : Scope) (h : ℕ) (x : Chunk) → ReadyChunk program x → Known c l s → Kept c (chunk_code program s h x) → Firm c l (chunk_code program s h x) (at s h) (at s h)
-    firm_chunk l s h NoChunk w k (r1, (r2, (r3, r4))) = (at s (h + 1), plain c l s k h (i.Push (pos 1)) tt, (at s h, firm_keep c l s k h s.free r2, (at s (h + 1), plain c l s k h (i.Push (pos 4096)) tt, firm_keep c l s k h (s.free + 1) r4)))
+    firm_chunk l s h NoChunk w k (r1, (r2, (r3, r4))) = (at s (h + 1), plain c l s k h (i.Push (pos 1)) tt, (at s h, firm_keep c l s k h s.free r2, (at s (h + 1), plain c l s k h (i.Push (pos most_threads)) tt, firm_keep c l s k h (s.free + 1) r4)))
     firm_chunk l s h (Count e) w k (r1, (r2, (r3, (r4, (r5, (r6, r7)))))) =
         let all : In c s.body (s.free + 1 + 1) = kept_next c l s k (s.free + 1) r6.0 in
-        (at s (h + 1), plain c l s k h (i.Push (pos 1)) tt, (at s h, firm_keep c l s k h s.free r2, (at s (h + 1), firm_emit l (taking 1 s) h e w (known_taking c l s 1 k) r3, (at s (h + 1 + 1), plain c l s k (h + 1) (i.Push (pos 4096)) tt, (at s (h + 1), plain c l s k h i.Min tt, (at s h, firm_keep c l s k h (s.free + 1) r6, firm_raise_above c l s k h s.free (in_le c s.body s.free (s.free + 1 + 1) (omega arith) all) (in_le c s.body (s.free + 1) (s.free + 1 + 1) (omega arith) all)))))))
+        (at s (h + 1), plain c l s k h (i.Push (pos 1)) tt, (at s h, firm_keep c l s k h s.free r2, (at s (h + 1), firm_emit l (taking 1 s) h e w (known_taking c l s 1 k) r3, (at s (h + 1 + 1), plain c l s k (h + 1) (i.Push (pos most_threads)) tt, (at s (h + 1), plain c l s k h i.Min tt, (at s h, firm_keep c l s k h (s.free + 1) r6, firm_raise_above c l s k h s.free (in_le c s.body s.free (s.free + 1 + 1) (omega arith) all) (in_le c s.body (s.free + 1) (s.free + 1 + 1) (omega arith) all)))))))
     firm_chunk l s h (Each p low high check) w k (r1, (r2, (r3, (r4, (r5, (r6, r7)))))) =
         let all : In c s.body (s.free + 1 + 1) = kept_next c l s k (s.free + 1) r4.0 in
         let c0 : In c s.body s.free = in_le c s.body s.free (s.free + 1 + 1) (omega arith) all in

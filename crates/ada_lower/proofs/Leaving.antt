@@ -52,7 +52,7 @@ module _ (limit : ℕ) (c : Code) (f : Fixed) (x : Ends) (cuts : ℕ → ℕ →
           top = fit.top;
           least = (let b = fit.least in omega (arith, b));
           most = (let lt : s.turns < limit = ltb-true s.turns limit e in omega (arith, lt, most));
-          agrees = record { turns = refl; left = refl; taken = fit.agrees.taken; held = fit.agrees.held; input = fit.agrees.input; output = fit.agrees.output; notes = fit.agrees.notes };
+          agrees = record { turns = refl; left = refl; taken = fit.agrees.taken; held = fit.agrees.held; input = fit.agrees.input; output = fit.agrees.output; notes = fit.agrees.notes; done = fit.agrees.done };
           plan = fit.plan;
           order = fit.order;
           cells = λ a. right_same (g.what a) s _ (slice_get d.cells a) refl refl (fit.cells a);
@@ -71,7 +71,7 @@ module _ (limit : ℕ) (c : Code) (f : Fixed) (x : Ends) (cuts : ℕ → ℕ →
         top = fit.top;
         least = fit.least;
         most = fit.most;
-        agrees = record { turns = refl; left = refl; taken = fit.agrees.taken; held = fit.agrees.held; input = fit.agrees.input; output = fit.agrees.output; notes = fit.agrees.notes };
+        agrees = record { turns = refl; left = refl; taken = fit.agrees.taken; held = fit.agrees.held; input = fit.agrees.input; output = fit.agrees.output; notes = fit.agrees.notes; done = fit.agrees.done };
         plan = fit.plan;
         order = fit.order;
         cells = λ a. right_same (g.what a) s _ (slice_get d.cells a) refl refl (fit.cells a);
@@ -101,7 +101,7 @@ module _ (limit : ℕ) (c : Code) (f : Fixed) (x : Ends) (cuts : ℕ → ℕ →
         top = fit.top;
         least = fit.least;
         most = fit.most;
-        agrees = record { turns = refl; left = sym e; taken = fit.agrees.taken; held = fit.agrees.held; input = fit.agrees.input; output = fit.agrees.output; notes = fit.agrees.notes };
+        agrees = record { turns = refl; left = sym e; taken = fit.agrees.taken; held = fit.agrees.held; input = fit.agrees.input; output = fit.agrees.output; notes = fit.agrees.notes; done = fit.agrees.done };
         plan = fit.plan;
         order = fit.order;
         cells = fit.cells;

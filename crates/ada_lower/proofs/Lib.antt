@@ -39,7 +39,7 @@ mod ForkLoops
 mod ForkLeft
 mod ForkFor
 mod ForkRange
-mod ForkDeals
+pub mod ForkDeals
 mod ForkItems
 mod ForkChunks
 mod ForkOf
@@ -50,6 +50,7 @@ mod ForkFine
 mod Lent
 mod ForkReduce
 mod ForkKept
+mod FoldCalls
 mod ForkSites
 mod ForkWhole
 mod ForkArms
@@ -87,7 +88,7 @@ mod Handled
 mod ForkExample
 mod WholeExample
 mod FoldExample
-mod WholeLaws
+pub mod WholeLaws
 mod OnePlace
 mod Leasing
 mod RangesLent

@@ -103,7 +103,7 @@ module _ (asked : Option Program) (limit : ℕ) (cuts : ℕ → ℕ → List ℕ
     top = cells_many frame;
     least = le_refl 0;
     most = omega arith;
-    agrees = record { turns = refl; left = refl; taken = refl; held = refl; input = refl; output = refl; notes = refl };
+    agrees = record { turns = refl; left = refl; taken = refl; held = refl; input = refl; output = refl; notes = refl; done = refl };
     plan = refl;
     order = λ e. absurd (true≢false (sym e));
     cells = λ a. right a (nat_lt a frame) refl;

@@ -59,7 +59,7 @@ module _ (y : Entity) (a : ℕ) (vs : List ℤ) (g : Ghost) where
     top = w.top;
     least = w.least;
     most = w.most;
-    agrees = record { turns = w.agrees.turns; left = w.agrees.left; taken = w.agrees.taken; held = w.agrees.held; input = w.agrees.input; output = w.agrees.output; notes = w.agrees.notes };
+    agrees = record { turns = w.agrees.turns; left = w.agrees.left; taken = w.agrees.taken; held = w.agrees.held; input = w.agrees.input; output = w.agrees.output; notes = w.agrees.notes; done = w.agrees.done };
     plan = w.plan;
     order = w.order;
     cells = λ b. ⊎_elim
@@ -291,7 +291,7 @@ module _ (limit : ℕ) (c : Code) (f : Fixed) (x : Ends) where
     top = w.top;
     least = w.least;
     most = w.most;
-    agrees = record { turns = w.agrees.turns; left = w.agrees.left; taken = w.agrees.taken; held = w.agrees.held; input = w.agrees.input; output = w.agrees.output; notes = w.agrees.notes };
+    agrees = record { turns = w.agrees.turns; left = w.agrees.left; taken = w.agrees.taken; held = w.agrees.held; input = w.agrees.input; output = w.agrees.output; notes = w.agrees.notes; done = w.agrees.done };
     plan = w.plan;
     order = w.order;
     cells = λ b. right_same (h.what b) t (stored.ended Everywhere y s t) (slice_get d.cells b) refl refl (w.cells b);

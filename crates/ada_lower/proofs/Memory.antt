@@ -30,8 +30,8 @@ put_other s (Stacked a) (Kept b) v ne = refl
 put_other s (Stacked a) (Stacked b) v ne = get_set_other s.cells a b v (λ e. ne (ap Stacked e))
 
 put_agrees : (s : stored.State) (p : Address) (v : ℤ) (d : Dyn) (cells : List Cell) → Agrees s d → Agrees (put_at s p v) (record d { cells = cells })
-put_agrees s (Kept a) v d cells x = record { turns = x.turns; left = x.left; taken = x.taken; held = x.held; input = x.input; output = x.output; notes = x.notes }
-put_agrees s (Stacked a) v d cells x = record { turns = x.turns; left = x.left; taken = x.taken; held = x.held; input = x.input; output = x.output; notes = x.notes }
+put_agrees s (Kept a) v d cells x = record { turns = x.turns; left = x.left; taken = x.taken; held = x.held; input = x.input; output = x.output; notes = x.notes; done = x.done }
+put_agrees s (Stacked a) v d cells x = record { turns = x.turns; left = x.left; taken = x.taken; held = x.held; input = x.input; output = x.output; notes = x.notes; done = x.done }
 
 put_here : (s : stored.State) (p : Address) (v : ℤ) → ((put_at s p v).here ≡ s.here) × ((put_at s p v).everywhere ≡ s.everywhere) × ((put_at s p v).frame ≡ s.frame) × ((put_at s p v).turns ≡ s.turns)
 put_here s (Kept a) v = (refl, refl, refl, refl)
@@ -122,7 +122,7 @@ fit_set {g} {s} {d} a v own fit = record {
   top = length-set d.cells a (Mine v) ∙ fit.top;
   least = fit.least;
   most = fit.most;
-  agrees = record { turns = fit.agrees.turns; left = fit.agrees.left; taken = fit.agrees.taken; held = fit.agrees.held; input = fit.agrees.input; output = fit.agrees.output; notes = fit.agrees.notes };
+  agrees = record { turns = fit.agrees.turns; left = fit.agrees.left; taken = fit.agrees.taken; held = fit.agrees.held; input = fit.agrees.input; output = fit.agrees.output; notes = fit.agrees.notes; done = fit.agrees.done };
   plan = fit.plan;
   order = fit.order;
   cells = λ b. ⊎_elim

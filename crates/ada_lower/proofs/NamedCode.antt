@@ -1,5 +1,5 @@
 -- What the listed instructions of a program name: its bodies, its constructs and its texts.
-use Rattle.std.proofs.Common.{◌≡◌, ℕ, zero, suc, ◌+◌, ◌-◌, ◌<◌, min, ℤ, ◌&&◌, not, List, [], ◌∷◌, ◌++◌, length, slice_get, nat_eq, nat_lt, Option, Some, None, Bool, true, false, cond, refl, sym, subst, arith}
+use Rattle.std.proofs.Common.{◌≡◌, ℕ, zero, suc, ◌+◌, ◌-◌, ◌<◌, min, ℤ, pos, ◌&&◌, not, List, [], ◌∷◌, ◌++◌, length, slice_get, nat_eq, nat_lt, Option, Some, None, Bool, true, false, cond, refl, sym, subst, arith}
 use Rattle.std.proofs.lemmas.Option.{none-some}
 use Rattle.ada_meaning.proofs.Cells.{some_same}
 use Rattle.ada_base.specs.declared.operation.Op.{Op}
@@ -33,10 +33,10 @@ use Rattle.lower_emission.specs.declared.types.Level.{Level}
 use Rattle.lower_emission.specs.declared.types.Level.TheVariants.{Own, Around, Main}
 use Rattle.lower_emission.specs.declared.types.Leaving.{Leaving}
 use Rattle.lower_emission.specs.declared.types.Leaving.TheVariants.{ByReturn, ByValue, ByEnd, ByLeave}
-use Rattle.lower_emission.specs.Emits.{Emit, Nothing, One, Seq, Choose, When, Looped, Guarded, Aside, listed}
+use Rattle.lower_emission.specs.Emits.{Emit, Nothing, One, Seq, Choose, When, Looped, Guarded, Aside, From, listed}
 use Rattle.lower_emission.specs.Scope.{Scope, own, taking, nested, thread_scope, with_parameter, with_item, with_target, with_handled, with_exit, with_entry, root_of, constant_root_of, array_root_of, none, one, ◌⨟◌, load_at, address_at, store_at, address_of}
-use Rattle.lower_emission.specs.Emission.{Shape, shapes, load_by, load_named, load_where, address, is_whole, part_of, unary_instr, binary_instr, compare_instr, within, negated_code, leaving_by, first_parameter, range_scope, item_scope, counting, bounds_code, ascending, stepping, folding, combined, doubled, filling, fillings, iterated_scope, turnings, chunk_scope, raise_above, raise_beyond, ends_code, turn_range, turn_component, cells_of, passing, composite_width, width}
-unfoldable use Rattle.lower_emission.specs.Emission.{is_plain, emit, selected, passed, put_into, composed, associated, component, filtered, iterated, chunk_code, course_code, threaded}
+use Rattle.lower_emission.specs.Emission.{is_plain, takes_turns, Shape, shapes, load_by, load_named, load_where, address, is_whole, part_of, unary_instr, binary_instr, compare_instr, within, negated_code, leaving_by, first_parameter, range_scope, item_scope, counting, bounds_code, ascending, stepping, folding, ranged, combined, doubled, filling, fillings, iterated_scope, turnings, chunk_scope, raise_above, raise_beyond, ends_code, turn_range, turn_component, cells_of, passing, composite_width, width}
+unfoldable use Rattle.lower_emission.specs.Emission.{emit, selected, passed, put_into, composed, associated, component, filtered, iterated, chunk_code, course_code, threaded}
 use Rattle.lower_emission.specs.Statements.{no_handler, is_end, assigned, in_span, chosen, has_reason, handled_by, returning, returning_value, away, exiting, handled_target, image_instr, send_instr, piece_texts, object_here, exits_of, arm_exits, left_by, exits_code, left_code, no_loop, field_defaults, default_of, defaults_within, subtype_or_none, defaulted, declared, parallel_for, arms_code, chunk_by, arm_scope, parallel_block}
 unfoldable use Rattle.lower_emission.specs.Statements.{back_code, piece_values, stmt, all, cases, handling, arm_codes}
 use Rattle.lower_emission.specs.Bodies as code
@@ -65,6 +65,7 @@ module _ (program : Program) where
   Made (Looped m h at_body exit head) = IsBody program m.body × ((x : ℕ) → Made (exit x)) × ((x : ℕ) → Made (head x))
   Made (Guarded m handlers exit) = IsBody program m.body × Made handlers × ((x : ℕ) → Made (exit x))
   Made (Aside m h a) = IsBody program m.body × Made a
+  Made (From a) = (x : ℕ) → Made (a x)
 
   abbrev pub AllMade : List Placed → Type 0
   AllMade [] = Unit {0}
@@ -83,6 +84,7 @@ module _ (program : Program) where
   all_made (Looped m h at_body exit head) q (ok, f, g) = ((ok, tt), ((ok, tt), made_join (listed (exit (q + 1)) (q + 1 + 1)) _ (all_made (exit (q + 1)) (q + 1 + 1) (f (q + 1))) (all_made (head (q + 1 + 1)) (q + 1 + 1 + length (listed (exit (q + 1)) (q + 1 + 1))) (g (q + 1 + 1)))))
   all_made (Guarded m handlers exit) q (ok, w, f) = ((ok, tt), ((ok, tt), made_join (listed (exit (q + 1)) (q + 1 + 1)) _ (all_made (exit (q + 1)) (q + 1 + 1) (f (q + 1))) ((ok, tt), all_made handlers (q + 1 + 1 + length (listed (exit (q + 1)) (q + 1 + 1)) + 1) w)))
   all_made (Aside m h a) q (ok, w) = ((ok, tt), all_made a (q + 1) w)
+  all_made (From a) q f = all_made (a q) q (f q)
 
   pub made_at : (ps : List Placed) (k : ℕ) (p : Placed) → AllMade ps → slice_get ps k ≡ Some p → IsBody program p.body × Names p.body p.instr
   made_at [] k p w e = absurd (none-some p e)
@@ -208,9 +210,13 @@ module _ (program : Program) where
     made_folding h (Operator a x class) = made_binary (h + 1 + 1) x class
     made_folding h (Function a sub accumulator value) = ((k.0, tt), ((k.0, tt), ((k.0, tt), ((k.0, tt), ((k.0, tt), ((k.0, tt), (k.0, tt)))))))
 
+    made_ranged : (h n : ℕ) (subtype : Scalar) → Made (ranged s h n subtype)
+    made_ranged h n subtype = ((k.0, tt), ((k.0, tt), ((k.0, tt), ((k.0, tt), ((k.0, tt), ((k.0, tt), (k.0, tt)))))))
+
     made_combined : (h : ℕ) (by : Reducer) → Made (combined s h by)
     made_combined h (Operator a x class) = tt
-    made_combined h (Function a sub accumulator value) = (k.0, tt)
+    made_combined h (Function a sub accumulator value) = λ x.
+        ((k.0, tt), ((k.0, (((k.0, tt), ((k.0, tt), (made_ranged h s.free accumulator, (made_ranged (h + 1) (s.free + 1) value, (k.0, tt))))), (k.0, tt))), (k.0, tt)))
 
     made_raise_above : (h d : ℕ) → Made (raise_above s h d)
     made_raise_above h d = ((k.0, tt), ((k.0, tt), ((k.0, tt), (k.0, (k.0, tt)))))
@@ -307,7 +313,7 @@ module _ (program : Program) where
                           ),
                         ),
                       ),
-                      ((k.0, tt), made_combined o s k (h + 1) by),
+                      ((k.0, tt), made_combined o (taking 2 (taking 2 (taking 1 s))) k h by),
                     ),
                   ),
                 ),
@@ -345,7 +351,8 @@ module _ (program : Program) where
 
     made_associated : (o : Option ℕ) (s : Scope) (h n : ℕ) (x : Associations) → SitedAssociations program o x → Inside o s → Made (associated program s h n x)
     made_associated o s h n NoAssociation w k = tt
-    made_associated o s h n (Association runs None mentions value rest) w k = (made_fillings o s k h n (width program value) (is_plain value) _ runs (λ m. made_into o s h (n + m) value w.0 k), made_associated o s h n rest w.1 k)
+    made_associated o s h n (Association runs None mentions value rest) w k =
+        (made_cond o s k (takes_turns runs None value) _ _ (made_turnings o s k h n (pos 0) _ runs (made_component o (taking 3 s) h (s.free + 1 + 1) value w.0 k)) (made_fillings o s k h n (width program value) (is_plain value) _ runs (λ m. made_into o s h (n + m) value w.0 k)), made_associated o s h n rest w.1 k)
     made_associated o s h n (Association runs (Some x) mentions value rest) w k = (made_turnings o s k h n x.first _ runs (made_component o (iterated_scope s x.parameter) h (s.free + 1 + 1) value w.0 k), made_associated o s h n rest w.1 k)
 
     made_component : (o : Option ℕ) (s : Scope) (h a : ℕ) (x : Value) → SitedValue program o x → Inside o s → Made (component program s h a x)

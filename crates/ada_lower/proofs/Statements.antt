@@ -36,7 +36,7 @@ use Rattle.ada_lower.proofs.Framework.{any, To, Doing, comes_here, comes_on, com
 use Rattle.ada_lower.proofs.Memory.{does_write, set_what, own_free, what_same, fit_unset, number_seen, free_extends}
 use Rattle.ada_lower.proofs.Standing.{stands_seq, stands_assoc, stands_assoc3, stands_choose, stands_when, stands_looped, stands_guarded, Guard}
 use Rattle.ada_lower.proofs.Parts.{Runs, truth_same, does_is, does_to, does_weak, does_first, Fewer, allows_fewer, does_keep, does_choice, does_check}
-use Rattle.ada_lower.proofs.Calls.{given}
+use Rattle.ada_lower.proofs.Calls.{called_plainly, given}
 use Rattle.ada_lower.proofs.Inner.{InnerDo}
 use Rattle.ada_lower.proofs.Names.{root_refers, does_by, comes_number}
 use Rattle.ada_lower.proofs.Asked.{does_got}
@@ -612,7 +612,7 @@ module _ (limit : ℕ) (cuts : ℕ → ℕ → List ℕ) (program : Program) (c 
           let many : length (flat ps) ≡ count = suited_cells hs ps suited in
           let loose : (i : ℕ) → i < length (flat ps) → g.what (f.base + n + i) ≡ Free = (λ i lt. free i (omega (arith, lt, many))) in
           also_then limit c f x {h = record g { what = aheads (f.base + n) ps g.what }} {j = g} {k = λ r. Meaning.all_copied_back ops limit program calls (all_passed ps) r.cells} (λ t d w. fit_unaheads (f.base + n) ps g loose w)
-          (calls_do.called.by x t sub n m [] ps (record { unit = u.unit; is = u.is; outer = u.outer; main = u.main }) kt (omega (arith, whole, many)) room suited loose (at_entry suits.entry j))
+          (called_plainly calls_do.called x t sub n m [] ps (record { unit = u.unit; is = u.is; outer = u.outer; main = u.main }) kt (omega (arith, whole, many)) room suited loose (at_entry suits.entry j))
           (λ r t' d fit bs.
           let G : Ghost = record g { what = backs (f.base + n) ps r.cells g.what } in (
             G,

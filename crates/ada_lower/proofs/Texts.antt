@@ -8,8 +8,9 @@ use Rattle.typed_tree.specs.Syntax.{Expr, Static, Pieces, NoPiece, Text, Image, 
 use Rattle.ada_meaning.specs.Values
 use Rattle.ada_meaning.specs.Values.{truth}
 use Rattle.ada_meaning.specs.Operations.{Operations}
+use Rattle.ada_meaning.specs.Deeds.{PutOut}
 use Rattle.ada_meaning.specs.Stored as stored
-use Rattle.ada_meaning.specs.Stored.{Stored, Cause, Left, OutOfTurns, Address, Touch}
+use Rattle.ada_meaning.specs.Stored.{also_done, Stored, Cause, Left, OutOfTurns, Address, Touch}
 use Rattle.ada_meaning.specs.Meaning
 use Rattle.ada_meaning.specs.Meaning.{Env, ObjectPart, Passed, Returned, variable_root, constant_root}
 use Rattle.stack_code.specs.declared.code.Code.{Code}
@@ -105,11 +106,11 @@ module _ (limit : ℕ) (cuts : ℕ → ℕ → List ℕ) (program : Program) (c 
 
   -- a line is put out
   send_goes : {q : ℕ} {e : Option ℕ} (feed : Bool) (line : List ℕ) (d : Dyn) → At c q (Emission.send_instr feed) e
-      → To limit c (On (path f q [] line None d)) (on f (q + 1) [] (record d { world = record d.world { output = d.world.output ++ (line ++ cond feed (10 ∷ []) []) } }))
+      → To limit c (On (path f q [] line None d)) (on f (q + 1) [] (record d { world = record d.world { output = d.world.output ++ (line ++ cond feed (10 ∷ []) []); done = also_done (PutOut (line ++ cond feed (10 ∷ []) [])) d.world.done } }))
   send_goes {q} true line d at = comes_on limit c (comes_lined limit c f [] line d at)
-      (subst (λ o. To limit c (On (record { state = after o gave.Nothing (state_of f q [] [] None d); world = record d.world { output = d.world.output ++ (line ++ (10 ∷ [])) } })) (on f (q + 1) [] (record d { world = record d.world { output = d.world.output ++ (line ++ (10 ∷ [])) } }))) (sym (itself refl at)) (comes_here limit c _))
+      (subst (λ o. To limit c (On (record { state = after o gave.Nothing (state_of f q [] [] None d); world = record d.world { output = d.world.output ++ (line ++ (10 ∷ [])); done = also_done (PutOut (line ++ (10 ∷ []))) d.world.done } })) (on f (q + 1) [] (record d { world = record d.world { output = d.world.output ++ (line ++ (10 ∷ [])); done = also_done (PutOut (line ++ (10 ∷ []))) d.world.done } }))) (sym (itself refl at)) (comes_here limit c _))
   send_goes {q} false line d at = comes_on limit c (comes_lined limit c f [] line d at)
-      (subst (λ o. To limit c (On (record { state = after o gave.Nothing (state_of f q [] [] None d); world = record d.world { output = d.world.output ++ (line ++ []) } })) (on f (q + 1) [] (record d { world = record d.world { output = d.world.output ++ (line ++ []) } }))) (sym (itself refl at)) (comes_here limit c _))
+      (subst (λ o. To limit c (On (record { state = after o gave.Nothing (state_of f q [] [] None d); world = record d.world { output = d.world.output ++ (line ++ []); done = also_done (PutOut (line ++ [])) d.world.done } })) (on f (q + 1) [] (record d { world = record d.world { output = d.world.output ++ (line ++ []); done = also_done (PutOut (line ++ [])) d.world.done } }))) (sym (itself refl at)) (comes_here limit c _))
 
   pub sends_does : {g : Ghost} (x : Ends) (q : ℕ) (feed : Bool) (line : List ℕ) → At c q (Emission.send_instr feed) x.entry → Runs limit c f x g any (stored.puts (cond feed (line ++ (10 ∷ [])) line)) (λ d. On (path f q [] line None d)) (λ _ d. on f (q + 1) [] d)
   unfolding stored.puts
@@ -117,7 +118,7 @@ module _ (limit : ℕ) (cuts : ℕ → ℕ → List ℕ) (program : Program) (c 
     by = λ s d fit al. (
       tt,
       record {
-        dyn = record d { world = record d.world { output = d.world.output ++ (line ++ cond feed (10 ∷ []) []) } };
+        dyn = record d { world = record d.world { output = d.world.output ++ (line ++ cond feed (10 ∷ []) []); done = also_done (PutOut (line ++ cond feed (10 ∷ []) [])) d.world.done } };
         fit = record {
           here = fit.here;
           everywhere = fit.everywhere;
@@ -126,7 +127,7 @@ module _ (limit : ℕ) (cuts : ℕ → ℕ → List ℕ) (program : Program) (c 
           top = fit.top;
           least = fit.least;
           most = fit.most;
-          agrees = record { turns = fit.agrees.turns; left = fit.agrees.left; taken = fit.agrees.taken; held = fit.agrees.held; input = fit.agrees.input; output = ap₂ (λ a b. a ++ b) fit.agrees.output (same feed); notes = fit.agrees.notes };
+          agrees = record { turns = fit.agrees.turns; left = fit.agrees.left; taken = fit.agrees.taken; held = fit.agrees.held; input = fit.agrees.input; output = ap₂ (λ a b. a ++ b) fit.agrees.output (same feed); notes = fit.agrees.notes; done = ap₂ (λ a b. also_done (PutOut b) a) fit.agrees.done (same feed) };
           plan = fit.plan;
           order = fit.order;
           cells = λ a. right_same (g.what a) s _ (slice_get d.cells a) refl refl (fit.cells a);

@@ -17,7 +17,7 @@ use Rattle.ada_lower.specs.Sights.{Named, Sight}
 use Rattle.ada_lower.specs.FittedForks.{FittedForks, FittedReductions, Within}
 use Rattle.ada_lower.specs.Bodies.{main_scope, positions, MainFitted, AllStand}
 use Rattle.ada_lower.specs.ProgramCode.{AreNamed, IsCodeOf, AllFit}
-use Rattle.ada_lower.specs.Outs.{AllClosed}
+use Rattle.typed_scopes.specs.Outs.{AllClosed}
 use Rattle.ada_lower.proofs.Calls.{CallsDo}
 use Rattle.ada_lower.proofs.Mains.{Ending}
 use Rattle.ada_lower.proofs.ExecLeaves.{call_only}

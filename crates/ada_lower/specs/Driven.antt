@@ -19,6 +19,8 @@ use Rattle.stack_code.specs.declared.path.Gave.{Gave}
 use Rattle.stack_code.specs.Deeds.{applied, bit, truth, differ}
 use Rattle.ada_base.specs.declared.reason.Reason.{Reason}
 use Rattle.ada_base.specs.Input.{Held}
+use Rattle.ada_meaning.specs.Deeds.{Deed, PutOut}
+use Rattle.ada_meaning.specs.Stored.{also_done}
 use Rattle.ada_lower.specs.Views.{access_by, viewed}
 use Rattle.ada_lower.specs.Lending.{Owns}
 use Rattle.ada_lower.specs.Asking.{Reads, Read, got}
@@ -43,6 +45,8 @@ pub record World : Type 0 where
   -- how constructs are run, and the plan that cuts them
   pub notes : Schedule
   pub plan : ℕ → ℕ → List ℕ
+  -- what was asked of the input and put out so far, in order, where that is kept
+  pub done : Option (List Deed)
 
 pub record Dyn : Type 0 where
   pub cells : List Cell
@@ -339,19 +343,23 @@ module _ (c : Code) where
   fork_ended e p = fork_end e.how e.dyn p.state
 
 module _ (limit : ℕ) (c : Code) where
+  -- what was read
+  abbrev pub read_into : Reads → World → World
+  read_into r w = record w { taken = r.taken; held = r.held; input = r.input; done = r.done }
+
   -- where a path stopped for a number
   abbrev pub given_got : Reads → Result ℤ (Option Reason) → State → World → Step
-  given_got r (Ok v) s w = On (record { state = resumed c (gave.Numbers (v ∷ [])) (record s { turns = r.turns }); world = record w { taken = r.taken; held = r.held; input = r.input } })
-  given_got r (Err (Some q)) s w = On (record { state = resumed c (gave.Left (leave.Raise q)) (record s { turns = r.turns }); world = record w { taken = r.taken; held = r.held; input = r.input } })
-  given_got r (Err None) s w = off Spent (dyn_of (record s { turns = r.turns }) (record w { taken = r.taken; held = r.held; input = r.input }))
+  given_got r (Ok v) s w = On (record { state = resumed c (gave.Numbers (v ∷ [])) (record s { turns = r.turns }); world = read_into r w })
+  given_got r (Err (Some q)) s w = On (record { state = resumed c (gave.Left (leave.Raise q)) (record s { turns = r.turns }); world = read_into r w })
+  given_got r (Err None) s w = off Spent (dyn_of (record s { turns = r.turns }) (read_into r w))
 
   abbrev pub after_got : Read ℤ → State → World → Step
   after_got r s w = given_got r.state r.end s w
 
   -- where a path stops for output or input it goes on, at a fork it stands
   abbrev pub answered : Stop → State → World → Step
-  answered (Asks (io.Write bytes)) s w = On (record { state = resumed c gave.Nothing s; world = record w { output = w.output ++ bytes } })
-  answered (Asks io.Take) s w = after_got (got limit (record { turns = s.turns; taken = w.taken; held = w.held; input = w.input })) s w
+  answered (Asks (io.Write bytes)) s w = On (record { state = resumed c gave.Nothing s; world = record w { output = w.output ++ bytes; done = also_done (PutOut bytes) w.done } })
+  answered (Asks io.Take) s w = after_got (got limit (record { turns = s.turns; taken = w.taken; held = w.held; input = w.input; done = w.done })) s w
   answered (Constructs q) s w = Forks q (record { state = s; world = w })
   answered x s w = off x (dyn_of s w)
 

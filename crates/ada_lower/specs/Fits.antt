@@ -81,6 +81,7 @@ pub record Agrees (s : stored.State) (d : Dyn) : Type 0 where
   pub input : d.world.input ≡ s.input
   pub output : d.world.output ≡ s.output
   pub notes : d.world.notes ≡ s.notes
+  pub done : d.world.done ≡ s.done
 
 pub record Fit (g : Ghost) (s : stored.State) (d : Dyn) : Type 0 where
   pub here : s.here ≡ g.here

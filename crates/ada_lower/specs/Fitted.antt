@@ -11,7 +11,7 @@ use Rattle.ada_meaning.specs.Values.{count}
 use Rattle.ada_meaning.specs.Meaning.{object_layout, sub_at, formals_of, formal_at}
 use Rattle.ada_lower.specs.Sights.{Known, Named, Sight, Where, array_root_of, constant_root_of, item_sight, iterated_sight, object_here, own, passing, range_sight, root_of, taking, with_entry, with_exit, with_handled, with_target}
 use Rattle.ada_lower.specs.Defaults.{Filled}
-use Rattle.ada_lower.specs.Emission.{is_whole, width, Shape, shapes, shapes_cells, formal_of, piece_cells, cells_of, composite_width}
+use Rattle.ada_lower.specs.Emission.{is_whole, takes_turns, width, Shape, shapes, shapes_cells, formal_of, piece_cells, cells_of, composite_width}
 
 -- from so many cells selections lead to so many among them
 abbrev pub Reaches : ℕ → Selections → ℕ → Type 0
@@ -45,6 +45,11 @@ module _ (program : Program) (globals : ℕ → Entity → Option Named) (mains 
   abbrev pub FittedRuns : ℕ → ℕ → List Run → Type 0
   FittedRuns n m [] = Unit {0}
   FittedRuns n m (r ∷ rs) = ((k : ℕ) → k < r.count → r.first + k * r.stride + m ≤ n) × FittedRuns n m rs
+
+  -- the one, or the other
+  abbrev pub OneOf : Bool → Type 0 → Type 0 → Type 0
+  OneOf true a b = a
+  OneOf false a b = b
 
   -- with what is asked of parallel reductions
   module _ (epar : Sight → Expr → Type 0) where
@@ -96,7 +101,7 @@ module _ (program : Program) (globals : ℕ → Entity → Option Named) (mains 
       pub FittedAssociations : Sight → ℕ → Associations → Type 0
       FittedAssociations s n NoAssociation = Unit {0}
       FittedAssociations s n (Association [] None mentions value rest) = FittedAssociations s n rest
-      FittedAssociations s n (Association (r ∷ rs) None mentions value rest) = FittedRuns n (width program value) (r ∷ rs) × FittedValue s (width program value) value × FittedAssociations s n rest
+      FittedAssociations s n (Association (r ∷ rs) None mentions value rest) = FittedRuns n (width program value) (r ∷ rs) × OneOf (takes_turns (r ∷ rs) None value) ((s.scope.free + 1 + 1 < s.cells) × FittedComponent (taking 3 s) value) (FittedValue s (width program value) value) × FittedAssociations s n rest
       FittedAssociations s n (Association runs (Some i) mentions value rest) =
           (s.scope.free + 1 + 1 < s.cells) × FittedRuns n (width program value) runs × FittedComponent (iterated_sight s i.parameter) value × FittedAssociations s n rest
 
@@ -116,6 +121,10 @@ module _ (program : Program) (globals : ℕ → Entity → Option Named) (mains 
       pub FittedValue : Sight → ℕ → Value → Type 0
       FittedValue s n (Number check e) = (n ≡ 1) × Fitted s e
       FittedValue s n (Cells value) = FittedComposite s n value
+
+    -- a value that takes turns is that of a loop
+    abbrev pub FittedGiven : Bool → Sight → Value → Type 0
+    FittedGiven turns s value = OneOf turns ((s.scope.free + 1 + 1 < s.cells) × FittedComponent (taking 3 s) value) (FittedValue s (width program value) value)
 
     -- an assigned expression, where the target is a whole object that is here, and where its address is kept
     abbrev pub FittedTarget : Sight → Bool → Named → Expr → Type 0

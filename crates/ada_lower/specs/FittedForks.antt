@@ -1,7 +1,6 @@
 -- What parallel constructs owe to their scope and to their sites, where so many may be within one another.
 use Rattle.std.specs.Prelude.{◌*◌, List, sum, ◌≡◌, ℕ, zero, suc, ◌+◌, ◌<◌, ◌≤◌, ◌∷◌, slice_get, Option, Some, Bool, true, false, ◌⊎◌}
 use Rattle.behaviours.specs.Paths.{Entity}
-use Rattle.typed_tree.specs.declared.expressions.Reducer.TheVariants.{Operator}
 use Rattle.typed_tree.specs.Syntax.{Expr, Reduction, Components, Optional, Absent, Present, Range, Chunk, NoChunk, Count, Each, Stmt, ParallelFor, Parallel, Arms, NoArm, Arm, Program}
 use Rattle.ada_meaning.specs.Meaning.{arms_of}
 use Rattle.stack_code.specs.declared.code.Code.{Code}
@@ -10,8 +9,8 @@ use Rattle.stack_code.specs.declared.code.SiteKind.TheVariants as kind
 use Rattle.stack_code.specs.declared.instr.Instr.TheVariants as i
 use Rattle.ada_lower.specs.Sights.{array_root_of, nested_sight, AllKnown, Amid, Named, Sight, taking, thread_sight, turn_sight, with_outside}
 use Rattle.ada_lower.specs.Emission.{reduction_kind, exits_of, arm_exits, loop_kind}
-use Rattle.ada_lower.specs.Fitted.{Reached, FittedSelections, Fitted, FittedOptional, FittedAll}
-use Rattle.ada_lower.specs.Outs.{OutAll, OutArms}
+use Rattle.ada_lower.specs.Fitted.{Reached, FittedSelections, Fitted, FittedFold, FittedOptional, FittedAll}
+use Rattle.typed_scopes.specs.Outs.{OutAll, OutArms}
 
 -- a plan deals no more than there is
 abbrev pub Within : (ℕ → ℕ → List ℕ) → Type 0
@@ -43,18 +42,20 @@ module _ (program : Program) (globals : ℕ → Entity → Option Named) (mains 
   -- parallel reductions, where so many may be within one another
   abbrev pub FittedReductions : Code → ℕ → Sight → Expr → Type 0
   FittedReductions c zero s e = ⊥
-  FittedReductions c (suc n) s (Reduction at attribute (Operator token o class) initial (Some site) chunk (Range p false low high check filter) value) =
-      (cs : CodeSite) × Sited c s site cs × lent false s site cs × (cs.kind ≡ reduction_kind (Operator token o class) chunk) × (s.scope.free + 4 < s.cells)
+  FittedReductions c (suc n) s (Reduction at attribute by initial (Some site) chunk (Range p false low high check filter) value) =
+      (cs : CodeSite) × Sited c s site cs × lent false s site cs × (cs.kind ≡ reduction_kind by chunk) × (s.scope.free + 4 < s.cells)
       × Fitted program globals mains (FittedReductions c n) s initial × FittedChunk program globals mains (FittedReductions c n) (nested_sight (taking 1 s)) chunk
       × Fitted program globals mains (FittedReductions c n) (taking 2 (nested_sight (taking 1 s))) low × Fitted program globals mains (FittedReductions c n) (taking 1 (taking 2 (nested_sight (taking 1 s)))) high
       × FittedOptional program globals mains (FittedReductions c n) (turn_sight (thread_sight site cs.frame (taking 2 (taking 2 (taking 1 s)))) chunk (Range p false low high check filter)) filter
       × Fitted program globals mains (FittedReductions c n) (turn_sight (thread_sight site cs.frame (taking 2 (taking 2 (taking 1 s)))) chunk (Range p false low high check filter)) value
-  FittedReductions c (suc n) s (Reduction at attribute (Operator token o class) initial (Some site) chunk (Components p constant a r selections count stride dimensions filter) value) =
-      (cs : CodeSite) × Sited c s site cs × lent true s site cs × (5 ≤ cs.frame) × (cs.kind ≡ reduction_kind (Operator token o class) chunk) × (s.scope.free + 3 < s.cells)
+      × FittedFold program globals mains (turn_sight (thread_sight site cs.frame (taking 2 (taking 2 (taking 1 s)))) chunk (Range p false low high check filter)) by × FittedFold program globals mains (taking 2 (taking 2 (taking 1 s))) by
+  FittedReductions c (suc n) s (Reduction at attribute by initial (Some site) chunk (Components p constant a r selections count stride dimensions filter) value) =
+      (cs : CodeSite) × Sited c s site cs × lent true s site cs × (5 ≤ cs.frame) × (cs.kind ≡ reduction_kind by chunk) × (s.scope.free + 3 < s.cells)
       × Fitted program globals mains (FittedReductions c n) s initial × FittedChunk program globals mains (FittedReductions c n) (nested_sight (taking 1 s)) chunk
       × Reached (array_root_of constant (taking 2 (nested_sight (taking 1 s))).scope r) selections (count * stride) × FittedSelections program globals mains (FittedReductions c n) (taking 2 (nested_sight (taking 1 s))) selections
       × FittedOptional program globals mains (FittedReductions c n) (turn_sight (thread_sight site cs.frame (taking 2 (taking 2 (taking 1 s)))) chunk (Components p constant a r selections count stride dimensions filter)) filter
       × Fitted program globals mains (FittedReductions c n) (turn_sight (thread_sight site cs.frame (taking 2 (taking 2 (taking 1 s)))) chunk (Components p constant a r selections count stride dimensions filter)) value
+      × FittedFold program globals mains (turn_sight (thread_sight site cs.frame (taking 2 (taking 2 (taking 1 s)))) chunk (Components p constant a r selections count stride dimensions filter)) by × FittedFold program globals mains (taking 2 (taking 2 (taking 1 s))) by
   FittedReductions c (suc n) s e = ⊥
 
   abbrev pub FittedForks : Code → ℕ → Sight → Stmt → Type 0

@@ -25,7 +25,7 @@ use Rattle.ada_lower.specs.FittedForks.{FittedForks, FittedReductions, Within, u
 use Rattle.ada_lower.specs.Leased.{leased_ranges}
 use Rattle.ada_lower.specs.Bodies.{main_scope, positions, MainFitted}
 use Rattle.ada_lower.specs.ProgramCode.{AreNamed, IsCodeOf, AllFit}
-use Rattle.ada_lower.specs.Outs.{AllClosed}
+use Rattle.typed_scopes.specs.Outs.{AllClosed}
 use Rattle.ada_lower.specs.Defaults.{Filled}
 use Rattle.ada_lower.specs.Ready.{IsReady}
 use Rattle.ada_lower.specs.HasTables.{HasTables, HasForks, LeasesFit}

@@ -12,7 +12,6 @@ pub mod Fitted
 pub mod Bodies
 pub mod Forks
 pub mod ForkViews
-pub mod Outs
 pub mod FittedForks
 pub mod ProgramCode
 pub mod Ready

@@ -4,7 +4,7 @@ use Rattle.std.specs.Prelude.{true, false, slice_set}
 use Rattle.std.proofs.Math.Seq.{set-append_seam}
 use Rattle.std.proofs.lemmas.Grind.{common_steps}
 use Rattle.lower_emission.specs.declared.types.Placed.{Placed}
-use Rattle.lower_emission.specs.Emits.{Emit, Nothing, One, Seq, Choose, When, Looped, Guarded, Aside, listed, written}
+use Rattle.lower_emission.specs.Emits.{Emit, Nothing, One, Seq, Choose, When, Looped, Guarded, Aside, From, listed, written}
 
 jump : (c xs : List Placed) (g y : Placed) → slice_set ((c ++ g ∷ []) ++ xs) (length c) y ≡ (c ++ y ∷ []) ++ xs
 jump c xs g y = search (common_steps, set-append_seam)
@@ -40,3 +40,4 @@ written_law (Looped m h true body test) c = simp ((λ (n : ℕ). written_law (bo
 written_law (Looped m h false body test) c = simp ((λ (n : ℕ). written_law (body n)), (λ (n : ℕ). written_law (test n)), length-append, append_assoc, set-append_seam, seam_next, asc, sucs) refl
 written_law (Guarded m handlers body) c = simp (written_law handlers, (λ (n : ℕ). written_law (body n)), length-append, append_assoc, set-append_seam, seam_next, asc, sucs) (seam_two c _ _ _ _ _ _)
 written_law (Aside m h a) c = simp (written_law a, length-append, append_assoc, set-append_seam, asc, sucs) refl
+written_law (From a) c = written_law (a (length c)) c

@@ -12,12 +12,15 @@ use Rattle.ada_base.specs.declared.operation.Comparison.{Comparison}
 use Rattle.typed_tree.specs.declared.expressions.Sign.{Sign}
 use Rattle.typed_tree.specs.declared.expressions.Sign.TheVariants as sign
 use Rattle.typed_tree.specs.declared.expressions.Run.{Run}
+use Rattle.typed_tree.specs.declared.expressions.Iterated.{Iterated}
 use Rattle.typed_tree.specs.declared.expressions.Reducer.{Reducer}
 use Rattle.typed_tree.specs.declared.expressions.Reducer.TheVariants.{Operator, Function}
 use Rattle.typed_tree.specs.declared.program.Formal.{Formal}
 use Rattle.typed_tree.specs.declared.program.Mode.{Mode}
 use Rattle.typed_tree.specs.declared.program.Mode.TheVariants as mode
 use Rattle.typed_tree.specs.Syntax.{Expr, Static, Variable, Constant, Parameter, Target, Group, Unary, Binary, AndThen, OrElse, Relation, Membership, If, Call, Convert, Reduction, Optional, Absent, Present, Selections, Whole, Field, Index, Actuals, NoActual, In, InOut, Out, CompositeInOut, CompositeOut, Value, Number, Cells, Composite, WholeVariable, WholeConstant, WholeTarget, CompositeIf, Aggregate, Associations, NoAssociation, Association, Iteration, Range, Components, Chunk, NoChunk, Count, Each, Sub, Program}
+pub use Rattle.typed_tree.specs.Statics.{is_whole}
+pub use Rattle.ada_meaning.specs.Turns.{is_plain, takes_turns}
 use Rattle.ada_meaning.specs.Values.{layout, base_of}
 use Rattle.ada_meaning.specs.Meaning.{object_layout, most_threads}
 use Rattle.stack_code.specs.declared.code.Reducer as site
@@ -28,7 +31,7 @@ use Rattle.stack_code.specs.declared.instr.Instr.TheVariants as i
 use Rattle.lower_emission.specs.declared.types.Where.{Where}
 use Rattle.lower_emission.specs.declared.types.Named.{Named}
 use Rattle.lower_emission.specs.Emits.{Emit}
-use Rattle.lower_emission.specs.Scope.{Scope, own, taking, nested, thread_scope, with_parameter, with_item, with_exit, root_of, constant_root_of, array_root_of, none, one, keep, forks, ◌⨟◌, choose, when_, looped, aside, load_of, address_of}
+use Rattle.lower_emission.specs.Scope.{Scope, own, taking, nested, thread_scope, with_parameter, with_item, with_exit, root_of, constant_root_of, array_root_of, none, one, keep, forks, ◌⨟◌, choose, when_, looped, aside, from, load_of, address_of}
 
 -- what no accepted program reaches
 abbrev pub lost : Scope → ℕ → Emit
@@ -59,10 +62,6 @@ load_where s h (Some w) = one s h (load_of w)
 abbrev pub address : Scope → ℕ → Option Named → Emit
 address s h None = lost s h
 address s h (Some n) = one s h (address_of n)
-
-abbrev pub is_whole : Selections → Bool
-is_whole Whole = true
-is_whole s = false
 
 -- the value of a part of what is named, to which `moved` moves the address
 abbrev pub part_of : Scope → ℕ → Option Named → Bool → (moved : Emit) → Emit
@@ -186,38 +185,25 @@ folding s h (Operator at op class) = one s (h + 1 + 1) (binary_instr op class)
 folding s h (Function at sub accumulator value) =
     keep s (h + 1 + 1) (s.free + 1) ⨟ checked s (h + 1) accumulator ⨟ keep s (h + 1) s.free ⨟ one s h (i.LoadL (s.free + 1)) ⨟ checked s (h + 1) value ⨟ one s (h + 1) i.Pop ⨟ one s h (i.CallAt (sub + 1) s.free)
 
--- behind the fork of a parallel reduction, whose accumulators an operator has combined
+-- whether the number in a cell is one of the subtype's
+abbrev pub ranged : Scope → ℕ → (cell : ℕ) → Scalar → Emit
+ranged s h n k =
+    one s h (i.LoadL n) ⨟ one s (h + 1) (i.Push k.low) ⨟ one s (h + 1 + 1) i.Ge ⨟ one s (h + 1) (i.LoadL n) ⨟ one s (h + 1 + 1) (i.Push k.high) ⨟ one s (h + 1 + 1 + 1) i.Le ⨟ one s (h + 1 + 1) i.Min
+
+-- the accumulator and the part on the stack go to the cells of the formals; what is then on the stack tells whether they
+-- are in their subtypes
+abbrev pub reducing : Scope → ℕ → (accumulator value : Scalar) → Emit
+reducing s h accumulator value =
+    keep s (h + 1 + 1) (s.free + 1) ⨟ keep s (h + 1) s.free ⨟ ranged s h s.free accumulator ⨟ ranged s (h + 1) (s.free + 1) value ⨟ one s (h + 1 + 1) i.Min
+
+-- Behind the fork of a parallel reduction. An operator has combined the accumulators; a function is called for each that is
+-- kept, with what it gave for those before. Both are checked behind the call's turn.
 abbrev pub combined : Scope → ℕ → Reducer → Emit
 combined s h (Operator at op class) = none
-combined s h (Function at sub accumulator value) = lost s h
+combined s h (Function at sub accumulator value) = from (λ head.
+    one s (h + 1) i.Part ⨟ when_ s (h + 1 + 1) (reducing s h accumulator value ⨟ one s (h + 1) (i.CallTo (sub + 1) s.free head)) ⨟ one s (h + 1 + 1) i.Pop)
 
 -- ---- aggregates (4.3)
-
--- an expression whose value is the same each time, and which does nothing
-abbrev pub is_plain_expr : Expr → Bool
-is_plain_expr (Static at value literal mentions) = true
-is_plain_expr (Variable at r selections scalar) = is_whole selections
-is_plain_expr (Constant at r selections scalar) = is_whole selections
-is_plain_expr (Parameter at k) = true
-is_plain_expr (Target at scalar) = true
-is_plain_expr e = false
-
-unfoldable mutual
-  pub is_plain : Value → Bool
-  is_plain (Number check e) = is_plain_expr e
-  is_plain (Cells c) = is_plain_composite c
-
-  pub is_plain_composite : Composite → Bool
-  is_plain_composite (WholeVariable at r selections subtype) = is_whole selections
-  is_plain_composite (WholeConstant at r selections subtype) = is_whole selections
-  is_plain_composite (WholeTarget at subtype) = true
-  is_plain_composite (CompositeIf condition value otherwise) = false
-  is_plain_composite (Aggregate at size associations) = are_plain associations
-
-  pub are_plain : Associations → Bool
-  are_plain NoAssociation = true
-  are_plain (Association runs None mentions value rest) = is_plain value && are_plain rest
-  are_plain (Association runs (Some x) mentions value rest) = false
 
 -- The first cells of a run, which `done` of its components of one size have, are copied behind themselves, until `count`
 -- components have theirs. No more than `steps` copies are made; each doubles what is done.
@@ -244,6 +230,15 @@ fillings s h t size plain value (r ∷ rs) =
 abbrev pub iterated_scope : Scope → ℕ → Scope
 iterated_scope s k = with_parameter k (own s.free) (taking 3 s)
 
+-- the scope of a value that takes turns, and the parameter's first value; where there is none a count from 0 stands there
+abbrev pub turned_scope : Scope → Option Iterated → Scope
+turned_scope s None = taking 3 s
+turned_scope s (Some x) = iterated_scope s x.parameter
+
+abbrev pub turned_low : Option Iterated → ℤ
+turned_low None = pos 0
+turned_low (Some x) = x.first
+
 -- a loop through the components of a run
 abbrev pub turning : Scope → ℕ → (t : ℕ) → ℤ → (component : Emit) → (count first stride : ℕ) → Emit
 turning s h t low component count first stride =
@@ -265,7 +260,7 @@ chunk_scope (Each k low high check) s = with_parameter k (own 0) s
 abbrev pub raise_above : Scope → ℕ → ℕ → Emit
 raise_above s h d = one s h (i.LoadL d) ⨟ one s (h + 1) (i.LoadL (d + 1)) ⨟ one s (h + 1 + 1) i.Gt ⨟ when_ s h (one s h (i.Raise reason.ProgramError))
 
--- raises where there are more chunks than 4096
+-- raises where there are more chunks than threads may be
 abbrev pub raise_beyond : Scope → ℕ → Emit
 raise_beyond s h = one s h (i.LoadL s.free) ⨟ one s (h + 1) (i.Field most_threads) ⨟ one s (h + 1) (i.LoadL (s.free + 1)) ⨟ one s (h + 1 + 1) i.Le ⨟ when_ s h (one s h (i.Raise reason.StorageError))
 
@@ -375,7 +370,7 @@ module _ (program : Program) where
         (one (chunk_scope chunk (taking 2 (thread_scope site s))) 0 (i.LoadL 1)
         ⨟ threaded (thread_scope site s) 1 chunk (s.free + 1 + 1 + 1) iteration (λ u. emit u 1 value ⨟ folding u 0 by)
         ⨟ one (chunk_scope chunk (taking 2 (thread_scope site s))) 1 i.EndV)
-        ⨟ one (nested (taking 1 s)) (h + 1) i.Unnest ⨟ combined s (h + 1) by
+        ⨟ one (nested (taking 1 s)) (h + 1) i.Unnest ⨟ combined (taking 2 (taking 2 (taking 1 s))) h by
 
     -- the address on the stack is moved by selections
     pub selected : Scope → ℕ → Selections → Emit
@@ -418,8 +413,9 @@ module _ (program : Program) where
 
     pub associated : Scope → ℕ → ℕ → Associations → Emit
     associated s h t NoAssociation = none
-    associated s h t (Association runs None mentions value rest) = fillings s h t (width value) (is_plain value) (λ n. put_into s h (t + n) value) runs ⨟ associated s h t rest
-    associated s h t (Association runs (Some x) mentions value rest) = turnings s h t x.first (component (iterated_scope s x.parameter) h (s.free + 1 + 1) value) runs ⨟ associated s h t rest
+    associated s h t (Association runs i mentions value rest) =
+        cond (takes_turns runs i value) (turnings s h t (turned_low i) (component (turned_scope s i) h (s.free + 1 + 1) value) runs) (fillings s h t (width value) (is_plain value) (λ n. put_into s h (t + n) value) runs)
+        ⨟ associated s h t rest
 
     -- a value goes to where an address in a cell says; that of an array or record by way of cells of its own
     pub component : Scope → ℕ → (at : ℕ) → Value → Emit

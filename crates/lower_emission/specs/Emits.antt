@@ -21,6 +21,8 @@ pub data Emit : Type 0 where
   Guarded : Mark → (handlers : Emit) → (body : ℕ → Emit) → Emit
   -- a part that is jumped over
   Aside : Mark → (height : ℕ) → Emit → Emit
+  -- a part that names the place where it begins
+  From : (here : ℕ → Emit) → Emit
 
 abbrev pub placed : Mark → ℕ → Instr → Placed
 placed m h i = record { instr = i; height = h; entry = m.entry; body = m.body; nest = m.nest; cells = m.cells; kind = m.kind }
@@ -52,6 +54,7 @@ listed (Guarded m handlers body) q =
 listed (Aside m h a) q =
     let xs = listed a (q + 1) in
     placed m h (Jump (q + 1 + length xs)) ∷ xs
+listed (From a) q = listed (a q) q
 
 -- ---- behind other code
 
@@ -90,3 +93,4 @@ written (Guarded m handlers body) c =
     let inside = written (body (length (gap m 0 c))) (aimed_at m 0 (length c) (length start) start) in
     aimed m 0 (length inside) (written handlers (aimed m 1 (length (gap m 0 c)) (gap m 0 inside)))
 written (Aside m h a) c = aimed m h (length c) (written a (gap m h c))
+written (From a) c = written (a (length c)) c

@@ -165,6 +165,9 @@ guarded s handlers body = emits.Guarded (mark s) handlers body
 abbrev pub aside : Scope → ℕ → Emit → Emit
 aside s h a = emits.Aside (mark s) h a
 
+abbrev pub from : (here : ℕ → Emit) → Emit
+from a = emits.From a
+
 -- ---- names
 
 abbrev pub address_at : Level → ℕ → Instr

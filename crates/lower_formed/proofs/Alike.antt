@@ -2,6 +2,7 @@
 use Rattle.std.proofs.Common.{◌≡◌, ℕ, zero, suc, ◌+◌, ◌-◌, min, ℤ, ◌&&◌, ◌⊎◌, inl, inr, List, [], ◌∷◌, nat_eq, nat_lt, Option, Some, None, Bool, true, false, cond, refl, ap, subst}
 use Rattle.behaviours.specs.Paths.{Entity, VariableOf, ConstantOf}
 use Rattle.typed_tree.specs.declared.scalars.Check.{Check}
+use Rattle.typed_tree.specs.declared.scalars.Scalar.{Scalar}
 use Rattle.typed_tree.specs.declared.expressions.Root.{Root}
 use Rattle.typed_tree.specs.declared.expressions.Root.TheVariants as root
 use Rattle.typed_tree.specs.declared.expressions.Run.{Run}
@@ -13,12 +14,12 @@ use Rattle.stack_code.specs.declared.code.Around.TheVariants as around
 use Rattle.stack_code.specs.declared.instr.Instr.{Instr}
 use Rattle.stack_code.specs.declared.instr.Instr.TheVariants as i
 use Rattle.lower_emission.specs.declared.types.Mark.{Mark}
-use Rattle.lower_emission.specs.Emits.{Emit, Nothing, One, Seq, Choose, When, Looped, Guarded, Aside}
+use Rattle.lower_emission.specs.Emits.{Emit, Nothing, One, Seq, Choose, When, Looped, Guarded, Aside, From}
 use Rattle.lower_emission.specs.Scope.{Scope, mark_of, moved_named, none, one, thread_scope, with_exit, ◌⨟◌}
 use Rattle.lower_emission.specs.Statements.{away}
 use Rattle.ada_lower.specs.Sights.{Named, Where, array_root_of, constant_root_of, root_of}
-use Rattle.ada_lower.specs.Emission.{address, ascending, bounds_code, chunk_scope, combined, counting, doubled, ends_code, away, exiting, filling, fillings, folding, leaving_by, load_by, load_named, load_where, negated_code, part_of, raise_above, raise_beyond, stepping, turning, turnings, within}
-use Rattle.lower_formed.specs.Scopes.{Around, ArraySeen, ConstantSeen, VariableSeen, with_chunk}
+use Rattle.ada_lower.specs.Emission.{address, ascending, bounds_code, chunk_scope, combined, counting, doubled, ends_code, away, exiting, filling, fillings, folding, leaving_by, load_by, load_named, load_where, negated_code, part_of, raise_above, ranged, raise_beyond, stepping, turning, turnings, within}
+use Rattle.typed_scopes.specs.Scopes.{Around, ArraySeen, ConstantSeen, VariableSeen, with_chunk}
 
 -- ---- code that is alike: with the same marks and instructions, but for places of handlers and aims of jumps
 
@@ -44,6 +45,7 @@ module _ (T : ℕ → ℕ → Type 0) where
   Alike (Looped m h b exit head) (Looped n g d exit' head') = Marks m n × (h ≡ g) × (b ≡ d) × ((p q : ℕ) → T p q → Alike (exit p) (exit' q)) × ((p q : ℕ) → T p q → Alike (head p) (head' q))
   Alike (Guarded m handlers body) (Guarded n handlers' body') = Marks m n × Alike handlers handlers' × ((p q : ℕ) → T p q → Alike (body p) (body' q))
   Alike (Aside m h a) (Aside n g c) = Marks m n × (h ≡ g) × Alike a c
+  Alike (From a) (From b) = (p q : ℕ) → T p q → Alike (a p) (b q)
   Alike a b = ⊥
 
 -- the scope with other names, exits and handler
@@ -158,9 +160,13 @@ module _ (T : ℕ → ℕ → Type 0) (v : Around) (s : Scope) (o : Entity → O
   a_folding h (Operator at op class) = plain
   a_folding h (Function at sub accumulator value) = (plain, (plain, (plain, (plain, (plain, (plain, plain))))))
 
+  a_ranged : (h n : ℕ) (k : Scalar) → Alike T (ranged s h n k) (ranged (prime o x e s) h n k)
+  a_ranged h n k = (plain, (plain, (plain, (plain, (plain, (plain, plain))))))
+
   pub a_combined : (h : ℕ) (by : Reducer) → Alike T (combined s h by) (combined (prime o x e s) h by)
   a_combined h (Operator at op class) = tt
-  a_combined h (Function at sub accumulator value) = plain
+  a_combined h (Function at sub accumulator value) = λ p q t.
+      (plain, ((marked, refl, ((plain, (plain, (a_ranged h s.free accumulator, (a_ranged (h + 1) (s.free + 1) value, plain)))), (marked, refl, inr (i.CallTo (sub + 1) s.free, p, q, refl, refl, t)))), plain))
 
   pub a_above : (h d : ℕ) → Alike T (raise_above s h d) (raise_above (prime o x e s) h d)
   a_above h d = (plain, (plain, (plain, (marked, refl, plain))))

@@ -15,8 +15,8 @@ use Rattle.lower_emission.specs.Scope.{Scope, moved_named, nested, none, own, ta
 use Rattle.lower_emission.specs.Bodies as code
 use Rattle.ada_lower.specs.Sights.{ByEnd, ByLeave, ByReturn, ByValue, Leaving, Named, Where, root_of}
 use Rattle.ada_lower.specs.Emission.{Shape, all, arm_codes, arm_exits, arm_scope, arms_code, assigned, back_code, cases, cells_of, chosen, chunk_by, composed, composite_width, declared, default_of, defaulted, defaults_within, emit, exits_code, exits_of, exiting, field_defaults, handled_by, handled_target, handling, has_reason, in_share, is_end, is_whole, lead, left_code, left_returns, no_handler, no_loop, object_here, passing, piece_texts, piece_values, returning, returning_value, selected, shape_by, shapes, shapes_cells, stmt, subtype_or_none, width}
-use Rattle.lower_formed.specs.Scopes as scopes
-use Rattle.lower_formed.specs.Scopes.{Around, ScopedAll, ScopedAlternatives, ScopedArms, ScopedChunk, ScopedComposite, ScopedDecls, ScopedExpr, ScopedHandlers, ScopedMain, ScopedOptional, ScopedPieces, ScopedStmt, entity_of, with_chunk, with_formals, with_outer}
+use Rattle.typed_scopes.specs.Scopes as scopes
+use Rattle.typed_scopes.specs.Scopes.{Around, ScopedAll, ScopedAlternatives, ScopedArms, ScopedChunk, ScopedComposite, ScopedDecls, ScopedExpr, ScopedHandlers, ScopedMain, ScopedOptional, ScopedPieces, ScopedStmt, entity_of, with_chunk, with_formals, with_outer}
 use Rattle.lower_formed.proofs.Alike.{Alike, Like, a_address, a_cond, a_doubled, a_ends, a_exiting, like_exit, like_thread, marked, plain, prime, root_same}
 use Rattle.lower_formed.proofs.AlikeValues.{a_chunk, a_chunk_one, a_composed, a_course, a_emit, a_into, a_iterated, a_passed, a_selected, a_threaded, gone_through, turn_around, turn_does}
 use Rattle.lower_formed.proofs.Formals.{shape_entity}

@@ -1,5 +1,5 @@
 -- The code of expressions, values and iterations in two scopes that agree in the names that are read is alike.
-use Rattle.std.proofs.Common.{◌≡◌, ℕ, ◌+◌, List, nat_eq, Option, Some, None, Bool, true, false, refl, sym, ◌∙◌, subst, inl}
+use Rattle.std.proofs.Common.{◌≡◌, ℕ, ◌+◌, pos, List, nat_eq, Option, Some, None, Bool, true, false, refl, sym, ◌∙◌, subst, inl}
 use Rattle.behaviours.specs.Paths.{Entity}
 use Rattle.typed_tree.specs.declared.program.Formal.{Formal}
 use Rattle.typed_tree.specs.Syntax.{Expr, Static, Variable, Constant, Parameter, Target, Group, Unary, Binary, AndThen, OrElse, Relation, Membership, If, Call, Convert, Reduction, Optional, Absent, Present, Selections, Whole, Field, Index, Actuals, NoActual, In, InOut, Out, CompositeInOut, CompositeOut, Value, Number, Cells, Composite, WholeVariable, WholeConstant, WholeTarget, CompositeIf, Aggregate, Associations, NoAssociation, Association, Iteration, Range, Components, Chunk, NoChunk, Count, Each, Program}
@@ -8,9 +8,9 @@ use Rattle.stack_code.specs.declared.instr.Instr.TheVariants as i
 use Rattle.lower_emission.specs.Emits.{Emit}
 use Rattle.lower_emission.specs.Scope.{Scope, moved_named, nested, none, one, own, taking, thread_scope, with_item, with_parameter, ◌⨟◌}
 use Rattle.ada_lower.specs.Sights.{Named, array_root_of, constant_root_of, root_of}
-use Rattle.ada_lower.specs.Emission.{associated, chunk_code, chunk_scope, component, composed, composite_width, course_code, emit, filtered, first_parameter, folding, is_plain, is_whole, items_code, iterated, iterated_scope, passed, passing, put_into, range_scope, selected, threaded, turn_item, turns_code, width}
-use Rattle.lower_formed.specs.Scopes as scopes
-use Rattle.lower_formed.specs.Scopes.{Around, ScopedActuals, ScopedAssociations, ScopedChunk, ScopedComposite, ScopedExpr, ScopedIn, ScopedIteration, ScopedOptional, ScopedSelections, ScopedValue, with_chunk}
+use Rattle.ada_lower.specs.Emission.{associated, chunk_code, chunk_scope, component, composed, composite_width, course_code, emit, filtered, first_parameter, folding, is_plain, takes_turns, fillings, turnings, is_whole, items_code, iterated, iterated_scope, passed, passing, put_into, range_scope, selected, threaded, turn_item, turns_code, width}
+use Rattle.typed_scopes.specs.Scopes as scopes
+use Rattle.typed_scopes.specs.Scopes.{Around, ScopedActuals, ScopedAssociations, ScopedChunk, ScopedComposite, ScopedExpr, ScopedIn, ScopedIteration, ScopedOptional, ScopedSelections, ScopedValue, with_chunk}
 use Rattle.lower_formed.proofs.Alike.{Alike, Like, a_above, a_address, a_ascending, a_beyond, a_bounds, a_combined, a_cond, a_counting, a_ends, a_fillings, a_folding, a_load, a_negated, a_part, a_stepping, a_turnings, a_where, a_within, array_same, chunk_object, chunk_prime, constant_same, leave, like_chunk, like_thread, marked, plain, prime, root_same}
 
 module _ (T : ℕ → ℕ → Type 0) (program : Program) (shown : ℕ → Entity → Bool) where
@@ -110,7 +110,7 @@ module _ (T : ℕ → ℕ → Type 0) (program : Program) (shown : ℕ → Entit
                       ),
                     ),
                   ),
-                  ((plain T v (nested (taking 1 s)) o xs en k), a_combined T v s o xs en k (h + 1) by),
+                  ((plain T v (nested (taking 1 s)) o xs en k), a_combined T v (taking 2 (taking 2 (taking 1 s))) o xs en k h by),
                 ),
               ),
             ),
@@ -153,8 +153,12 @@ module _ (T : ℕ → ℕ → Type 0) (program : Program) (shown : ℕ → Entit
 
     a_associated : (v : Around) (s : Scope) (o : Entity → Option Named) (xs : ℕ → Option ℕ) (en : Option ℕ) (h t n : ℕ) (x : Associations) → Like T v s o xs en → ScopedAssociations program shown v n x → Alike T (associated program s h t x) (associated program (prime o xs en s) h t x)
     a_associated v s o xs en h t n NoAssociation k p = tt
-    a_associated v s o xs en h t n (Association runs None mentions value rest) k p =
-        (a_fillings T v s o xs en k h t (width program value) (is_plain value) (λ n. put_into program s h (t + n) value) (λ n. put_into program (prime o xs en s) h (t + n) value) runs (λ n. a_into v s o xs en h (t + n) _ value k p.1.2), a_associated v s o xs en h t n rest k p.2)
+    a_associated v s o xs en h t n (Association runs None mentions value rest) k p = (
+      a_cond T (takes_turns runs None value) _ _ _ _
+          (a_turnings T v s o xs en k h t (pos 0) (component program (taking 3 s) h (s.free + 1 + 1) value) (component program (taking 3 (prime o xs en s)) h (s.free + 1 + 1) value) runs (a_component v (taking 3 s) o xs en h (s.free + 1 + 1) _ value k p.1.2))
+          (a_fillings T v s o xs en k h t (width program value) (is_plain value) (λ n. put_into program s h (t + n) value) (λ n. put_into program (prime o xs en s) h (t + n) value) runs (λ n. a_into v s o xs en h (t + n) _ value k p.1.2)),
+      a_associated v s o xs en h t n rest k p.2,
+    )
     a_associated v s o xs en h t n (Association runs (Some x) mentions value rest) k p = (
       a_turnings T v s o xs en k h t x.first (component program (iterated_scope s x.parameter) h (s.free + 1 + 1) value) (component program (iterated_scope (prime o xs en s) x.parameter) h (s.free + 1 + 1) value) runs (a_component (scopes.with_parameter x.parameter v) (iterated_scope s x.parameter) o xs en h (s.free + 1 + 1) _ value k p.1.2),
       a_associated v s o xs en h t n rest k p.2,

@@ -23,7 +23,7 @@ use Rattle.lower_emission.specs.Texts.{stmt_texts}
 use Rattle.lower_formed.specs.Tables.{HasRows, HasSite, IsTabled}
 use Rattle.lower_formed.proofs.Strings.{Stands, main_stands, sub_stands, t_stmt}
 use Rattle.lower_formed.specs.Law.{LoweredLaw, frame_of, least_need}
-use Rattle.lower_formed.specs.Scopes.{IsScoped, ScopedAll, ScopedHandlers, handling, outset, sub_around}
+use Rattle.typed_scopes.specs.Scopes.{IsScoped, ScopedAll, ScopedHandlers, handling, outset, sub_around}
 use Rattle.lower_formed.specs.Rooms.{AreFrames, HasRoom, frames_of, seen_names}
 use Rattle.lower_formed.proofs.Alike.{Alike, Both}
 use Rattle.lower_formed.proofs.AlikeStatements.{a_main, a_stmt, a_sub}

@@ -5,7 +5,7 @@ use Rattle.stack_code.specs.declared.code.SiteKind.{SiteKind}
 use Rattle.ada_lower.specs.Sights.{Amid}
 use Rattle.ada_lower.specs.Emission.{arm_exits, case_exits, exits_of, handler_exits, stmt_exits}
 use Rattle.lower_formed.specs.Tables.{TabledAll, TabledAlternatives, TabledArms, TabledHandlers, TabledStmt, loop_limit}
-use Rattle.ada_lower.specs.Outs.{OutAll, OutArms, OutCases, OutHandlers, OutStmt}
+use Rattle.typed_scopes.specs.Outs.{OutAll, OutArms, OutCases, OutHandlers, OutStmt}
 
 own_or : {A B : ℕ → Type 0} (number : ℕ) → ((n : ℕ) → A n → B n) → (n : ℕ) → (n ≡ number) ⊎ A n → (n ≡ number) ⊎ B n
 own_or number h n (inl e) = inl e

@@ -24,11 +24,11 @@ use Rattle.ada_lower.specs.Defaults.{NoneEmpty}
 use Rattle.ada_lower.specs.FittedForks.{unleased, FittedForks, FittedReductions}
 use Rattle.ada_lower.specs.Bodies.{AreBack, AreFresh, FittedMain, formal_named, main_named, main_object, main_scope, objects, outer_scope, seens, sub_scope}
 use Rattle.ada_lower.specs.ProgramCode.{AreNamed, IsCodeOf, SubFits}
-use Rattle.ada_lower.specs.Outs.{AllClosed, OutAll, OutHandlers}
+use Rattle.typed_scopes.specs.Outs.{AllClosed, OutAll, OutHandlers}
 use Rattle.ada_lower.specs.Law.{IsLowered}
 use Rattle.ada_lower.proofs.Grounded.{objects_filled}
 use Rattle.ada_lower.proofs.ProgramStands.{sub_scope_same}
-use Rattle.lower_formed.specs.Scopes.{Around, FreshFormals, IsScoped, ScopedMain, ScopedValue, behind, entity_of, object_cells, outset, sub_around, with_formals, with_object, with_outer}
+use Rattle.typed_scopes.specs.Scopes.{Around, FreshFormals, IsScoped, ScopedMain, ScopedValue, behind, entity_of, object_cells, outset, sub_around, with_formals, with_object, with_outer}
 use Rattle.lower_formed.specs.Tables.{IsTabled, TabledDecls}
 use Rattle.lower_formed.specs.Rooms.{AreFrames, HasRoom, Roomy, frames_of, seen_names}
 use Rattle.lower_formed.proofs.Exits.{all_more, handlers_more}

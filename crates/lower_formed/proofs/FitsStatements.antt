@@ -26,10 +26,10 @@ use Rattle.ada_lower.specs.Emission.{Shape, all, arm_codes, arms_code, assigned,
 use Rattle.ada_lower.specs.Defaults.{NoneEmpty}
 use Rattle.ada_lower.specs.Fitted.{FittedActuals, FittedAll, FittedAlternatives, FittedDecls, FittedHandlers, FittedPieces, FittedStmt, FittedTarget}
 use Rattle.ada_lower.specs.FittedForks.{unleased, FittedArms, FittedCount, FittedForks, FittedReductions}
-use Rattle.ada_lower.specs.Outs.{OutAll, OutArms, OutCases, OutHandlers, OutStmt}
+use Rattle.typed_scopes.specs.Outs.{OutAll, OutArms, OutCases, OutHandlers, OutStmt}
 use Rattle.ada_lower.proofs.Grounded.{objects_filled}
-use Rattle.lower_formed.specs.Scopes as scopes
-use Rattle.lower_formed.specs.Scopes.{Around, IsLast, IsLastHandler, ScopedActuals, ScopedAll, ScopedAlternatives, ScopedArms, ScopedComposite, ScopedDecls, ScopedExpr, ScopedHandlers, ScopedOptional, ScopedPieces, ScopedStmt, ScopedValue, with_chunk, with_object, with_parameter}
+use Rattle.typed_scopes.specs.Scopes as scopes
+use Rattle.typed_scopes.specs.Scopes.{Around, IsLast, IsLastHandler, ScopedActuals, ScopedAll, ScopedAlternatives, ScopedArms, ScopedComposite, ScopedDecls, ScopedExpr, ScopedHandlers, ScopedOptional, ScopedPieces, ScopedStmt, ScopedValue, with_chunk, with_object, with_parameter}
 use Rattle.lower_formed.specs.Tables.{HasSite, TabledActuals, TabledAll, TabledExpr, TabledAlternatives, TabledArms, TabledDecls, TabledHandlers, TabledOptional, TabledPieces, TabledStmt, loop_limit}
 use Rattle.lower_formed.specs.Rooms.{Roomy}
 use Rattle.lower_formed.proofs.Exits.{arms_below, Every, all_more, arms_more, gather_all, gather_arms, handlers_more}

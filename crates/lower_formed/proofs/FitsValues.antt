@@ -1,11 +1,12 @@
 -- Expressions, values, aggregates and actual parameters that are formed and in scope fit their code.
-use Rattle.std.proofs.Common.{◌≡◌, ℕ, zero, suc, ◌+◌, ◌≤◌, List, [], ◌∷◌, Option, Some, None, Bool, true, false, cond, refl, sym, ap, ◌∙◌, subst, arith}
+use Rattle.std.proofs.Common.{◌≡◌, ℕ, zero, suc, ◌+◌, ◌<◌, ◌≤◌, pos, List, [], ◌∷◌, Option, Some, None, Bool, true, false, cond, refl, sym, ap, ◌∙◌, subst, arith}
 use Rattle.behaviours.specs.Paths.{Entity, ConstantOf}
 use Rattle.typed_tree.specs.declared.expressions.Reducer.{Reducer}
 use Rattle.typed_tree.specs.declared.expressions.Reducer.TheVariants.{Operator, Function}
 use Rattle.typed_tree.specs.declared.expressions.Root.{Root}
 use Rattle.typed_tree.specs.declared.expressions.Run.{Run}
 use Rattle.typed_tree.specs.declared.scalars.Check.{Check}
+use Rattle.typed_tree.specs.declared.scalars.Scalar.{Scalar}
 use Rattle.typed_tree.specs.declared.program.Formal.{Formal}
 use Rattle.typed_tree.specs.Syntax.{Expr, Static, Variable, Constant, Parameter, Target, Group, Unary, Binary, AndThen, OrElse, Relation, Membership, If, Call, Convert, Reduction, Optional, Absent, Present, Selections, Whole, Field, Index, Actuals, NoActual, In, InOut, Out, CompositeInOut, CompositeOut, Value, Number, Cells, Composite, WholeVariable, WholeConstant, WholeTarget, CompositeIf, Aggregate, Associations, NoAssociation, Association, Range, Components, Chunk, NoChunk, Count, Each, Sub, Program}
 use Rattle.ada_meaning.specs.Meaning.{sub_at}
@@ -17,11 +18,11 @@ use Rattle.stack_code.specs.declared.code.SiteKind.{SiteKind}
 use Rattle.lower_emission.specs.Emits.{Emit}
 use Rattle.lower_emission.specs.Scope.{none}
 use Rattle.ada_lower.specs.Sights.{Named, Scope, Sight, chunk_sight, constant_root_of, item_sight, iterated_sight, nested_sight, passing, range_sight, root_of, taking, thread_sight, turn_sight}
-use Rattle.ada_lower.specs.Emission.{Shape, associated, chunk_code, component, composed, composite_width, emit, filtered, folding, formals_in, is_plain, passed, put_into, selected, shapes, shapes_cells, width}
-use Rattle.ada_lower.specs.Fitted.{Callable, Fitted, FittedAssociations, FittedComponent, FittedComposite, FittedFold, FittedIn, FittedOptional, FittedRuns, FittedSelections, FittedValue}
+use Rattle.ada_lower.specs.Emission.{Shape, associated, chunk_code, component, combined, composed, composite_width, emit, fillings, filtered, folding, formals_in, is_plain, passed, put_into, selected, shapes, shapes_cells, takes_turns, turnings, width}
+use Rattle.ada_lower.specs.Fitted.{Callable, Fitted, FittedAssociations, FittedComponent, FittedComposite, FittedFold, FittedGiven, FittedIn, FittedOptional, FittedRuns, FittedSelections, FittedValue}
 use Rattle.ada_lower.specs.FittedForks.{unleased, FittedChunk, FittedReductions}
-use Rattle.lower_formed.specs.Scopes as scopes
-use Rattle.lower_formed.specs.Scopes.{Around, ArraySeen, Called, ConstantSeen, IsFolded, LieWithin, ScopedAssociations, ScopedChunk, ScopedComposite, ScopedExpr, ScopedIn, ScopedIteration, ScopedOptional, ScopedReducer, ScopedSelections, ScopedValue, VariableSeen, with_chunk, with_parameter}
+use Rattle.typed_scopes.specs.Scopes as scopes
+use Rattle.typed_scopes.specs.Scopes.{Around, ArraySeen, Called, ConstantSeen, LieWithin, ScopedAssociations, ScopedChunk, ScopedComposite, ScopedExpr, ScopedIn, ScopedIteration, ScopedOptional, ScopedReducer, ScopedSelections, ScopedValue, VariableSeen, with_chunk, with_parameter}
 use Rattle.lower_formed.specs.Tables.{HasSite, TabledActuals, TabledAssociations, TabledChunk, TabledComposite, TabledExpr, TabledOptional, TabledSelections, TabledValue}
 use Rattle.lower_formed.specs.Rooms.{Roomy}
 use Rattle.lower_formed.proofs.Formals.{AreApart, Behind, behind_none, behind_one, formals_are, formals_at, here_is}
@@ -68,9 +69,9 @@ module _ (program : Program) (globals : ℕ → Entity → Option Named) (mains 
   pub passing_free : (i : Sight) (sub : ℕ) (unit : Sub) → sub_at program.subs sub ≡ Some unit → i.scope.free + shapes_cells (shapes program unit.formals) ≡ (passing program sub i).scope.free
   passing_free i sub unit is = ap (λ fs. i.scope.free + shapes_cells (shapes program fs)) (sym (formals_are program sub unit is))
 
-  pub reducer_fits : (w : Known) (v : Around) (i : Sight) (h : ℕ) (by : Reducer) → S w v i → ScopedReducer program shown v by → R (folding i.scope h by) → FittedFold program globals mains i by
-  reducer_fits w v i h (Operator at op class) k p m = tt
-  reducer_fits w v i h (Function at sub accumulator value) k p m =
+  -- a function that reduces, where there are cells for its formals
+  called_fits : (w : Known) (v : Around) (i : Sight) (at sub : ℕ) (accumulator value : Scalar) → S w v i → ScopedReducer program shown v (Function at sub accumulator value) → i.scope.free + 1 < i.cells → FittedFold program globals mains i (Function at sub accumulator value)
+  called_fits w v i at sub accumulator value k p lt =
       let u = p.0 in
       let x = p.2.0 in
       let y = p.2.1 in
@@ -79,13 +80,30 @@ module _ (program : Program) (globals : ℕ → Entity → Option Named) (mains 
       let fs : shapes program u.unit.formals ≡ record { formal = ConstantOf x; back = false; cells = 1 } ∷ record { formal = ConstantOf y; back = false; cells = 1 } ∷ [] =
       ap (shapes program) p.2.2 ∙ ap (λ n. record { formal = ConstantOf x; back = false; cells = n } ∷ record { formal = ConstantOf y; back = false; cells = scopes.object_cells program y } ∷ []) ex
       ∙ ap (λ n. record { formal = ConstantOf x; back = false; cells = 1 } ∷ record { formal = ConstantOf y; back = false; cells = n } ∷ []) ey in
-      let at : Rattle.ada_meaning.specs.Meaning.formals_of program.subs sub ≡ scopes.formal_of x Rattle.typed_tree.specs.declared.program.Mode.TheVariants.In ∷ scopes.formal_of y Rattle.typed_tree.specs.declared.program.Mode.TheVariants.In ∷ [] = formals_at program.subs sub u.unit u.is ∙ p.2.2 in
-      let lt = kept i.scope.free (i.scope.free + 1) (room i.scope.body) i.cells m.0 k.enough in (
+      let at : Rattle.ada_meaning.specs.Meaning.formals_of program.subs sub ≡ scopes.formal_of x Rattle.typed_tree.specs.declared.program.Mode.TheVariants.In ∷ scopes.formal_of y Rattle.typed_tree.specs.declared.program.Mode.TheVariants.In ∷ [] = formals_at program.subs sub u.unit u.is ∙ p.2.2 in (
         callable sub k u,
         p.1,
         omega (arith, lt),
         fs ∙ sym (ap (λ fs. record { formal = ConstantOf (Rattle.ada_meaning.specs.Meaning.formal_at fs 0); back = false; cells = 1 } ∷ record { formal = ConstantOf (Rattle.ada_meaning.specs.Meaning.formal_at fs 1); back = false; cells = 1 } ∷ []) at),
       )
+
+  pub reducer_fits : (w : Known) (v : Around) (i : Sight) (h : ℕ) (by : Reducer) → S w v i → ScopedReducer program shown v by → R (folding i.scope h by) → FittedFold program globals mains i by
+  reducer_fits w v i h (Operator at op class) k p m = tt
+  reducer_fits w v i h (Function at sub accumulator value) k p m = called_fits w v i at sub accumulator value k p (kept i.scope.free (i.scope.free + 1) (room i.scope.body) i.cells m.0 k.enough)
+
+  -- and where it combines what threads gave, behind the cells of the construct
+  pub combiner_fits : (w : Known) (v : Around) (i : Sight) (h : ℕ) (by : Reducer) → S w v i → ScopedReducer program shown v by → R (combined (taking 2 (taking 2 (taking 1 i))).scope h by) → FittedFold program globals mains (taking 2 (taking 2 (taking 1 i))) by
+  combiner_fits w v i h (Operator at op class) k p m = tt
+  combiner_fits w v i h (Function at sub accumulator value) k p m =
+      let lt = kept (i.scope.free + 1 + 2 + 2) (i.scope.free + 1 + 2 + 2 + 1) (room i.scope.body) i.cells (m 0).1.0.1.0.0 k.enough in
+      let k1 = sees_taking program names mains T frames room 1 (omega (arith, lt)) k in
+      let k2 = sees_taking program names mains T frames room 2 (omega (arith, lt)) k1 in
+      called_fits w v (taking 2 (taking 2 (taking 1 i))) at sub accumulator value (sees_taking program names mains T frames room 2 (omega (arith, lt)) k2) p lt
+
+  chunk_outer : (chunk : Chunk) (v : Around) (y : Entity) → (with_chunk chunk v).outer y ≡ v.outer y
+  chunk_outer NoChunk v y = refl
+  chunk_outer (Count e) v y = refl
+  chunk_outer (Each p low high check) v y = refl
 
   -- a reducer is known wherever the same subprograms may be called
   pub reducer_as : (v u : Around) (by : Reducer) → ((y : Entity) → u.outer y ≡ v.outer y) → ScopedReducer program shown v by → ScopedReducer program shown u by
@@ -124,6 +142,21 @@ module _ (program : Program) (globals : ℕ → Entity → Option Named) (mains 
       let e : (chunk_sight chunk (taking 2 t)).scope.free ≡ 2 = chunk_free chunk (taking 2 t).scope in
       g.turn (with_chunk chunk v) (chunk_sight chunk (taking 2 t)) (omega (arith, e, five))
       (sees_chunk program names mains T frames room chunk (sees_taking program names mains T frames room 2 (omega (arith, five)) (sees_thread program names mains T frames room site cells le k)))
+
+  -- the values of an association without a parameter, which take turns or don't
+  fits_given : (turns : Bool) (n : ℕ) (i : Sight) (w : Known) (v : Around) (h to : ℕ) (r : Run) (rs : List Run) (value : Value) → S w v i → 1 ≤ r.count
+      → (i.scope.free + 1 + 1 < i.cells → R (component program (taking 3 i).scope h (i.scope.free + 1 + 1) value) → FittedComponent program globals mains (Fold n) (taking 3 i) value)
+      → ((at : ℕ) → R (put_into program i.scope h (to + at) value) → FittedValue program globals mains (Fold n) i (width program value) value)
+      → R (cond turns (turnings i.scope h to (pos 0) (component program (taking 3 i).scope h (i.scope.free + 1 + 1) value) (r ∷ rs)) (fillings i.scope h to (width program value) (is_plain value) (λ n. put_into program i.scope h (to + n) value) (r ∷ rs)))
+      → FittedGiven program globals mains (Fold n) turns i value
+  fits_given true n i w v h to r rs value k le fc fv m =
+      let turning = turned_room room i.scope h to (pos 0) _ r rs le m in
+      let lt = kept i.scope.free (i.scope.free + 1 + 1) (room i.scope.body) i.cells turning.1.1.1.1.1.0 k.enough in
+      let turn = turning.1.1.1.1.1.1.1 0 in
+      (lt, fc lt turn.1)
+  fits_given false n i w v h to r rs value k le fc fv m =
+      let (at, mv) = filled_room room i.scope h to (width program value) (is_plain value) (λ n. put_into program i.scope h (to + n) value) r rs le m in
+      fv at mv
 
   mutual
     unfolding emit
@@ -198,9 +231,8 @@ module _ (program : Program) (globals : ℕ → Entity → Option Named) (mains 
           reducer_fits g.inner v there h by sees q.2 body.1,
         )
     fits zero i w v h (Reduction at attribute by initial (Some site) chunk iteration value) k f q t m = absurd t
-    fits (suc n) i w v h (Reduction at attribute (Function token sub accumulator operand) initial (Some site) chunk iteration value) k f q t m = absurd q.3
-    fits (suc n) i w v h (Reduction at attribute (Operator token op class) initial (Some site) chunk (Range p true low high check filter) value) k f q t m = absurd (let z : true ≡ false = q.3 in cc)
-    fits (suc n) i w v h (Reduction at attribute (Operator token op class) initial (Some site) chunk (Range p false low high check filter) value) k f q t m =
+    fits (suc n) i w v h (Reduction at attribute by initial (Some site) chunk (Range p true low high check filter) value) k f q t m = absurd (let z : true ≡ false = q.3 in cc)
+    fits (suc n) i w v h (Reduction at attribute by initial (Some site) chunk (Range p false low high check filter) value) k f q t m =
         let (ql, qh, qf, qv) = q.4 in
         let row = t.0 in
         let lt = kept (i.scope.free + 1 + 2) (i.scope.free + 1 + 2 + 1) (room i.scope.body) i.cells m.1.1.1.1.0.1.1.1.0 k.enough in
@@ -222,8 +254,10 @@ module _ (program : Program) (globals : ℕ → Entity → Option Named) (mains 
           fits n (taking 1 (taking 2 (nested_sight (taking 1 i)))) w v h high k3 f.3.1 qh t.3.1 m.1.1.1.1.0.1.1.0,
           fits_optional n there w (with_parameter p (with_chunk chunk v)) 1 filter _ sees f.3.2 qf t.3.2 turn.1,
           fits n there w (with_parameter p (with_chunk chunk v)) 1 value sees f.3.3 qv t.4 body.0,
+          reducer_fits w (with_parameter p (with_chunk chunk v)) there 0 by sees (reducer_as v (with_parameter p (with_chunk chunk v)) by (λ y. chunk_outer chunk v y) q.2) body.1,
+          combiner_fits w v i h by k q.2 m.1.1.1.1.1.1.1.1,
         )
-    fits (suc n) i w v h (Reduction at attribute (Operator token op class) initial (Some site) chunk (Components p constant a r x number stride dimensions filter) value) k f q t m =
+    fits (suc n) i w v h (Reduction at attribute by initial (Some site) chunk (Components p constant a r x number stride dimensions filter) value) k f q t m =
         let (some, seen, qs, qf, qv) = q.4 in
         let row = t.0 in
         let g = through program names mains T frames room p constant a r x number stride dimensions filter (λ w. FormedExpr program w value) f.3 seen in
@@ -247,6 +281,8 @@ module _ (program : Program) (globals : ℕ → Entity → Option Named) (mains 
           fits_selections n (taking 2 (nested_sight (taking 1 i))) w v (h + 1) x k2 g.selections qs t.3.0 m.1.1.1.1.0.1.0,
           fits_optional n there g.inner (with_chunk chunk v) 1 filter _ sees g.filter qf t.3.1 turn.1,
           fits n there g.inner (with_chunk chunk v) 1 value sees g.does_so qv t.4 body.0,
+          reducer_fits g.inner (with_chunk chunk v) there 0 by sees (reducer_as v (with_chunk chunk v) by (λ y. chunk_outer chunk v y) q.2) body.1,
+          combiner_fits w v i h by k q.2 m.1.1.1.1.1.1.1.1,
         )
 
     pub fits_chunk : (n : ℕ) (i : Sight) (w : Known) (v : Around) (h : ℕ) (x : Chunk) → S w v i → FormedChunk program w x → ScopedChunk program shown v x → TabledChunk T Row n x → R (chunk_code program i.scope h x) → FittedChunk program globals mains (Fold n) i x
@@ -319,10 +355,11 @@ module _ (program : Program) (globals : ℕ → Entity → Option Named) (mains 
     fits_associations n i w v h to cells (Association [] None mentions value rest) k f p t m = fits_associations n i w v h to cells rest k f.2 p.2 t.1 m.1
     fits_associations n i w v h to cells (Association (r ∷ rs) None mentions value rest) k f p t m =
         let (size, lie, pv) = p.1 in
-        let e = width_is program shown v size value pv in
-        let (at, mv) = filled_room room i.scope h to (width program value) (is_plain value) (λ n. put_into program i.scope h (to + n) value) r rs lie.0 m.0 in (
+        let e = width_is program shown v size value pv in (
           runs_fit cells (width program value) (r ∷ rs) (subst (λ m. LieWithin cells m (r ∷ rs)) (sym e) lie),
-          fits_value n i w v h (to + at) (width program value) value k f.1 (subst (λ m. ScopedValue program shown v m value) (sym e) pv) t.0 mv,
+          fits_given (takes_turns (r ∷ rs) None value) n i w v h to r rs value k lie.0
+              (λ lt m. fits_component n (taking 3 i) w v h _ (width program value) value (sees_taking program names mains T frames room 3 (omega (arith, lt)) k) f.1 (subst (λ m. ScopedValue program shown v m value) (sym e) pv) t.0 m)
+              (λ at m. fits_value n i w v h (to + at) (width program value) value k f.1 (subst (λ m. ScopedValue program shown v m value) (sym e) pv) t.0 m) m.0,
           fits_associations n i w v h to cells rest k f.2 p.2 t.1 m.1,
         )
     fits_associations n i w v h to cells (Association [] (Some x) mentions value rest) k f p t m = absurd p.0

@@ -7,7 +7,7 @@ use Rattle.typed_tree.specs.declared.program.Mode.TheVariants as mode
 use Rattle.typed_tree.specs.Syntax.{Sub, Program}
 use Rattle.ada_meaning.specs.Meaning.{formals_of, sub_at}
 use Rattle.ada_lower.specs.Emission.{Shape, formal_cell, formals_in, formals_or_none, lead, shape_by, shapes}
-use Rattle.lower_formed.specs.Scopes.{Around, FreshFormals, entity_of, with_object}
+use Rattle.typed_scopes.specs.Scopes.{Around, FreshFormals, entity_of, with_object}
 
 pub sub_slice : (subs : List Sub) (k : ℕ) → sub_at subs k ≡ slice_get subs k
 sub_slice [] k = refl

@@ -9,7 +9,7 @@ use Rattle.stack_code.specs.declared.instr.Instr.TheVariants.{Jump, JFalse}
 use Rattle.lower_emission.specs.declared.types.Mark.{Mark}
 use Rattle.lower_emission.specs.declared.types.Need.{Need}
 use Rattle.lower_emission.specs.declared.types.Placed.{Placed}
-use Rattle.lower_emission.specs.Emits.{Emit, Nothing, One, Seq, Choose, When, Looped, Guarded, Aside, listed, placed}
+use Rattle.lower_emission.specs.Emits.{Emit, Nothing, One, Seq, Choose, When, Looped, Guarded, Aside, From, listed, placed}
 use Rattle.lower_emission.specs.Programs.{is_body, needed, raised}
 use Rattle.lower_formed.specs.Rooms.{Roomy}
 use Rattle.lower_formed.proofs.Alike.{Alike, Both, Leaps, Marks}
@@ -83,6 +83,7 @@ same_listed (Guarded m hs body) (Guarded n hs' body') (e, fh, fb) q =
     ∙ ap (λ hs. guards q n (listed (body' (q + 1)) (q + 1 + 1)) hs) (same_listed hs hs' fh (q + 1 + 1 + length (listed (body' (q + 1)) (q + 1 + 1)) + 1))
 same_listed (Aside m h a) (Aside n g c) (e, f, fa) q =
     ap (λ m. asides q m h (listed a (q + 1))) (mark_same m n e) ∙ ap (λ h. asides q n h (listed a (q + 1))) f ∙ ap (λ xs. asides q n g xs) (same_listed a c fa (q + 1))
+same_listed (From a) (From b) f q = same_listed (a q) (b q) (f q q refl) q
 same_listed a b t q = absurd t
 
 -- ---- room for what is placed
@@ -135,6 +136,7 @@ module _ (room : Around → ℕ) where
         (λ p. roomy_so (body (q + 1)) (body' p) (fb (q + 1) p tt) (q + 1 + 1) (each_left HasRoom' bs _ h.1.1)),
       )
   roomy_so (Aside m h' a) (Aside n g c) (e, f, fa) q h = (moved m n e h.0, roomy_so a c fa (q + 1) h.1)
+  roomy_so (From a) (From b) f q h = λ p. roomy_so (a q) (b p) (f q p tt) q h
   roomy_so a b t q h = absurd t
 
 -- ---- what the instructions of a body need

@@ -13,7 +13,7 @@ use Rattle.ada_meaning.specs.Meaning.{sub_at}
 use Rattle.lower_emission.specs.Programs.{has_result}
 use Rattle.ada_lower.specs.Emission.{formal_cell, formals_in, shapes, shapes_cells, composite_width, width}
 use Rattle.ada_lower.specs.Ready.{RunsIn, Calls, ReadyReducer, ReadyExpr, ReadyOptional, ReadySelections, ReadyActuals, ReadyValue, ReadyComposite, ReadyAssociations, ReadyIteration, ReadyChunk, ReadyPieces, ReadyDecls, ReadyStmt, ReadyAll, ReadyAlternatives, ReadyArms, ReadyHandlers, ReadySubs, IsReady}
-use Rattle.lower_formed.specs.Scopes.{Around, Called, LieWithin, ScopedReducer, ScopedExpr, ScopedOptional, ScopedSelections, ScopedIn, ScopedActuals, ScopedValue, ScopedComposite, ScopedAssociations, ScopedIteration, ScopedChunk, ScopedPieces, ScopedDecls, ScopedMain, ScopedStmt, ScopedAll, ScopedAlternatives, ScopedArms, ScopedHandlers, IsScoped, formal_of, handling, object_cells, outset, with_chunk, with_index, with_object, with_outer, with_parameter, with_target}
+use Rattle.typed_scopes.specs.Scopes.{Around, Called, LieWithin, ScopedReducer, ScopedExpr, ScopedOptional, ScopedSelections, ScopedIn, ScopedActuals, ScopedValue, ScopedComposite, ScopedAssociations, ScopedIteration, ScopedChunk, ScopedPieces, ScopedDecls, ScopedMain, ScopedStmt, ScopedAll, ScopedAlternatives, ScopedArms, ScopedHandlers, IsScoped, formal_of, handling, object_cells, outset, with_chunk, with_index, with_object, with_outer, with_parameter, with_target}
 use Rattle.lower_formed.proofs.Formals.{entity_refl, formals_are}
 use Rattle.lower_formed.proofs.FitsValues.{composite_is, width_is}
 

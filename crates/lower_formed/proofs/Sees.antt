@@ -17,8 +17,8 @@ use Rattle.stack_code.specs.declared.code.Around.TheVariants.{Site}
 use Rattle.lower_emission.specs.Scope as scope
 use Rattle.ada_lower.specs.Sights.{Named, Sight, Where, chunk_sight, constant_root_of, item_sight, iterated_sight, nested_sight, object_here, own, range_sight, root_of, taking, thread_sight, with_entry, with_exit, with_handled, with_outside, with_target}
 use Rattle.ada_lower.specs.Emission.{first_parameter, turn_item}
-use Rattle.lower_formed.specs.Scopes as scopes
-use Rattle.lower_formed.specs.Scopes.{Around, ArraySeen, ConstantSeen, VariableSeen}
+use Rattle.typed_scopes.specs.Scopes as scopes
+use Rattle.typed_scopes.specs.Scopes.{Around, ArraySeen, ConstantSeen, VariableSeen}
 
 abbrev pub number_of : Entity → ℕ
 number_of (VariableOf x) = x

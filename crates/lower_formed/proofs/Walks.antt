@@ -14,7 +14,7 @@ use Rattle.lower_emission.specs.Scope.{Scope, none, ◌⨟◌}
 use Rattle.ada_lower.specs.Sights.{Named, Sight, array_root_of, constant_root_of, item_sight, root_of}
 use Rattle.ada_lower.specs.Emission.{chunk_scope, doubled, filling, fillings, turn_item, turning, turnings}
 use Rattle.ada_lower.specs.Fitted.{Reached}
-use Rattle.lower_formed.specs.Scopes.{Around, ArraySeen, ConstantSeen, VariableSeen}
+use Rattle.typed_scopes.specs.Scopes.{Around, ArraySeen, ConstantSeen, VariableSeen}
 use Rattle.lower_formed.specs.Rooms.{Roomy}
 use Rattle.lower_formed.proofs.Reaching.{components_in, reaches}
 use Rattle.lower_formed.proofs.Sees.{Sees, constant_seen, sees_constant_item, sees_constant_turn_item, sees_item, sees_turn_item, variable_seen}

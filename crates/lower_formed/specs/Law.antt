@@ -9,9 +9,9 @@ use Rattle.stack_code.specs.declared.code.Lease.{Lease}
 use Rattle.lower_emission.specs.declared.types.Need.{Need}
 use Rattle.lower_emission.specs.Programs.{at_least, behind_main, code_of, needed, placed_code, text_in}
 use Rattle.ada_lower.specs.Defaults.{NoneEmpty}
-use Rattle.ada_lower.specs.Outs.{AllClosed, OutAll, OutHandlers}
+use Rattle.typed_scopes.specs.Outs.{StaysIn}
 use Rattle.ada_lower.specs.Law.{IsLowered}
-use Rattle.lower_formed.specs.Scopes.{IsScoped, behind, outset}
+use Rattle.typed_scopes.specs.Scopes.{IsScoped, behind, outset}
 use Rattle.lower_formed.specs.Tables.{HasRows}
 use Rattle.lower_formed.specs.Rooms.{frames_of, seen_names}
 
@@ -22,10 +22,6 @@ least_need (Site n) = at_least 4
 
 abbrev pub frame_of : Program → Around → ℕ
 frame_of program b = (needed b (least_need b) (placed_code program)).cells
-
--- no exit leaves a body, that of the main procedure included
-abbrev pub StaysIn : Program → Type 0
-StaysIn program = AllClosed program × OutAll (λ n. ⊥) program.body.stmts × OutHandlers (λ n. ⊥) program.body.handlers
 
 -- Of each program that names have formed and put in scope, no exit of which leaves a body and none of whose arrays is empty,
 -- the code fits, where each parallel construct has its row in the code's table: so the laws of code hold of it.

@@ -1,4 +1,3 @@
-pub mod Scopes
 pub mod Tables
 pub mod Rooms
 pub mod Law

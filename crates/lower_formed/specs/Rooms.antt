@@ -12,7 +12,7 @@ use Rattle.lower_emission.specs.declared.types.Named.{Named}
 use Rattle.lower_emission.specs.Bodies as code
 use Rattle.lower_emission.specs.Programs.{behind_main}
 use Rattle.lower_emission.specs.Statements.{stmt}
-use Rattle.lower_emission.specs.Emits.{Emit, Nothing, One, Seq, Choose, When, Looped, Guarded, Aside}
+use Rattle.lower_emission.specs.Emits.{Emit, Nothing, One, Seq, Choose, When, Looped, Guarded, Aside, From}
 
 -- what an instruction's scope uses of its body's frame is there
 abbrev pub Fits : (Around → ℕ) → Mark → Type 0
@@ -28,6 +28,7 @@ Roomy room (When m h a) = Fits room m × Roomy room a
 Roomy room (Looped m h at_body exit head) = Fits room m × ((q : ℕ) → Roomy room (exit q)) × ((q : ℕ) → Roomy room (head q))
 Roomy room (Guarded m handlers body) = Fits room m × Roomy room handlers × ((q : ℕ) → Roomy room (body q))
 Roomy room (Aside m h a) = Fits room m × Roomy room a
+Roomy room (From a) = (q : ℕ) → Roomy room (a q)
 
 -- ---- the frames of a program's code
 

@@ -8,9 +8,9 @@ use Rattle.lower_emission.specs.Emission.{filling, doubled}
 use Rattle.lower_emission.specs.Scope.{Scope, one, ◌⨟◌}
 use Rattle.stack_code.specs.declared.instr.Instr.TheVariants as i
 use Rattle.typed_tree.specs.Syntax.{Expr, Present}
-use Rattle.typed_tree.specs.Decoded.{Part, as_expr, as_optional, AnExpr}
+use Rattle.typed_tree.specs.Decoded.{TypedPart, as_expr, as_optional, AnExpr}
 
-pub present_is : (p : Part) (e : Expr) → as_optional p ≡ Present e → as_expr p ≡ e
+pub present_is : (p : TypedPart) (e : Expr) → as_optional p ≡ Present e → as_expr p ≡ e
 present_is (AnExpr x) e h = cc
 present_is _ e h = cc
 

@@ -8,67 +8,12 @@ ghost use Rattle.lower_values.specs.Words.{env_of, nodes, tables, Emits, Learns}
 ghost use Rattle.stack_code.specs.declared.instr.Instr.TheVariants as i;
 
 use crate::cells::{cells_of, composite_width, product, width};
-use crate::exprs::{address, checked, emit, is_whole, put_into, selected};
+use crate::exprs::{address, checked, emit, put_into, selected};
 use crate::types::{Emitter, Env, Names};
+use ada_meaning::turns::{is_plain, takes_turns};
 use lower_emission::types::{Level, Named, Where};
 use stack_code::Instr;
-use typed_tree::{Composite, Expr, Iterated, Leaf, Run, Value};
-
-/// Whether an expression has the same value each time, and does nothing.
-fn is_plain_expr(env: &Env<'_>, id: u32) -> bool
-    ensures { result ≡ spec.is_plain_expr (expr_at (nodes env.now) id) }
-{
-    match env.typed.nodes.expr(id) {
-        Expr::Static { .. } | Expr::Parameter { .. } | Expr::Target { .. } => true,
-        Expr::Variable { selections, .. } | Expr::Constant { selections, .. } => {
-            is_whole(env, selections)
-        }
-        _ => false,
-    }
-}
-
-#[cycle(plain)]
-#[tactic(auto, unfolding(lower_emission::specs::Emission::is_plain))]
-fn is_plain(env: &Env<'_>, id: u32) -> bool
-    ensures { result ≡ spec.is_plain (value_at (nodes env.now) id) }
-{
-    match env.typed.nodes.value(id) {
-        Some(Value::Number { value, .. }) => is_plain_expr(env, value),
-        Some(Value::Cells { composite }) => is_plain_composite(env, composite),
-        None => true,
-    }
-}
-
-#[cycle(plain)]
-#[tactic(auto, unfolding(lower_emission::specs::Emission::is_plain_composite))]
-fn is_plain_composite(env: &Env<'_>, id: u32) -> bool
-    ensures { result ≡ spec.is_plain_composite (composite_at (nodes env.now) id) }
-{
-    match env.typed.nodes.composite(id) {
-        Composite::WholeVariable { selections, .. } | Composite::WholeConstant { selections, .. } =>
-            is_whole(env, selections),
-        Composite::WholeTarget { .. } => true,
-        Composite::If { .. } => false,
-        Composite::Aggregate { associations, .. } => are_plain(env, associations),
-    }
-}
-
-#[cycle(plain)]
-#[tactic(auto, unfolding(lower_emission::specs::Emission::are_plain))]
-fn are_plain(env: &Env<'_>, id: u32) -> bool
-    ensures { result ≡ spec.are_plain (associations_at (nodes env.now) id) }
-{
-    match env.typed.nodes.associations(id) {
-        None => true,
-        Some(cell) => match env.typed.nodes.association(cell.first) {
-            None => are_plain(env, cell.rest),
-            Some(found) => match found.iterated {
-                None => is_plain(env, found.value) && are_plain(env, cell.rest),
-                Some(_) => false,
-            },
-        },
-    }
-}
+use typed_tree::{Association, Composite, Iterated, Leaf, Run, Value};
 
 /// An array or record goes to the cells of the frame from one on.
 #[cycle(emit)]
@@ -171,21 +116,28 @@ fn associated(env: &Env<'_>, h: u32, to: u32, id: u32, out: &mut Emitter)
     if let Some(cell) = env.typed.nodes.associations(id) {
         match env.typed.nodes.association(cell.first) {
             None => associated(env, h, to, cell.rest, out),
-            Some(found) => match found.iterated {
-                None => {
-                    fillings(env, h, to, found.value, found.runs, out);
-                    associated(env, h, to, cell.rest, out);
-                }
-                Some(parameter) => {
-                    let turned = Turned {
-                        parameter,
-                        value: found.value,
-                    };
-                    turnings(env, h, to, turned, found.runs, out);
-                    associated(env, h, to, cell.rest, out);
-                }
-            },
+            Some(found) => {
+                given(env, h, to, found, out);
+                associated(env, h, to, cell.rest, out);
+            }
         }
+    }
+}
+
+/// The components of an association (4.3.3).
+#[cycle(emit)]
+#[inline(never)]
+fn given(env: &Env<'_>, h: u32, to: u32, association: Association, out: &mut Emitter)
+    ensures { Emits (cond (spec.takes_turns (as_runs (part_at (nodes env.now) association.runs)) association.iterated (value_at (nodes env.now) association.value)) (spec.turnings (env_of env.now) h to (spec.turned_low association.iterated) (spec.component (tables env.now) (spec.turned_scope (env_of env.now) association.iterated) h (env.now.free + 1 + 1) (value_at (nodes env.now) association.value)) (as_runs (part_at (nodes env.now) association.runs))) (spec.fillings (env_of env.now) h to (spec.width (tables env.now) (value_at (nodes env.now) association.value)) (spec.is_plain (value_at (nodes env.now) association.value)) (λ n. spec.put_into (tables env.now) (env_of env.now) h (to + n) (value_at (nodes env.now) association.value)) (as_runs (part_at (nodes env.now) association.runs)))) out.old out.new }
+{
+    if takes_turns(&env.typed.nodes, association) {
+        let turned = Turned {
+            parameter: association.iterated,
+            value: association.value,
+        };
+        turnings(env, h, to, turned, association.runs, out);
+    } else {
+        fillings(env, h, to, association.value, association.runs, out);
     }
 }
 
@@ -198,7 +150,7 @@ fn fillings(env: &Env<'_>, h: u32, to: u32, value: u32, runs: u32, out: &mut Emi
         match cell.leaf {
             Leaf::Run(run) => {
                 let size = width(env, value, out);
-                if is_plain(env, value) && 1 < run.count && run.stride == size {
+                if is_plain(&env.typed.nodes, value) && 1 < run.count && run.stride == size {
                     let first = out.sum(to, run.first);
                     put_into(env, h, first, value, out);
                     let components = Components {
@@ -274,17 +226,17 @@ fn filling(env: &Env<'_>, h: u32, to: u32, value: u32, run: Run, out: &mut Emitt
     }
 }
 
-/// The value of an iterated association, and its parameter (4.3.3).
+/// A value that takes turns, and the parameter of its association (4.3.3).
 #[derive(Clone, Copy)]
 struct Turned {
-    parameter: Iterated,
+    parameter: Option<Iterated>,
     value: u32,
 }
 
 #[cycle(emit)]
 #[inline(never)]
 fn turnings(env: &Env<'_>, h: u32, to: u32, turned: Turned, runs: u32, out: &mut Emitter)
-    ensures { Emits (spec.turnings (env_of env.now) h to turned.parameter.first (spec.component (tables env.now) (spec.iterated_scope (env_of env.now) turned.parameter.parameter) h (env.now.free + 1 + 1) (value_at (nodes env.now) turned.value)) (as_runs (part_at (nodes env.now) runs))) out.old out.new }
+    ensures { Emits (spec.turnings (env_of env.now) h to (spec.turned_low turned.parameter) (spec.component (tables env.now) (spec.turned_scope (env_of env.now) turned.parameter) h (env.now.free + 1 + 1) (value_at (nodes env.now) turned.value)) (as_runs (part_at (nodes env.now) runs))) out.old out.new }
 {
     if let Some(cell) = env.typed.nodes.leaf(runs) {
         match cell.leaf {
@@ -303,11 +255,11 @@ fn turnings(env: &Env<'_>, h: u32, to: u32, turned: Turned, runs: u32, out: &mut
 #[cycle(emit)]
 #[inline(never)]
 fn turning(env: &Env<'_>, h: u32, to: u32, turned: Turned, run: Run, out: &mut Emitter)
-    ensures { Emits (spec.turning (env_of env.now) h to turned.parameter.first (spec.component (tables env.now) (spec.iterated_scope (env_of env.now) turned.parameter.parameter) h (env.now.free + 1 + 1) (value_at (nodes env.now) turned.value)) run.count run.first run.stride) out.old out.new }
+    ensures { Emits (spec.turning (env_of env.now) h to (spec.turned_low turned.parameter) (spec.component (tables env.now) (spec.turned_scope (env_of env.now) turned.parameter) h (env.now.free + 1 + 1) (value_at (nodes env.now) turned.value)) run.count run.first run.stride) out.old out.new }
 {
     let first = out.sum(to, run.first);
-    let last = last_value(turned.parameter.first, run.count, out);
-    let low = turned.parameter.first;
+    let low = low_of(turned.parameter);
+    let last = last_value(low, run.count, out);
     before_turns(env, h, first, low, last, out);
     turns(env, h, turned, run.stride, out);
 }
@@ -330,31 +282,15 @@ fn before_turns(env: &Env<'_>, h: u32, first: u32, low: i64, high: i64, out: &mu
 #[cycle(emit)]
 #[inline(never)]
 fn turns(env: &Env<'_>, h: u32, turned: Turned, stride: u32, out: &mut Emitter)
-    ensures { Emits (looped (env_of env.now) h true (λ exit. one (env_of env.now) h i.Turn ⨟ spec.component (tables env.now) (spec.iterated_scope (env_of env.now) turned.parameter.parameter) h (env.now.free + 1 + 1) (value_at (nodes env.now) turned.value)) (λ head. spec.stepping (env_of env.now) h (env.now.free + 1 + 1) stride env.now.free head)) out.old out.new }
+    ensures { Emits (looped (env_of env.now) h true (λ exit. one (env_of env.now) h i.Turn ⨟ spec.component (tables env.now) (spec.turned_scope (env_of env.now) turned.parameter) h (env.now.free + 1 + 1) (value_at (nodes env.now) turned.value)) (λ head. spec.stepping (env_of env.now) h (env.now.free + 1 + 1) stride env.now.free head)) out.old out.new }
 {
     let free1 = out.sum(env.free, 1);
     let free2 = out.sum(free1, 1);
-    let free = out.sum(env.free, 3);
     let enter = out.gap(env, h);
     let leave = out.gap(env, h);
     let head = out.here();
     out.put(env, h, Instr::Turn);
-    let names = Names::Parameter {
-        outer: &env.names,
-        number: turned.parameter.parameter,
-        place: own(env.free),
-    };
-    component(
-        &Env {
-            names,
-            free,
-            ..*env
-        },
-        h,
-        free2,
-        turned.value,
-        out,
-    );
+    turned_component(env, h, turned, free2, out);
     out.aim_at(env, h, enter, head);
     let steps = Steps {
         address: free2,
@@ -363,6 +299,46 @@ fn turns(env: &Env<'_>, h: u32, turned: Turned, stride: u32, out: &mut Emitter)
     };
     stepping(env, h, steps, head, out);
     out.aim(env, h, leave);
+}
+
+/// The value goes to where the address in a cell says.
+#[cycle(emit)]
+#[inline(never)]
+fn turned_component(env: &Env<'_>, h: u32, turned: Turned, address: u32, out: &mut Emitter)
+    ensures { Emits (spec.component (tables env.now) (spec.turned_scope (env_of env.now) turned.parameter) h address (value_at (nodes env.now) turned.value)) out.old out.new }
+{
+    let free = out.sum(env.free, 3);
+    match turned.parameter {
+        None => component(&Env { free, ..*env }, h, address, turned.value, out),
+        Some(parameter) => {
+            let names = Names::Parameter {
+                outer: &env.names,
+                number: parameter.parameter,
+                place: own(env.free),
+            };
+            component(
+                &Env {
+                    names,
+                    free,
+                    ..*env
+                },
+                h,
+                address,
+                turned.value,
+                out,
+            );
+        }
+    }
+}
+
+/// The first value of a parameter; a count from 0 stands where there is none.
+fn low_of(parameter: Option<Iterated>) -> i64
+    ensures { result ≡ spec.turned_low parameter }
+{
+    match parameter {
+        None => 0,
+        Some(parameter) => parameter.first,
+    }
 }
 
 /// A cell of the own frame.

@@ -13,6 +13,7 @@ use crate::aggregates::{Components, own};
 use crate::exprs::{address, checked, emit, selected};
 use crate::types::{Emitter, Env, Names};
 use ada_base::Reason;
+use ada_meaning::MOST_THREADS;
 use stack_code::Instr;
 use typed_tree::{Chunk, Iteration, Root};
 
@@ -144,7 +145,7 @@ fn raise_above(env: &Env<'_>, h: u32, d: u32, out: &mut Emitter)
     out.aim_false(env, h, over);
 }
 
-/// More chunks than 4096 raise Storage_Error.
+/// More chunks than `MOST_THREADS` raise Storage_Error.
 fn raise_beyond(env: &Env<'_>, h: u32, out: &mut Emitter)
     ensures { Emits (spec.raise_beyond (env_of env.now) h) out.old out.new }
 {
@@ -152,7 +153,7 @@ fn raise_beyond(env: &Env<'_>, h: u32, out: &mut Emitter)
     let h2 = out.sum(h1, 1);
     let free1 = out.sum(env.free, 1);
     out.put(env, h, Instr::LoadL(env.free));
-    out.put(env, h1, Instr::Field(4096));
+    out.put(env, h1, Instr::Field(MOST_THREADS));
     out.put(env, h1, Instr::LoadL(free1));
     out.put(env, h2, Instr::Le);
     let over = out.gap(env, h);
@@ -160,7 +161,7 @@ fn raise_beyond(env: &Env<'_>, h: u32, out: &mut Emitter)
     out.aim_false(env, h, over);
 }
 
-/// The numbers of as many threads as an expression says, or of 4096, go to the first free cells.
+/// The numbers of as many threads as an expression says, or of `MOST_THREADS`, go to the first free cells.
 #[cycle(emit)]
 #[inline(never)]
 #[tactic(auto, unfolding(lower_emission::specs::Emission::chunk_code))]
@@ -181,13 +182,13 @@ pub fn thread_numbers(env: &Env<'_>, h: u32, count: u32, out: &mut Emitter)
         count,
         out,
     );
-    out.put(env, h1, Instr::Push(4096));
+    out.put(env, h1, Instr::Push(i64::from(MOST_THREADS)));
     out.put(env, h2, Instr::Min);
     out.keep(env, h1, free1);
     raise_above(env, h, env.free, out);
 }
 
-/// The numbers of 4096 threads go to the first free cells.
+/// The numbers of `MOST_THREADS` threads go to the first free cells.
 pub fn all_threads(env: &Env<'_>, h: u32, out: &mut Emitter)
     ensures { Emits (one (env_of env.now) h (i.Push (pos 1)) ⨟ keep (env_of env.now) (h + 1) env.now.free ⨟ one (env_of env.now) h (i.Push (pos most_threads)) ⨟ keep (env_of env.now) (h + 1) (env.now.free + 1)) out.old out.new }
 {
@@ -195,7 +196,7 @@ pub fn all_threads(env: &Env<'_>, h: u32, out: &mut Emitter)
     let free1 = out.sum(env.free, 1);
     out.put(env, h, Instr::Push(1));
     out.keep(env, h1, env.free);
-    out.put(env, h, Instr::Push(4096));
+    out.put(env, h, Instr::Push(i64::from(MOST_THREADS)));
     out.keep(env, h1, free1);
 }
 

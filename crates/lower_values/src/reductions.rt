@@ -19,7 +19,7 @@ use crate::kinds::reduction_kind;
 use crate::types::{Emitter, Env, Names};
 use lower_emission::types::{Leaving, Named};
 use stack_code::{Around, Instr, SiteKind};
-use typed_tree::{Expr, Iteration, Reducer};
+use typed_tree::{Expr, Iteration, Reducer, Scalar};
 
 /// What is folded, and by what.
 #[derive(Clone, Copy)]
@@ -332,7 +332,17 @@ fn fork(env: &Env<'_>, h: u32, parallel: Parallel, forked: Forked, fold: Fold, o
     thread(env, parallel.site, forked, fold, out);
     out.aim(&inside, h1, over);
     out.put(&inside, h1, Instr::Unnest);
-    combined(env, h1, fold.by, out);
+    let course = out.sum(free, 2);
+    let behind = out.sum(course, 2);
+    combined(
+        &Env {
+            free: behind,
+            ..*env
+        },
+        h,
+        fold.by,
+        out,
+    );
 }
 
 /// A fork, with what it is asked.
@@ -350,18 +360,60 @@ fn forking(env: &Env<'_>, h: u32, forked: Forked, question: Question, out: &mut 
     ask(env, h, question, out);
 }
 
-/// Functions can't combine accumulators yet.
+/// Combines the accumulators of threads: an operator has done so at the fork, a function is called for each that is kept.
 fn combined(env: &Env<'_>, h: u32, by: Reducer, out: &mut Emitter)
     ensures { Emits (spec.combined (env_of env.now) h by) out.old out.new }
 {
-    let _ = env;
-    let _ = h;
     match by {
         Reducer::Operator { .. } => {}
-        Reducer::Function { .. } => {
-            out.whole = false;
+        Reducer::Function {
+            sub,
+            accumulator,
+            value,
+            ..
+        } => {
+            let h1 = out.sum(h, 1);
+            let h2 = out.sum(h1, 1);
+            let number = out.sum(sub, 1);
+            let head = out.here();
+            out.put(env, h1, Instr::Part);
+            let none = out.gap(env, h2);
+            reducing(env, h, accumulator, value, out);
+            out.put(env, h1, Instr::CallTo(number, env.free, head));
+            out.aim_false(env, h2, none);
+            out.put(env, h2, Instr::Pop);
         }
     }
+}
+
+/// The accumulator and the part go to the cells of the formals, and are tested.
+fn reducing(env: &Env<'_>, h: u32, accumulator: Scalar, value: Scalar, out: &mut Emitter)
+    ensures { Emits (spec.reducing (env_of env.now) h accumulator value) out.old out.new }
+{
+    let h1 = out.sum(h, 1);
+    let h2 = out.sum(h1, 1);
+    let free1 = out.sum(env.free, 1);
+    out.keep(env, h2, free1);
+    out.keep(env, h1, env.free);
+    ranged(env, h, env.free, accumulator, out);
+    ranged(env, h1, free1, value, out);
+    out.put(env, h2, Instr::Min);
+}
+
+/// Tests whether the number in a cell is one of the subtype's.
+fn ranged(env: &Env<'_>, h: u32, cell: u32, subtype: Scalar, out: &mut Emitter)
+    ensures { Emits (spec.ranged (env_of env.now) h cell subtype) out.old out.new }
+{
+    let h1 = out.sum(h, 1);
+    let h2 = out.sum(h1, 1);
+    let h3 = out.sum(h2, 1);
+    out.put(env, h, Instr::LoadL(cell));
+    out.put(env, h1, Instr::Push(subtype.low));
+    out.put(env, h2, Instr::Ge);
+    out.put(env, h1, Instr::LoadL(cell));
+    out.put(env, h2, Instr::Push(subtype.high));
+    out.put(env, h3, Instr::Le);
+    out.put(env, h2, Instr::Min);
 }
 
 /// A fork's site, what it begins, and the cell of the initial value.

@@ -74,6 +74,12 @@ decreases-aggregates::turnings l = 17179869184 * l.turned.value + (l.runs + 30)
 abbrev pub decreases-aggregates::turning : goal.decreases-aggregates::turning
 decreases-aggregates::turning l = 17179869184 * l.turned.value + 26
 
+abbrev pub decreases-aggregates::turned_component : goal.decreases-aggregates::turned_component
+decreases-aggregates::turned_component l = 17179869184 * l.turned.value + 22
+
+abbrev pub decreases-aggregates::given : goal.decreases-aggregates::given
+decreases-aggregates::given l = 17179869184 * l.association.value + (l.association.runs + 31)
+
 abbrev pub decreases-aggregates::turns : goal.decreases-aggregates::turns
 decreases-aggregates::turns l = 17179869184 * l.turned.value + 25
 

@@ -99,11 +99,10 @@ abbrev pub IsForward : Iteration → Type 0
 IsForward (Range k reverse low high check filter) = reverse ≡ false
 IsForward (Components k constant at from selections number stride dimensions filter) = Unit {0}
 
--- only a construct with threads has chunks; its reducer is an operator
-abbrev pub IsFolded : Option ℕ → Reducer → Chunk → Iteration → Type 0
-IsFolded None by chunk iteration = chunk ≡ NoChunk
-IsFolded (Some site) (Operator at op class) chunk iteration = IsForward iteration
-IsFolded (Some site) (Function at sub accumulator value) chunk iteration = ⊥
+-- only a construct with threads has chunks
+abbrev pub IsFolded : Option ℕ → Chunk → Iteration → Type 0
+IsFolded None chunk iteration = chunk ≡ NoChunk
+IsFolded (Some site) chunk iteration = IsForward iteration
 
 abbrev pub object_cells : Program → ℕ → ℕ
 object_cells program x = length (object_layout program x)
@@ -140,7 +139,7 @@ module _ (program : Program) (shown : ℕ → Entity → Bool) where
     ScopedExpr v (Call at callee sub actuals) = (u : Called v sub) × ((k : Scalar) × (u.unit.result ≡ Some k)) × ScopedIn v u.unit.formals actuals
     ScopedExpr v (Convert check e) = ScopedExpr v e
     ScopedExpr v (Reduction at attribute by initial site chunk iteration value) =
-        ScopedExpr v initial × ScopedChunk v chunk × ScopedReducer v by × IsFolded site by chunk iteration
+        ScopedExpr v initial × ScopedChunk v chunk × ScopedReducer v by × IsFolded site chunk iteration
         × ScopedIteration v (with_chunk chunk v) iteration (λ u. ScopedExpr u value)
 
     pub ScopedOptional : Around → Optional → Type 0

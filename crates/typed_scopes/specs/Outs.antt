@@ -41,3 +41,7 @@ abbrev mutual
 -- no exit leaves a body
 abbrev pub AllClosed : Program → Type 0
 AllClosed program = (s : ℕ) (sub : Sub) → sub_at program.subs s ≡ Some sub → OutAll (λ n. ⊥) sub.body.stmts × OutHandlers (λ n. ⊥) sub.body.handlers
+
+-- no exit leaves a body, that of the main procedure included
+abbrev pub StaysIn : Program → Type 0
+StaysIn program = AllClosed program × OutAll (λ n. ⊥) program.body.stmts × OutHandlers (λ n. ⊥) program.body.handlers

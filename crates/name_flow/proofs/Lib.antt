@@ -1,0 +1,10 @@
+pub mod Finds
+pub mod FlowDeclarations
+pub mod FlowNames
+pub mod FlowStatements
+pub mod FlowPrograms
+pub mod Between
+pub mod Numbers
+pub mod FreshDeclarations
+pub mod FreshStatements
+pub mod FreshPrograms
