@@ -3,3 +3,4 @@ mod Sizes
 mod Onto
 mod Stopping
 mod Clipping
+mod Lending

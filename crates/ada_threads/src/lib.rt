@@ -4,10 +4,12 @@
 
 mod combining;
 mod cutting;
-mod parts;
+mod iterations;
 mod settling;
+mod views;
 
 pub use combining::answer_of;
 pub use cutting::sizes_of;
-pub use parts::{Part, frame_of};
+pub use iterations::{Iterations, frame_of};
 pub use settling::settle;
+pub use views::laws;

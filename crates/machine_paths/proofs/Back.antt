@@ -1,17 +1,17 @@
 -- A run on the memory that touches no more than the view lets it, isn't stuck on the view.
-use Rattle.std.proofs.Common.{◌≡◌, ℕ, zero, suc, ◌+◌, ◌-◌, ◌<◌, inl, inr, ℤ, pos, negsuc, true, false, cond, List, [], ◌∷◌, ◌++◌, length, set, take, Option, Some, None, arith, refl, sym, ◌∙◌, ap, subst, length-append, length-set}
+use Rattle.std.proofs.Common.{◌≡◌, ℕ, zero, suc, ◌+◌, ◌-◌, ◌<◌, inl, inr, ℤ, pos, negsuc, Bool, true, false, cond, List, [], ◌∷◌, ◌++◌, length, set, take, Option, Some, None, arith, refl, sym, ◌∙◌, ap, subst, length-append, length-set}
 use Rattle.std.specs.Prelude.{slice_get, nat_lt}
 use Rattle.std.proofs.lemmas.List.{get_or-set_same, get_or-set_other, get_or_append_left, get_or-append_right, get_or-take, length-replicate}
 use Rattle.std.proofs.lemmas.Bool.{cases_lt, cases_eq}
 use Rattle.ada_base.specs.declared.reason.Reason.{Reason}
-use Rattle.ada_base.specs.declared.reason.Reason.TheVariants.{StorageError}
+use Rattle.ada_base.specs.declared.reason.Reason.TheVariants.{ConstraintError, StorageError}
 use Rattle.stack_code.specs.declared.instr.Instr.{Instr}
 use Rattle.stack_code.specs.declared.code.Code.{Code}
 use Rattle.stack_code.specs.declared.code.CodeSub.{CodeSub}
 use Rattle.stack_code.specs.declared.code.Unwind.{Unwind}
 use Rattle.ada_base.specs.Cells.{Cell, Gone, Seen, Mine, value_in, seen, written, zeros}
-use Rattle.stack_code.specs.Deeds.{Deed, Lacks, GoesOn, Fails, Loads, Stores, Turns, Calls, CallsAt, Combines, Ends, Leaves, Forks, Nests, Unnests, Writes, Sends, Gets, Gives, deed_of}
-use Rattle.stack_code.specs.Machine.{Frame, State, Spent, Went, Goes, Stops, look_by, look, with_value, with_cells, cut, on, failed, entered, entered_at, entry_of, handled, unwound, raised, turned, entering, calling, calling_at, combining, ending, nesting, done, acted, stepped, step, going, run}
+use Rattle.stack_code.specs.Deeds.{Deed, Lacks, GoesOn, Fails, Loads, Stores, Turns, Calls, CallsAt, Combines, Draws, Ends, Leaves, Forks, Nests, Unnests, Writes, Sends, Gets, Gives, deed_of}
+use Rattle.stack_code.specs.Machine.{Frame, State, Spent, Went, Goes, Stops, look_by, look, with_value, with_cells, cut, on, failed, entered, entered_at, entry_of, handled, unwound, raised, turned, entering, calling, entering_at, calling_at, combining, drawing, ending, nesting, done, acted, stepped, step, going, run}
 use Rattle.cell_memory.specs.Sight.{is_mine}
 use Rattle.machine_paths.specs.Alike.{at, Kept, with_memory, Chain, Alike}
 use Rattle.cell_memory.specs.Sight.{is_gone}
@@ -74,12 +74,16 @@ module _ (b : ℕ) where
     calls : (limit : ℕ) (f : CodeSub) (to : ℕ) (kept : List ℤ) → Well b (calling limit f to kept s)
     calls limit f to kept = turns limit (λ x. entering limit f to kept x) (λ l n. enters limit f to kept l n)
 
-    calls_at : (limit : ℕ) (f : CodeSub) (cell : ℕ) → Well b (calling_at limit f cell s)
-    calls_at limit f cell = turns limit (λ x. cond (nat_lt x.calls 1000) (Goes (entered_at f cell x)) (Goes (failed StorageError x.stack x))) (λ l n.
-        elim (nat_lt s.calls 1000) as (λ y. Well b (cond y (Goes (entered_at f cell (record s { left = l; turns = n }))) (Goes (failed StorageError s.stack (record s { left = l; turns = n }))))) [
-          | true ↦ (tt, own_push s.cells (s.base + cell + f.frame - length s.cells) o)
+    fits_at : (limit : ℕ) (f : CodeSub) (cell to : ℕ) (fit : Bool) (l : Option ℕ) (n : ℕ) → Well b (cond fit (Goes (entered_at f cell to (record s { left = l; turns = n }))) (Goes (failed ConstraintError s.stack (record s { left = l; turns = n }))))
+    fits_at limit f cell to true l n = (tt, own_push s.cells (s.base + cell + f.frame - length s.cells) o)
+    fits_at limit f cell to false l n = (tt, o)
+
+    enters_at : (limit : ℕ) (f : CodeSub) (cell to : ℕ) (fit : Bool) (l : Option ℕ) (n : ℕ) → Well b (entering_at limit f cell to fit (record s { left = l; turns = n }))
+    enters_at limit f cell to fit l n =
+        elim (nat_lt s.calls 1000) as (λ y. Well b (cond y (cond fit (Goes (entered_at f cell to (record s { left = l; turns = n }))) (Goes (failed ConstraintError s.stack (record s { left = l; turns = n })))) (Goes (failed StorageError s.stack (record s { left = l; turns = n }))))) [
+          | true ↦ fits_at limit f cell to fit l n
           | false ↦ (tt, o)
-        ])
+        ]
 
     nests : (limit : ℕ) → Well b (look s (nesting limit))
     nests limit = looks (nesting limit) (λ l.
@@ -95,6 +99,13 @@ module _ (b : ℕ) where
     endings : (limit : ℕ) (v : Option ℤ) (st : List ℤ) (fs : List Frame) → Well b (ending limit v st fs s)
     endings limit v st [] = (tt, o)
     endings limit v st (f ∷ fs) = (tt, own_take s.cells f.top o)
+
+  calls_at : (limit : ℕ) (f : CodeSub) (cell to : ℕ) (fit : Bool) (st : List ℤ) (s : State) → Own b s.cells → Well b (calling_at limit f cell to fit st s)
+  calls_at limit f cell to fit st s o = turns s o limit (λ x. entering_at limit f cell to fit (record x { stack = st })) (λ l n. enters_at (record s { stack = st }) o limit f cell to fit l n)
+
+  draws : (limit : ℕ) (parts : List ℤ) (s : State) → Own b s.cells → Well b (drawing limit parts s)
+  draws limit [] s o = (tt, o)
+  draws limit (part ∷ parts) s o = (tt, o)
 
   combines : (limit : ℕ) (f : CodeSub) (acc : ℤ) (st parts : List ℤ) (s : State) → Own b s.cells → Well b (combining limit f acc st parts s)
   combines limit f acc st [] s o = (tt, o)
@@ -164,7 +175,8 @@ module _ (b : ℕ) (vs ms : List Cell) where
         some_is x y e = cc
   back limit Turns s ns k o a g = turns b s o limit (λ t. Goes (on t.stack t)) (λ l n. (tt, o))
   back limit (Calls f) s ns k o a g = calls b s o limit f (s.pc + 1) s.kept
-  back limit (CallsAt f cell) s ns k o a g = calls_at b s o limit f cell
+  back limit (CallsAt f cell to fit st) s ns k o a g = calls_at b limit f cell to fit st s o
+  back limit Draws s ns k o a g = draws b limit s.kept s o
   back limit (Combines f acc st) s ns k o a g = combines b limit f acc st s.kept s o
   back limit (Ends v st) s ns k o a g = endings b s o limit v st s.waiting
   back limit (Leaves l st) s ns k o a g = (tt, o)

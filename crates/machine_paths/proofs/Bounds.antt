@@ -1,15 +1,15 @@
 -- What a bound of looks changes.
-use Rattle.std.proofs.Common.{◌≡◌, ◌≢◌, ℕ, zero, suc, ◌+◌, ◌-◌, ◌⊎◌, inl, inr, ℤ, true, false, cond, List, [], ◌∷◌, length, Option, Some, None, refl, sym, ap, subst}
+use Rattle.std.proofs.Common.{◌≡◌, ◌≢◌, ℕ, zero, suc, ◌+◌, ◌-◌, ◌⊎◌, inl, inr, ℤ, Bool, true, false, cond, List, [], ◌∷◌, length, Option, Some, None, refl, sym, ap, subst}
 use Rattle.std.specs.Prelude.{slice_get, nat_lt}
 use Rattle.ada_base.specs.declared.reason.Reason.{Reason}
-use Rattle.ada_base.specs.declared.reason.Reason.TheVariants.{StorageError}
+use Rattle.ada_base.specs.declared.reason.Reason.TheVariants.{ConstraintError, StorageError}
 use Rattle.stack_code.specs.declared.instr.Instr.{Instr}
 use Rattle.stack_code.specs.declared.code.Code.{Code}
 use Rattle.stack_code.specs.declared.code.CodeSub.{CodeSub}
 use Rattle.stack_code.specs.declared.code.Unwind.{Unwind}
 use Rattle.ada_base.specs.Cells.{seen, written}
-use Rattle.stack_code.specs.Deeds.{Deed, Lacks, GoesOn, Fails, Loads, Stores, Turns, Calls, CallsAt, Combines, Ends, Leaves, Forks, Nests, Unnests, Writes, Sends, Gets, Gives, deed_of}
-use Rattle.stack_code.specs.Machine.{Frame, State, Stop, Spent, Cut, Went, Goes, Stops, look, with_value, with_cells, cut, on, failed, entered, entered_at, entry_of, handled, unwound, raised, turned, entering, calling, calling_at, combining, ending, nesting, done, acted, stepped, step, going, run}
+use Rattle.stack_code.specs.Deeds.{Deed, Lacks, GoesOn, Fails, Loads, Stores, Turns, Calls, CallsAt, Combines, Draws, Ends, Leaves, Forks, Nests, Unnests, Writes, Sends, Gets, Gives, deed_of}
+use Rattle.stack_code.specs.Machine.{Frame, State, Stop, Spent, Cut, Went, Goes, Stops, look, with_value, with_cells, cut, on, failed, entered, entered_at, entry_of, handled, unwound, raised, turned, entering, calling, entering_at, calling_at, combining, drawing, ending, nesting, done, acted, stepped, step, going, run}
 use Rattle.machine_paths.specs.Bounded.{with_left, Bounded}
 
 cut_too : (w y : Went) (u : State) → Bounded w y → Bounded w (Stops Cut u)
@@ -52,14 +52,20 @@ module _ (s : State) where
   calls : (limit : ℕ) (f : CodeSub) (to : ℕ) (kept : List ℤ) (j : ℕ) → Bounded (calling limit f to kept free) (calling limit f to kept (bound j))
   calls limit f to kept = turns limit (λ x. entering limit f to kept x) (λ n i. enters limit f to kept n i)
 
-  calls_at : (limit : ℕ) (f : CodeSub) (cell j : ℕ) → Bounded (calling_at limit f cell free) (calling_at limit f cell (bound j))
-  calls_at limit f cell = turns limit (λ x. cond (nat_lt x.calls 1000) (Goes (entered_at f cell x)) (Goes (failed StorageError x.stack x))) (λ n i.
+  fits_at : (f : CodeSub) (cell to : ℕ) (fit : Bool) (n i : ℕ) → Bounded
+      (cond fit (Goes (entered_at f cell to (record free { turns = n }))) (Goes (failed ConstraintError s.stack (record free { turns = n }))))
+      (cond fit (Goes (entered_at f cell to (record (bound i) { turns = n }))) (Goes (failed ConstraintError s.stack (record (bound i) { turns = n }))))
+  fits_at f cell to true n i = (refl, inl (i, refl))
+  fits_at f cell to false n i = (refl, inl (i, refl))
+
+  enters_at : (limit : ℕ) (f : CodeSub) (cell to : ℕ) (fit : Bool) (n i : ℕ) → Bounded (entering_at limit f cell to fit (record free { turns = n })) (entering_at limit f cell to fit (record (bound i) { turns = n }))
+  enters_at limit f cell to fit n i =
       elim (nat_lt s.calls 1000) as (λ y. Bounded
-      (cond y (Goes (entered_at f cell (record free { turns = n }))) (Goes (failed StorageError s.stack (record free { turns = n }))))
-      (cond y (Goes (entered_at f cell (record (bound i) { turns = n }))) (Goes (failed StorageError s.stack (record (bound i) { turns = n }))))) [
-        | true ↦ (refl, inl (i, refl))
+      (cond y (cond fit (Goes (entered_at f cell to (record free { turns = n }))) (Goes (failed ConstraintError s.stack (record free { turns = n })))) (Goes (failed StorageError s.stack (record free { turns = n }))))
+      (cond y (cond fit (Goes (entered_at f cell to (record (bound i) { turns = n }))) (Goes (failed ConstraintError s.stack (record (bound i) { turns = n })))) (Goes (failed StorageError s.stack (record (bound i) { turns = n }))))) [
+        | true ↦ fits_at f cell to fit n i
         | false ↦ (refl, inl (i, refl))
-      ])
+      ]
 
   nests : (limit j : ℕ) → Bounded (look free (nesting limit)) (look (bound j) (nesting limit))
   nests limit = looks (nesting limit) (λ i.
@@ -81,6 +87,13 @@ module _ (s : State) where
   endings limit v st [] j = (λ e. cc, refl, inl (j, refl))
   endings limit v st (f ∷ fs) j = (refl, inl (j, refl))
 
+calls_at : (limit : ℕ) (f : CodeSub) (cell to : ℕ) (fit : Bool) (st : List ℤ) (s : State) (j : ℕ) → Bounded (calling_at limit f cell to fit st (with_left s None)) (calling_at limit f cell to fit st (with_left s (Some j)))
+calls_at limit f cell to fit st s j = turns s limit (λ x. entering_at limit f cell to fit (record x { stack = st })) (λ n i. enters_at (record s { stack = st }) limit f cell to fit n i) j
+
+draws : (limit : ℕ) (parts : List ℤ) (s : State) (j : ℕ) → Bounded (drawing limit parts (with_left s None)) (drawing limit parts (with_left s (Some j)))
+draws limit [] s j = (refl, inl (j, refl))
+draws limit (part ∷ parts) s j = (refl, inl (j, refl))
+
 combines : (limit : ℕ) (f : CodeSub) (acc : ℤ) (st parts : List ℤ) (s : State) (j : ℕ) → Bounded (combining limit f acc st parts (with_left s None)) (combining limit f acc st parts (with_left s (Some j)))
 combines limit f acc st [] s j = (refl, inl (j, refl))
 combines limit f acc st (part ∷ parts) s j = turns s limit (λ x. entering limit f x.pc parts (record x { stack = part ∷ acc ∷ st })) (λ n i. enters (record s { stack = part ∷ acc ∷ st }) limit f s.pc parts n i) j
@@ -101,7 +114,8 @@ does limit (Stores a v d) s j =
     ]
 does limit Turns s j = turns s limit (λ t. Goes (on t.stack t)) (λ n i. (refl, inl (i, refl))) j
 does limit (Calls f) s j = calls s limit f (s.pc + 1) s.kept j
-does limit (CallsAt f cell) s j = calls_at s limit f cell j
+does limit (CallsAt f cell to fit st) s j = calls_at limit f cell to fit st s j
+does limit Draws s j = draws limit s.kept s j
 does limit (Combines f acc st) s j = combines limit f acc st s.kept s j
 does limit (Ends v st) s j = endings s limit v st s.waiting j
 does limit (Leaves l st) s j = (λ e. cc, refl, inl (j, refl))

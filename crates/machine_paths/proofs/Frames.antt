@@ -1,17 +1,17 @@
 -- A run that isn't stuck on its view is the same on a memory that shows what the view has.
-use Rattle.std.proofs.Common.{◌≡◌, ℕ, zero, suc, ◌+◌, ◌-◌, ◌<◌, ◌≤◌, inl, inr, ℤ, pos, negsuc, true, false, cond, List, [], ◌∷◌, ◌++◌, length, set, take, Option, Some, None, arith, refl, sym, ◌∙◌, ap, subst, length-append, length-set}
+use Rattle.std.proofs.Common.{◌≡◌, ℕ, zero, suc, ◌+◌, ◌-◌, ◌<◌, ◌≤◌, inl, inr, ℤ, pos, negsuc, Bool, true, false, cond, List, [], ◌∷◌, ◌++◌, length, set, take, Option, Some, None, arith, refl, sym, ◌∙◌, ap, subst, length-append, length-set}
 use Rattle.std.specs.Prelude.{slice_get, nat_lt}
 use Rattle.std.proofs.lemmas.List.{get_or-set_same, get_or-set_other, get_or_append_left, get_or-append_right, get_or-take}
 use Rattle.std.proofs.lemmas.Bool.{cases_lt, cases_eq}
 use Rattle.ada_base.specs.declared.reason.Reason.{Reason}
-use Rattle.ada_base.specs.declared.reason.Reason.TheVariants.{StorageError}
+use Rattle.ada_base.specs.declared.reason.Reason.TheVariants.{ConstraintError, StorageError}
 use Rattle.stack_code.specs.declared.instr.Instr.{Instr}
 use Rattle.stack_code.specs.declared.code.Code.{Code}
 use Rattle.stack_code.specs.declared.code.CodeSub.{CodeSub}
 use Rattle.stack_code.specs.declared.code.Unwind.{Unwind}
 use Rattle.ada_base.specs.Cells.{Cell, Gone, Seen, Mine, value_in, seen, where_mine, written, zeros}
-use Rattle.stack_code.specs.Deeds.{Deed, Lacks, GoesOn, Fails, Loads, Stores, Turns, Calls, CallsAt, Combines, Ends, Leaves, Forks, Nests, Unnests, Writes, Sends, Gets, Gives, deed_of}
-use Rattle.stack_code.specs.Machine.{Frame, State, Stop, Spent, Went, Goes, Stops, look_by, look, with_value, with_cells, cut, on, failed, entered, entered_at, ended, entry_of, handled, unwound, raised, turned, entering, calling, calling_at, combining, ending, nesting, done, acted, stepped, step, going, run}
+use Rattle.stack_code.specs.Deeds.{Deed, Lacks, GoesOn, Fails, Loads, Stores, Turns, Calls, CallsAt, Combines, Draws, Ends, Leaves, Forks, Nests, Unnests, Writes, Sends, Gets, Gives, deed_of}
+use Rattle.stack_code.specs.Machine.{Frame, State, Stop, Spent, Went, Goes, Stops, look_by, look, with_value, with_cells, cut, on, failed, entered, entered_at, ended, entry_of, handled, unwound, raised, turned, entering, calling, entering_at, calling_at, combining, drawing, ending, nesting, done, acted, stepped, step, going, run}
 use Rattle.cell_memory.specs.Sight.{is_mine}
 use Rattle.ada_workers.specs.Paths.{Shows, Covers}
 use Rattle.machine_paths.specs.Alike.{at, Kept, with_memory, Chain, Alike}
@@ -203,27 +203,33 @@ module _ (b : ℕ) (vs ms : List Cell) where
       ),
     )
 
-    enters_at : (f : CodeSub) (cell : ℕ) (l : Option ℕ) (n : ℕ) → Pair (Goes (entered_at f cell (record s { left = l; turns = n }))) (Goes (entered_at f cell (with_memory (record s { left = l; turns = n }) ns)))
-    enters_at f cell l n = (
+    enters_at : (f : CodeSub) (cell to : ℕ) (l : Option ℕ) (n : ℕ) → Pair (Goes (entered_at f cell to (record s { left = l; turns = n }))) (Goes (entered_at f cell to (with_memory (record s { left = l; turns = n }) ns)))
+    enters_at f cell to l n = (
       (k.long, c),
       (
         ns ++ zeros (s.base + cell + f.frame - length s.cells),
-        (λ i. Goes (record (entered_at f cell (with_memory (record s { left = l; turns = n }) ns)) {
-          waiting = record { at = s.pc; to = s.pc + 1; floor = s.floor; base = s.base; nest = s.nest; kept = s.kept; top = k.covers.0 i } ∷ s.waiting;
+        (λ i. Goes (record (entered_at f cell to (with_memory (record s { left = l; turns = n }) ns)) {
+          waiting = record { at = s.pc; to = to; floor = s.floor; base = s.base; nest = s.nest; kept = s.kept; top = k.covers.0 i } ∷ s.waiting;
           cells = ns ++ zeros (s.base + cell + f.frame - k.covers.0 i);
         })),
         kept_push s.cells ns (s.base + cell + f.frame - length s.cells) k,
       ),
     )
 
-    calls_at_alike : (limit : ℕ) (f : CodeSub) (cell : ℕ) → Pair (calling_at limit f cell s) (calling_at limit f cell m)
-    calls_at_alike limit f cell = turns_alike limit (λ x. cond (nat_lt x.calls 1000) (Goes (entered_at f cell x)) (Goes (failed StorageError x.stack x))) (λ l n.
+    fits_at : (f : CodeSub) (cell to : ℕ) (fit : Bool) (l : Option ℕ) (n : ℕ) → Pair
+        (cond fit (Goes (entered_at f cell to (record s { left = l; turns = n }))) (Goes (failed ConstraintError s.stack (record s { left = l; turns = n }))))
+        (cond fit (Goes (entered_at f cell to (with_memory (record s { left = l; turns = n }) ns))) (Goes (failed ConstraintError s.stack (with_memory (record s { left = l; turns = n }) ns))))
+    fits_at f cell to true l n = enters_at f cell to l n
+    fits_at f cell to false l n = (c, (ns, refl, k))
+
+    entering_at_alike : (limit : ℕ) (f : CodeSub) (cell to : ℕ) (fit : Bool) (l : Option ℕ) (n : ℕ) → Pair (entering_at limit f cell to fit (record s { left = l; turns = n })) (entering_at limit f cell to fit (with_memory (record s { left = l; turns = n }) ns))
+    entering_at_alike limit f cell to fit l n =
         elim (nat_lt s.calls 1000) as (λ y. Pair
-        (cond y (Goes (entered_at f cell (record s { left = l; turns = n }))) (Goes (failed StorageError s.stack (record s { left = l; turns = n }))))
-        (cond y (Goes (entered_at f cell (with_memory (record s { left = l; turns = n }) ns))) (Goes (failed StorageError s.stack (with_memory (record s { left = l; turns = n }) ns))))) [
-          | true ↦ enters_at f cell l n
+        (cond y (cond fit (Goes (entered_at f cell to (record s { left = l; turns = n }))) (Goes (failed ConstraintError s.stack (record s { left = l; turns = n })))) (Goes (failed StorageError s.stack (record s { left = l; turns = n }))))
+        (cond y (cond fit (Goes (entered_at f cell to (with_memory (record s { left = l; turns = n }) ns))) (Goes (failed ConstraintError s.stack (with_memory (record s { left = l; turns = n }) ns)))) (Goes (failed StorageError s.stack (with_memory (record s { left = l; turns = n }) ns))))) [
+          | true ↦ fits_at f cell to fit l n
           | false ↦ (c, (ns, refl, k))
-        ])
+        ]
 
     entering_alike : (limit : ℕ) (f : CodeSub) (to : ℕ) (kept : List ℤ) (l : Option ℕ) (n : ℕ) → Pair (entering limit f to kept (record s { left = l; turns = n })) (entering limit f to kept (with_memory (record s { left = l; turns = n }) ns))
     entering_alike limit f to kept l n =
@@ -260,6 +266,13 @@ module _ (b : ℕ) (vs ms : List Cell) where
     endings limit v st [] h = λ g. (ns, refl, k, c)
     endings limit v st (f ∷ fs) h = ends_alike f fs f.to _ h
 
+  calls_at_alike : (limit : ℕ) (f : CodeSub) (cell to : ℕ) (fit : Bool) (st : List ℤ) (s : State) (ns : List Cell) (k : Kept b vs ms s.cells ns) (c : Chain b s.waiting) → Pair (calling_at limit f cell to fit st s) (calling_at limit f cell to fit st (with_memory s ns))
+  calls_at_alike limit f cell to fit st s ns k c = turns_alike s ns k c limit (λ x. entering_at limit f cell to fit (record x { stack = st })) (λ l n. entering_at_alike (record s { stack = st }) ns k c limit f cell to fit l n)
+
+  draws_alike : (limit : ℕ) (parts : List ℤ) (s : State) (ns : List Cell) (k : Kept b vs ms s.cells ns) (c : Chain b s.waiting) → Pair (drawing limit parts s) (drawing limit parts (with_memory s ns))
+  draws_alike limit [] s ns k c = (c, (ns, refl, k))
+  draws_alike limit (part ∷ parts) s ns k c = (c, (ns, refl, k))
+
   combines : (limit : ℕ) (f : CodeSub) (acc : ℤ) (st parts : List ℤ) (s : State) (ns : List Cell) (k : Kept b vs ms s.cells ns) (c : Chain b s.waiting) → Pair (combining limit f acc st parts s) (combining limit f acc st parts (with_memory s ns))
   combines limit f acc st [] s ns k c = (c, (ns, refl, k))
   combines limit f acc st (part ∷ parts) s ns k c = turns_alike s ns k c limit (λ x. entering limit f x.pc parts (record x { stack = part ∷ acc ∷ st })) (λ l n. entering_alike (record s { stack = part ∷ acc ∷ st }) ns k c limit f s.pc parts l n)
@@ -283,7 +296,8 @@ module _ (b : ℕ) (vs ms : List Cell) where
       ] refl
   does limit Turns s ns k c = turns_alike s ns k c limit (λ t. Goes (on t.stack t)) (λ l n. (c, (ns, refl, k)))
   does limit (Calls f) s ns k c = calls_alike s ns k c limit f (s.pc + 1) s.kept
-  does limit (CallsAt f cell) s ns k c = calls_at_alike s ns k c limit f cell
+  does limit (CallsAt f cell to fit st) s ns k c = calls_at_alike limit f cell to fit st s ns k c
+  does limit Draws s ns k c = draws_alike limit s.kept s ns k c
   does limit (Combines f acc st) s ns k c = combines limit f acc st s.kept s ns k c
   does limit (Ends v st) s ns k c = endings s ns k c limit v st s.waiting c
   does limit (Leaves l st) s ns k c = λ g. (ns, refl, k, c)

@@ -10,7 +10,7 @@ use Rattle.stack_code.specs.declared.code.Reducer.{Reducer}
 use Rattle.stack_code.specs.declared.code.SiteKind.{SiteKind}
 use Rattle.stack_code.specs.declared.code.SiteKind.TheVariants as kind
 use Rattle.stack_code.specs.declared.instr.Instr.{Instr}
-use Rattle.stack_code.specs.declared.instr.Instr.TheVariants.{Call, CallAt, Combine, Exit, Leave as LeaveNow, LeaveV}
+use Rattle.stack_code.specs.declared.instr.Instr.TheVariants.{Call, CallAt, CallTo, Combine, Exit, Leave as LeaveNow, LeaveV}
 use Rattle.stack_code.specs.declared.path.Asked.{Asked}
 use Rattle.stack_code.specs.declared.path.Gave.{Gave}
 use Rattle.stack_code.specs.declared.path.Gave.TheVariants as gave
@@ -39,6 +39,7 @@ true_not e = cc
 is_callee : (i : Instr) (sub : ℕ) (f : Frame) → IsCall i sub f → CallsIt i sub
 is_callee (Call k) sub f h = h.0
 is_callee (CallAt k n) sub f h = h.0
+is_callee (CallTo k n to) sub f h = h.0
 is_callee (Combine k) sub f h = h.0
 is_callee i sub f h = absurd h
 

@@ -1,9 +1,9 @@
 -- At which instruction a step stops.
-use Rattle.std.proofs.Common.{◌≡◌, ℕ, zero, suc, ◌+◌, ◌-◌, ◌⊎◌, inl, inr, ℤ, List, [], ◌∷◌, length, Option, Some, None, true, false, cond, refl, sym, subst}
+use Rattle.std.proofs.Common.{◌≡◌, ℕ, zero, suc, ◌+◌, ◌-◌, ◌⊎◌, inl, inr, ℤ, List, [], ◌∷◌, length, Option, Some, None, Bool, true, false, cond, refl, sym, subst}
 use Rattle.std.specs.Prelude.{slice_get, nat_lt}
 use Rattle.ada_base.specs.Cells.{Cell, seen, written}
 use Rattle.ada_base.specs.declared.reason.Reason.{Reason}
-use Rattle.ada_base.specs.declared.reason.Reason.TheVariants.{StorageError}
+use Rattle.ada_base.specs.declared.reason.Reason.TheVariants.{ConstraintError, StorageError}
 use Rattle.stack_code.specs.declared.code.Around.{Around}
 use Rattle.stack_code.specs.declared.code.Code.{Code}
 use Rattle.stack_code.specs.declared.code.CodeSub.{CodeSub}
@@ -12,9 +12,9 @@ use Rattle.stack_code.specs.declared.instr.Instr.{Instr}
 use Rattle.stack_code.specs.declared.path.Leave.{Leave}
 use Rattle.stack_code.specs.declared.path.Leave.TheVariants.{Raise as Raises}
 use Rattle.stack_code.specs.Answers.{IsIo}
-use Rattle.stack_code.specs.Deeds.{Deed, Lacks, GoesOn, Fails, Loads, Stores, Turns, Calls, CallsAt, Combines, Ends, Leaves, Forks, Nests, Unnests, Writes, Sends, Gets, Gives, deed_of}
+use Rattle.stack_code.specs.Deeds.{Deed, Lacks, GoesOn, Fails, Loads, Stores, Turns, Calls, CallsAt, Combines, Draws, Ends, Leaves, Forks, Nests, Unnests, Writes, Sends, Gets, Gives, deed_of}
 use Rattle.stack_code.specs.Fits.{IsFit}
-use Rattle.stack_code.specs.Machine.{Frame, State, Done, Left, Spent, Cut, Asks, Constructs, Stuck, Astray, Went, Goes, Stops, look_by, with_value, with_cells, cut, on, failed, entered, entered_at, entry_of, handled, unwound, raised, turned, entering, entering_at, combining, ending, nesting, done, acted, stepped, step}
+use Rattle.stack_code.specs.Machine.{Frame, State, Done, Left, Spent, Cut, Asks, Constructs, Stuck, Astray, Went, Goes, Stops, look_by, with_value, with_cells, cut, on, failed, entered, entered_at, entry_of, handled, unwound, raised, turned, entering, entering_at, combining, drawing, ending, nesting, done, acted, stepped, step}
 use Rattle.stack_code.specs.Stands.{Stands}
 use Rattle.stack_code.specs.Valid.{IsValid}
 use Rattle.stack_code.proofs.Standing.{here_of, fit_of}
@@ -51,8 +51,16 @@ module _ (i : Instr) (limit : ℕ) where
   entering_at_all : (s t : State) (f : CodeSub) (to : ℕ) (kept : List ℤ) → StoppedAt i s (entering limit f to kept t)
   entering_at_all s t f to kept = elim (nat_lt t.calls 1000) as (λ y. StoppedAt i s (cond y (Goes (entered f to kept t)) (Goes (failed StorageError (cut (length t.stack - f.takes) t.stack) t)))) [ true ↦ tt | false ↦ tt ]
 
-  entering_frame : (s t : State) (f : CodeSub) (n : ℕ) → StoppedAt i s (entering_at limit f n t)
-  entering_frame s t f n = elim (nat_lt t.calls 1000) as (λ y. StoppedAt i s (cond y (Goes (entered_at f n t)) (Goes (failed StorageError t.stack t)))) [ true ↦ tt | false ↦ tt ]
+  fits_frame : (s t : State) (f : CodeSub) (n to : ℕ) (fit : Bool) → StoppedAt i s (cond fit (Goes (entered_at f n to t)) (Goes (failed ConstraintError t.stack t)))
+  fits_frame s t f n to true = tt
+  fits_frame s t f n to false = tt
+
+  entering_frame : (s t : State) (f : CodeSub) (n to : ℕ) (fit : Bool) → StoppedAt i s (entering_at limit f n to fit t)
+  entering_frame s t f n to fit = elim (nat_lt t.calls 1000) as (λ y. StoppedAt i s (cond y (cond fit (Goes (entered_at f n to t)) (Goes (failed ConstraintError t.stack t))) (Goes (failed StorageError t.stack t)))) [ true ↦ fits_frame s t f n to fit | false ↦ tt ]
+
+  drawing_at : (s : State) (parts : List ℤ) → StoppedAt i s (drawing limit parts s)
+  drawing_at s [] = tt
+  drawing_at s (part ∷ parts) = tt
 
   combining_at : (s : State) (f : CodeSub) (acc : ℤ) (st parts : List ℤ) → StoppedAt i s (combining limit f acc st parts s)
   combining_at s f acc st [] = tt
@@ -97,7 +105,8 @@ module _ (i : Instr) (limit : ℕ) where
     back w (Stops Astray t) g = g
   done_at c pc stack Turns s h f = turned_at s (λ t. Goes (on t.stack t)) (λ l n. tt)
   done_at c pc stack (Calls g) s h f = turned_at s (λ t. entering limit g (s.pc + 1) s.kept t) (λ l n. entering_at_all s (record s { left = l; turns = n }) g (s.pc + 1) s.kept)
-  done_at c pc stack (CallsAt g m) s h f = turned_at s (λ t. entering_at limit g m t) (λ l n. entering_frame s (record s { left = l; turns = n }) g m)
+  done_at c pc stack (CallsAt g m to fit st) s h f = turned_at s (λ t. entering_at limit g m to fit (record t { stack = st })) (λ l n. entering_frame s (record s { left = l; turns = n; stack = st }) g m to fit)
+  done_at c pc stack Draws s h f = drawing_at s s.kept
   done_at c pc stack (Combines g acc st) s h f = combining_at s g acc st s.kept
   done_at c pc stack (Ends v st) s h f = ending_at s v st s.waiting
   done_at c pc stack (Leaves l st) s h f = on_leave l st h

@@ -1,5 +1,5 @@
 -- A construct at which a path stands, whose threads workers run.
-use Rattle.std.specs.Prelude.{ℕ, List, length, Result}
+use Rattle.std.specs.Prelude.{◌≡◌, ℕ, ◌≤◌, List, length, Some, Result}
 use Rattle.ada_base.specs.Cells.{Cell}
 use Rattle.ada_base.specs.Cuts.{Plan, cuts_of}
 use Rattle.ada_base.specs.Notes.{Schedule}
@@ -10,8 +10,8 @@ use Rattle.stack_code.specs.declared.code.CodeSite.{CodeSite}
 use Rattle.stack_code.specs.declared.path.Asked.{Asked}
 use Rattle.stack_code.specs.declared.path.Gave.{Gave}
 use Rattle.stack_code.specs.Machine.{State, Stop}
-use Rattle.ada_lower.specs.Driven.{Path, Step, sizes_for, answer_of, with_answer, fork_ended}
-use Rattle.machine_paths.specs.Threads.{ThreadPath}
+use Rattle.ada_lower.specs.Driven.{Path, Step, Forked, sizes_for, answer_of, with_answer, fork, fork_ended, goes}
+use Rattle.machine_paths.specs.Threads.{ThreadPath, enough}
 use Rattle.machine_paths.specs.Starting.{thread_starts}
 
 abbrev pub shares_of : Plan → CodeSite → Asked → List Share
@@ -23,6 +23,10 @@ starts_at limit c plan site q s = thread_starts limit c plan site q s (length s.
 
 abbrev pub with_schedule : Schedule → Path → Path
 with_schedule notes p = record p { world = record p.world { notes = notes } }
+
+-- the threads of a fork come to that, with so many steps and more
+abbrev pub ForksTo : ℕ → Code → Asked → Path → Forked → Type 0
+ForksTo limit c q p r = (m : ℕ) → enough limit c ≤ m → fork c (goes limit c m) q p ≡ Some r
 
 -- the path goes on, when the threads came to these cells, that count of turns, and that answer
 abbrev pub answered_by : Code → CodeSite → Asked → Path → List Cell → ℕ → Result Gave Stop → Step

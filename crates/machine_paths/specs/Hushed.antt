@@ -6,7 +6,7 @@ use Rattle.stack_code.specs.declared.code.Code.{Code}
 use Rattle.stack_code.specs.declared.code.CodeSite.{CodeSite}
 use Rattle.stack_code.specs.declared.code.Spot.{Spot}
 use Rattle.stack_code.specs.declared.instr.Instr.{Instr}
-use Rattle.stack_code.specs.declared.instr.Instr.TheVariants.{Call, CallAt, Combine, Fork}
+use Rattle.stack_code.specs.declared.instr.Instr.TheVariants.{Call, CallAt, CallTo, Combine, Fork}
 use Rattle.ada_base.specs.declared.reason.Reason.{Reason}
 use Rattle.stack_code.specs.declared.path.Gave.{Gave}
 use Rattle.stack_code.specs.declared.path.Gave.TheVariants as gave
@@ -22,6 +22,7 @@ IsQuiet quiet (Site k) = Unit {0}
 abbrev pub CallsIt : Instr → ℕ → Type 0
 CallsIt (Call k) sub = k ≡ sub
 CallsIt (CallAt k n) sub = k ≡ sub
+CallsIt (CallTo k n to) sub = k ≡ sub
 CallsIt (Combine k) sub = k ≡ sub
 CallsIt i sub = ⊥
 

@@ -34,7 +34,7 @@ inside w = record w { notes = InOrder }
 
 -- a world of which nothing is used but the plan
 abbrev pub quiet : Plan → World
-quiet plan = record { taken = 0; held = Nothing; input = []; output = []; notes = InOrder; plan = cuts_of plan }
+quiet plan = record { taken = 0; held = Nothing; input = []; output = []; notes = InOrder; plan = cuts_of plan; done = None }
 
 abbrev pub starts : ThreadPath → Option ℕ → List Cell → Path
 starts p n cs = record { state = begun p.entry p.base p.outward p.turns p.calls p.nested n cs; world = quiet p.plan }

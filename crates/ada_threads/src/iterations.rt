@@ -9,7 +9,7 @@ use stack_code::Asked;
 
 /// Consecutive iterations of a construct, numbered from 0, and the number of the thread that does them.
 #[derive(Clone, Copy)]
-pub struct Part {
+pub struct Iterations {
     /// The number of the thread, from 0.
     pub number: u32,
     /// The number of its first iteration.
@@ -31,7 +31,7 @@ fn further(from: i64, by: u64) -> Option<i64>
 /// The first values of a thread's own cells: its chunk value, the initial value of a reduction, and the first and the last of
 /// its loop values or positions, or 1 and 0 where it has none; and so many more cells of 0. None where one of these numbers
 /// isn't in 64 bits.
-pub fn frame_of(frame: u32, asked: Asked, part: Part) -> Option<Frame>
+pub fn frame_of(frame: u32, asked: Asked, part: Iterations) -> Option<Frame>
     ensures { IfSome result (λ f. frame_values f ≡ thread_values frame asked (share_of part)) }
 {
     let chunk = further(asked.chunk, u64::from(part.number))?;
