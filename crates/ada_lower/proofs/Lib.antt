@@ -70,9 +70,11 @@ mod HeightsTables
 mod HeightsScopes
 mod HeightsValues
 mod HeightsStatements
+mod HeightsIdle
 mod HeightsPrograms
 mod NamedCode
-mod CodeTables
+pub mod Counted
+pub mod CodeTables
 mod ForkLeaves
 mod JoinLeaves
 mod Reading

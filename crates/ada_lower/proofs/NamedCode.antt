@@ -21,6 +21,7 @@ use Rattle.typed_tree.specs.declared.expressions.Reducer.{Reducer}
 use Rattle.typed_tree.specs.declared.expressions.Reducer.TheVariants.{Operator, Function}
 use Rattle.typed_tree.specs.declared.statements.Span.{Span}
 use Rattle.typed_tree.specs.declared.program.Field.{Field as Part}
+use Rattle.typed_tree.specs.declared.program.Site.{Site}
 use Rattle.typed_tree.specs.Syntax.{Expr, Static, Variable, Constant, Parameter, Target, Group, Unary, Binary, AndThen, OrElse, Relation, Membership, If, Call, Convert, Reduction, Iteration, Range, Components, Chunk, NoChunk, Count, Each, Optional, Absent, Present, Selections, Whole, Field, Index, Actuals, NoActual, In, InOut, Out, CompositeInOut, CompositeOut, Value, Number, Cells, Composite, WholeVariable, WholeConstant, WholeTarget, CompositeIf, Aggregate, Associations, NoAssociation, Association, Pieces, NoPiece, Text, Image, Padded, Decls, NoDecl, DeclareDefault, DeclareVariable, DeclareConstant, Mentions, Stmt, Null, Assign, CallProcedure, Exit, Return, ReturnValue, Raise, Reraise, IfThen, Case, Loop, For, ParallelFor, Parallel, Block, Put, Get, Stmts, End, Then, Alternatives, NoAlternative, Alternative, Handled, Others, Reasons, Handlers, NoHandler, Handler, Arms, NoArm, Arm, Sub, Subtype, OfScalar, Array, Record, Program}
 use Rattle.stack_code.specs.declared.code.Around.{Around as Body}
 use Rattle.stack_code.specs.declared.code.Around.TheVariants as body
@@ -40,7 +41,7 @@ unfoldable use Rattle.lower_emission.specs.Emission.{emit, selected, passed, put
 use Rattle.lower_emission.specs.Statements.{no_handler, is_end, assigned, in_span, chosen, has_reason, handled_by, returning, returning_value, away, exiting, handled_target, image_instr, send_instr, piece_texts, object_here, exits_of, arm_exits, left_by, exits_code, left_code, no_loop, field_defaults, default_of, defaults_within, subtype_or_none, defaulted, declared, parallel_for, arms_code, chunk_by, arm_scope, parallel_block}
 unfoldable use Rattle.lower_emission.specs.Statements.{back_code, piece_values, stmt, all, cases, handling, arm_codes}
 use Rattle.lower_emission.specs.Bodies as code
-use Rattle.lower_emission.specs.Programs.{text_in, placed_code}
+use Rattle.lower_emission.specs.Programs.{text_in, has_fork, idle_fork, idle_forks, whole_code, placed_code}
 use Rattle.lower_emission.specs.Texts.{texts_of}
 use Rattle.ada_lower.specs.HasTables.{IsBody}
 use Rattle.ada_lower.specs.Sited.{Inner, SitedExpr, SitedOptional, SitedSelections, SitedActuals, SitedValue, SitedComposite, SitedAssociations, SitedIteration, SitedChunk, SitedPieces, SitedDecls, SitedStmt, SitedAll, SitedAlternatives, SitedArms, SitedHandlers, SitedSubs, IsSited}
@@ -352,8 +353,8 @@ module _ (program : Program) where
     made_associated : (o : Option ℕ) (s : Scope) (h n : ℕ) (x : Associations) → SitedAssociations program o x → Inside o s → Made (associated program s h n x)
     made_associated o s h n NoAssociation w k = tt
     made_associated o s h n (Association runs None mentions value rest) w k =
-        (made_cond o s k (takes_turns runs None value) _ _ (made_turnings o s k h n (pos 0) _ runs (made_component o (taking 3 s) h (s.free + 1 + 1) value w.0 k)) (made_fillings o s k h n (width program value) (is_plain value) _ runs (λ m. made_into o s h (n + m) value w.0 k)), made_associated o s h n rest w.1 k)
-    made_associated o s h n (Association runs (Some x) mentions value rest) w k = (made_turnings o s k h n x.first _ runs (made_component o (iterated_scope s x.parameter) h (s.free + 1 + 1) value w.0 k), made_associated o s h n rest w.1 k)
+        (made_cond o s k (takes_turns runs None value) _ _ (made_turnings o s k h n (pos 0) _ runs (made_component o (taking 3 s) h (s.free + 1 + 1) value w.1 k)) (made_fillings o s k h n (width program value) (is_plain value) _ runs (λ m. made_into o s h (n + m) value w.1 k)), made_associated o s h n rest w.2 k)
+    made_associated o s h n (Association runs (Some x) mentions value rest) w k = (made_turnings o s k h n x.first _ runs (made_component o (iterated_scope s x.parameter) h (s.free + 1 + 1) value w.1 k), made_associated o s h n rest w.2 k)
 
     made_component : (o : Option ℕ) (s : Scope) (h a : ℕ) (x : Value) → SitedValue program o x → Inside o s → Made (component program s h a x)
     made_component o s h a (Number check e) w k = ((k.0, tt), (made_emit o s (h + 1) e w k, ((k.0, tt), (k.0, tt))))
@@ -640,7 +641,20 @@ module _ (program : Program) where
   made_main s (DeclareConstant x initial more) w all' k = (made_into None (taking (width program initial) s) 0 s.free initial w.0 k, made_main (code.main_object s (ConstantOf x) (width program initial)) more w.1 all' k)
   made_main s (Mentions es more) w all' k = made_main s more w all' k
 
+  -- ---- what no run comes to
+
+  made_idle : (text : List ℕ → ℕ) (ps : List Placed) (n : ℕ) (sites : List Site) → n + length sites ≡ length program.sites → Made (idle_forks (code.main_scope text) ps n sites)
+  made_idle text ps n [] e = tt
+  made_idle text ps n (x ∷ more) e = (go (has_fork n ps), made_idle text ps (n + 1) more (let y : n + suc (length more) ≡ length program.sites = e in omega (arith, y)))
+    where
+      is : n < length program.sites
+      is = let y : n + suc (length more) ≡ length program.sites = e in omega (arith, y)
+
+      go : (b : Bool) → Made (cond b none (idle_fork (code.main_scope text) n))
+      go true = tt
+      go false = ((tt, (is, tt)), ((tt, (is, tt)), (tt, tt)))
+
   -- what each listed instruction of a program names
   pub listed_names : IsSited program → (q : ℕ) (p : Placed) → slice_get (placed_code program) q ≡ Some p → IsBody program p.body × Names p.body p.instr
   listed_names w q p e =
-      made_at (placed_code program) q p (all_made (code.program_code program (text_in program)) 0 (made_main (code.main_scope (text_in program)) program.body.decls w.0.0 w (tt, tt, (λ bytes. refl)))) e
+      made_at (placed_code program) q p (all_made (whole_code program (text_in program)) 0 (made_main (code.main_scope (text_in program)) program.body.decls w.0.0 w (tt, tt, (λ bytes. refl)), made_idle (text_in program) (listed (code.program_code program (text_in program)) 0) 0 program.sites (omega arith))) e

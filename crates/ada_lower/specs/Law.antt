@@ -28,7 +28,8 @@ use Rattle.ada_lower.specs.ProgramCode.{AreNamed, IsCodeOf, AllFit}
 use Rattle.typed_scopes.specs.Outs.{AllClosed}
 use Rattle.ada_lower.specs.Defaults.{Filled}
 use Rattle.ada_lower.specs.Ready.{IsReady}
-use Rattle.ada_lower.specs.HasTables.{HasTables, HasForks, LeasesFit}
+use Rattle.typed_sites.specs.Sites.{SitesAreDistinct}
+use Rattle.ada_lower.specs.HasTables.{HasTables, LeasesFit}
 use Rattle.ada_lower.specs.Sited.{IsSited}
 use Rattle.ada_lower.specs.Outset.{outermost, first_dyn, main_ends}
 
@@ -89,6 +90,6 @@ abbrev pub ValidLaw : Type 0
 ValidLaw = (program : Program) (text : List ℕ → ℕ) (c : Code) → IsCodeOf program text c → HasTables program text c → IsReady program → ((x : ℕ) → Filled program x) → IsValid c
 
 -- The whole code of a program, by its definition, is its code and has those tables, where constructs and texts are in the
--- program's tables, each construct has one fork, and leases are of frames that the forks see.
+-- program's tables, no two constructs have one number, and leases are of frames that the forks see.
 abbrev pub TablesLaw : Type 0
-TablesLaw = (program : Program) (leases : ℕ → List Lease) → IsSited program → HasForks program → LeasesFit program leases → IsCodeOf program (text_in program) (code_of program leases) × HasTables program (text_in program) (code_of program leases)
+TablesLaw = (program : Program) (leases : ℕ → List Lease) → IsSited program → SitesAreDistinct program → LeasesFit program leases → IsCodeOf program (text_in program) (code_of program leases) × HasTables program (text_in program) (code_of program leases)

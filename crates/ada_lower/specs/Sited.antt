@@ -1,8 +1,17 @@
 -- Where parallel constructs stand in one another (5.5, 5.6.1, 4.5.10), and that a program's texts are in its table (A.10.7).
-use Rattle.std.specs.Prelude.{ℕ, ◌<◌, List, [], ◌∷◌, length, Option, Some, None}
+use Rattle.std.specs.Prelude.{◌≡◌, ℕ, ◌<◌, List, [], ◌∷◌, length, Option, Some, None, true}
+use Rattle.typed_tree.specs.declared.expressions.Iterated.{Iterated}
+use Rattle.typed_tree.specs.declared.expressions.Run.{Run}
 use Rattle.typed_tree.specs.Syntax.{Expr, Static, Variable, Constant, Parameter, Target, Group, Unary, Binary, AndThen, OrElse, Relation, Membership, If, Call, Convert, Reduction, Optional, Absent, Present, Selections, Whole, Field, Index, Actuals, NoActual, In, InOut, Out, CompositeInOut, CompositeOut, Value, Number, Cells, Composite, WholeVariable, WholeConstant, WholeTarget, CompositeIf, Aggregate, Associations, NoAssociation, Association, Iteration, Range, Components, Chunk, NoChunk, Count, Each, Pieces, NoPiece, Text, Image, Padded, Decls, NoDecl, DeclareDefault, DeclareVariable, DeclareConstant, Mentions, Stmt, Assign, CallProcedure, Exit, ReturnValue, IfThen, Case, Loop, For, ParallelFor, Parallel, Block, Put, Get, Stmts, End, Then, Alternatives, NoAlternative, Alternative, Arms, NoArm, Arm, Handlers, NoHandler, Handler, Body, Sub, Program}
+use Rattle.typed_sites.specs.Sites.{in_value}
+use Rattle.ada_meaning.specs.Turns.{takes_turns}
 use Rattle.lower_emission.specs.Programs.{text_in}
 use Rattle.lower_emission.specs.Texts.{texts_of}
+
+-- a value that is computed for the components of several runs holds no construct, for its code stands once a run
+abbrev pub IsOnce : List Run → Option Iterated → Value → Type 0
+IsOnce (r ∷ q ∷ rs) i value = takes_turns (r ∷ q ∷ rs) i value ≡ true → (s : ℕ) → in_value s value ≡ 0
+IsOnce runs i value = Unit {0}
 
 module _ (program : Program) where
   -- a construct is in the program's table, behind the one in whose threads it stands
@@ -61,7 +70,7 @@ module _ (program : Program) where
 
     pub SitedAssociations : Option ℕ → Associations → Type 0
     SitedAssociations o NoAssociation = Unit {0}
-    SitedAssociations o (Association runs iterated mentions value rest) = SitedValue o value × SitedAssociations o rest
+    SitedAssociations o (Association runs iterated mentions value rest) = IsOnce runs iterated value × SitedValue o value × SitedAssociations o rest
 
     -- the filter stands in the threads of a parallel construct, what is gone through around it
     pub SitedIteration : (around inside : Option ℕ) → Iteration → Type 0

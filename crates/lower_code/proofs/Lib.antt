@@ -1,5 +1,6 @@
 -- Lemmas.
 pub mod Gathered
+pub mod Idle
 pub mod Leavings
 pub mod Levels
 pub mod Parallels

@@ -23,6 +23,10 @@ use Rattle.typed_scopes.specs.Scopes.{Around, ArraySeen, ConstantSeen, VariableS
 
 -- ---- code that is alike: with the same marks and instructions, but for places of handlers and aims of jumps
 
+abbrev pub IsUnforked : Instr → Type 0
+IsUnforked (i.Fork site) = ⊥
+IsUnforked j = Unit {0}
+
 module _ (T : ℕ → ℕ → Type 0) where
   abbrev pub Both : Option ℕ → Option ℕ → Type 0
   Both None None = Unit {0}
@@ -34,7 +38,7 @@ module _ (T : ℕ → ℕ → Type 0) where
   Marks m n = (m.body ≡ n.body) × (m.nest ≡ n.nest) × (m.cells ≡ n.cells) × (m.kind ≡ n.kind) × Both m.entry n.entry
 
   abbrev pub Leaps : Instr → Instr → Type 0
-  Leaps j k = (j ≡ k) ⊎ ((f : ℕ → Instr) × (a b : ℕ) × (j ≡ f a) × (k ≡ f b) × T a b)
+  Leaps j k = (j ≡ k) ⊎ ((f : ℕ → Instr) × (a b : ℕ) × (j ≡ f a) × (k ≡ f b) × T a b × IsUnforked (f b))
 
   abbrev pub Alike : Emit → Emit → Type 0
   Alike Nothing Nothing = Unit {0}
@@ -166,7 +170,7 @@ module _ (T : ℕ → ℕ → Type 0) (v : Around) (s : Scope) (o : Entity → O
   pub a_combined : (h : ℕ) (by : Reducer) → Alike T (combined s h by) (combined (prime o x e s) h by)
   a_combined h (Operator at op class) = tt
   a_combined h (Function at sub accumulator value) = λ p q t.
-      (plain, ((marked, refl, ((plain, (plain, (a_ranged h s.free accumulator, (a_ranged (h + 1) (s.free + 1) value, plain)))), (marked, refl, inr (i.CallTo (sub + 1) s.free, p, q, refl, refl, t)))), plain))
+      (plain, ((marked, refl, ((plain, (plain, (a_ranged h s.free accumulator, (a_ranged (h + 1) (s.free + 1) value, plain)))), (marked, refl, inr (i.CallTo (sub + 1) s.free, p, q, refl, refl, t, tt)))), plain))
 
   pub a_above : (h d : ℕ) → Alike T (raise_above s h d) (raise_above (prime o x e s) h d)
   a_above h d = (plain, (plain, (plain, (marked, refl, plain))))
@@ -180,10 +184,11 @@ module _ (T : ℕ → ℕ → Type 0) (v : Around) (s : Scope) (o : Entity → O
 
   -- the end of a turn
   pub a_counting : (h : ℕ) (reverse : Bool) (d a b : ℕ) → T a b → Alike T (one s h (counting reverse d a)) (one (prime o x e s) h (counting reverse d b))
-  a_counting h reverse d a b t = (marked, refl, inr ((λ z. counting reverse d z), a, b, refl, refl, t))
+  a_counting h true d a b t = (marked, refl, inr ((λ z. counting true d z), a, b, refl, refl, t, tt))
+  a_counting h false d a b t = (marked, refl, inr ((λ z. counting false d z), a, b, refl, refl, t, tt))
 
   pub a_stepping : (h at stride first a b : ℕ) → T a b → Alike T (stepping s h at stride first a) (stepping (prime o x e s) h at stride first b)
-  a_stepping h at stride first a b t = (plain, (plain, (plain, (marked, refl, inr ((λ z. i.Next first (first + 1) z), a, b, refl, refl, t)))))
+  a_stepping h at stride first a b t = (plain, (plain, (plain, (marked, refl, inr ((λ z. i.Next first (first + 1) z), a, b, refl, refl, t, tt)))))
 
   a_away : (loop : ℕ) (b : body.Around) → Alike T (away s loop b) (away (prime o x e s) loop b)
   a_away loop (around.Sub k) = plain
@@ -191,7 +196,7 @@ module _ (T : ℕ → ℕ → Type 0) (v : Around) (s : Scope) (o : Entity → O
 
   pub a_exiting : (loop : ℕ) (p q : Option ℕ) → Both T p q → Alike T (exiting s loop p) (exiting (prime o x e s) loop q)
   a_exiting loop None None t = a_away loop s.body
-  a_exiting loop (Some a) (Some b) t = (marked, refl, inr ((λ z. i.Jump z), a, b, refl, refl, t))
+  a_exiting loop (Some a) (Some b) t = (marked, refl, inr ((λ z. i.Jump z), a, b, refl, refl, t, tt))
   a_exiting loop None (Some b) t = absurd t
   a_exiting loop (Some a) None t = absurd t
 

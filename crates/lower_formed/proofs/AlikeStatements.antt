@@ -182,14 +182,14 @@ module _ (T : ℕ → ℕ → Type 0) (program : Program) (shown : ℕ → Entit
       refl,
       refl,
       (λ a b t. ((plain T v s o xs en k), a_all v (with_exit number a s) o (λ j. cond (nat_eq number j) (Some b) (xs j)) en stmts (like_exit T v s o xs en number a b t k) p.1)),
-      (λ a b t. ((marked T v s o xs en k), refl, inr ((λ z. i.Jump z), a, b, refl, refl, t))),
+      (λ a b t. ((marked T v s o xs en k), refl, inr ((λ z. i.Jump z), a, b, refl, refl, t, tt))),
     )
     a_stmt v s o xs en (Loop number (Present e) stmts) k p = (
       (marked T v s o xs en k),
       refl,
       refl,
       (λ a b t. ((plain T v s o xs en k), a_all v (with_exit number a s) o (λ j. cond (nat_eq number j) (Some b) (xs j)) en stmts (like_exit T v s o xs en number a b t k) p.1)),
-      (λ a b t. (a_emit T program shown v s o xs en 0 e k p.0, ((marked T v s o xs en k), refl, inr ((λ z. i.JTrue z), a, b, refl, refl, t)))),
+      (λ a b t. (a_emit T program shown v s o xs en 0 e k p.0, ((marked T v s o xs en k), refl, inr ((λ z. i.JTrue z), a, b, refl, refl, t, tt)))),
     )
     a_stmt v s o xs en (For number iteration stmts) k p =
         a_iterated T program shown v v s o xs en 0 (Some number) iteration (λ t. all program t stmts) (λ t. all program t stmts) k (λ y. refl) (gone_through T program shown v v iteration (λ u. ScopedAll program shown u stmts) p)

@@ -13,6 +13,7 @@ use Rattle.ada_meaning.proofs.Cells.{entity_same, some_same}
 use Rattle.stack_code.specs.declared.code.Around as body
 use Rattle.stack_code.specs.declared.code.Code.{Code}
 use Rattle.stack_code.specs.declared.code.CodeSub.{CodeSub}
+use Rattle.stack_code.specs.declared.code.SiteKind.{SiteKind}
 use Rattle.lower_emission.specs.Emits.{Emit}
 use Rattle.lower_emission.specs.Bodies as code
 use Rattle.lower_emission.specs.Programs.{behind_main}
@@ -29,7 +30,7 @@ use Rattle.ada_lower.specs.Law.{IsLowered}
 use Rattle.ada_lower.proofs.Grounded.{objects_filled}
 use Rattle.ada_lower.proofs.ProgramStands.{sub_scope_same}
 use Rattle.typed_scopes.specs.Scopes.{Around, FreshFormals, IsScoped, ScopedMain, ScopedValue, behind, entity_of, object_cells, outset, sub_around, with_formals, with_object, with_outer}
-use Rattle.lower_formed.specs.Tables.{IsTabled, TabledDecls}
+use Rattle.lower_formed.specs.Tables.{HasSite, IsTabled, TabledDecls}
 use Rattle.lower_formed.specs.Rooms.{AreFrames, HasRoom, Roomy, frames_of, seen_names}
 use Rattle.lower_formed.proofs.Exits.{all_more, handlers_more}
 use Rattle.lower_formed.proofs.FitsStatements.{default_fits, fits_stmt}
@@ -108,7 +109,7 @@ formed_at program n [] k unit f e = absurd (none-some unit e)
 formed_at program n (u ∷ subs) zero unit f e = let z : n ≡ n + 0 = omega arith in subst (λ j. FormedBody program (suc j) unit.body) z (subst (λ u. FormedBody program (suc n) u.body) (some_same u unit e) f.0)
 formed_at program n (u ∷ subs) (suc k) unit f e = let z : suc n + k ≡ n + suc k = omega arith in subst (λ j. FormedBody program (suc j) unit.body) z (formed_at program (suc n) subs k unit f.1 e)
 
-module _ (program : Program) (text : List ℕ → ℕ) (c : Code) (shown : ℕ → Entity → Bool) (depth : ℕ) (formed : IsFormed program) (filled : NoneEmpty program.subtypes) (scoped : IsScoped program shown) (room : body.Around → ℕ) (tabled : IsTabled program text c (frames_of room) depth) where
+module _ (program : Program) (text : List ℕ → ℕ) (c : Code) (shown : ℕ → Entity → Bool) (depth : ℕ) (formed : IsFormed program) (filled : NoneEmpty program.subtypes) (scoped : IsScoped program shown) (room : body.Around → ℕ) (tabled : IsTabled program text c depth) where
   abbrev names : Entity → Option Named
   names = (behind_main program text).object
 
@@ -117,6 +118,9 @@ module _ (program : Program) (text : List ℕ → ℕ) (c : Code) (shown : ℕ �
 
   abbrev pub mains : Entity → Bool
   mains = (behind outset program.body.decls).taken
+
+  abbrev Row : ℕ → SiteKind → Type 0
+  Row = HasSite c (frames_of room)
 
   abbrev T : List ℕ → Type 0
   T bytes = slice_get c.texts (text bytes) ≡ Some bytes
@@ -223,9 +227,9 @@ module _ (program : Program) (text : List ℕ → ℕ) (c : Code) (shown : ℕ �
   abbrev w0 : Known
   w0 = at_first (length program.subs)
 
-  main_fits : (decls : Decls) (i : Sight) (v : Around) (rest : Scope → Emit) (goal : Sight → Type 0) (does : Around → Type 0) → S w0 v i → FormedDecls program w0 decls → ScopedMain program shown v decls does → TabledDecls T (Rattle.lower_formed.specs.Tables.HasSite c (frames_of room)) depth decls
-      → Roomy room (code.main_declared program i.scope decls rest) → ((z : Entity) → names z ≡ (programs.behind program i.scope decls).object z) → ((z : Entity) → mains z ≡ (behind v decls).taken z)
-      → ((j : Sight) (u : Around) → S w0 u j → does u → Roomy room (rest j.scope) → goal j) → FittedMain program globals mains c.texts text (frames_of room) Fold i decls goal
+  main_fits : (decls : Decls) (i : Sight) (v : Around) (rest : Scope → Emit) (goal : Sight → Type 0) (does : Around → Type 0) → S w0 v i → FormedDecls program w0 decls → ScopedMain program shown v decls does → TabledDecls T depth decls
+      → Roomy Row room (code.main_declared program i.scope decls rest) → ((z : Entity) → names z ≡ (programs.behind program i.scope decls).object z) → ((z : Entity) → mains z ≡ (behind v decls).taken z)
+      → ((j : Sight) (u : Around) → S w0 u j → does u → Roomy Row room (rest j.scope) → goal j) → FittedMain program globals mains c.texts text (frames_of room) Fold i decls goal
   main_fits NoDecl i v rest goal does k f p t m same all next = next i v k p m
   main_fits (DeclareDefault x more) i v rest goal does k f p t m same all next =
       let y : Entity = VariableOf x in
@@ -244,7 +248,7 @@ module _ (program : Program) (text : List ℕ → ℕ) (c : Code) (shown : ℕ �
       let n = width program initial in
       let z = object_size program x in
       let wide = width_is program shown v (object_cells program x) initial p.1 in
-      let le = put_room program room (taking n i).scope 0 i.scope.free initial m.0 in
+      let le = put_room program Row room (taking n i).scope 0 i.scope.free initial m.0 in
       let enough = k.enough in
       let fit : i.scope.free + n ≤ i.cells = omega (arith, le, enough) in (
         k.taken y p.0,
@@ -259,7 +263,7 @@ module _ (program : Program) (text : List ℕ → ℕ) (c : Code) (shown : ℕ �
       let n = width program initial in
       let z = object_size program x in
       let wide = width_is program shown v (object_cells program x) initial p.1 in
-      let le = put_room program room (taking n i).scope 0 i.scope.free initial m.0 in
+      let le = put_room program Row room (taking n i).scope 0 i.scope.free initial m.0 in
       let enough = k.enough in
       let fit : i.scope.free + n ≤ i.cells = omega (arith, le, enough) in (
         k.taken y p.0,
@@ -327,7 +331,7 @@ module _ (program : Program) (text : List ℕ → ℕ) (c : Code) (shown : ℕ �
   no_exit : (j : Sight) (n : ℕ) → ⊥ → sights.Known j n
   no_exit j n h = absurd h
 
-  module _ (closed : AllClosed program) (stays : OutAll (λ n. ⊥) program.body.stmts × OutHandlers (λ n. ⊥) program.body.handlers) (is : IsCodeOf program text c) (named : AreNamed program text globals) (roomy : HasRoom program text globals room) (frame : ℕ) (are : AreFrames c room frame) where
+  module _ (closed : AllClosed program) (stays : OutAll (λ n. ⊥) program.body.stmts × OutHandlers (λ n. ⊥) program.body.handlers) (is : IsCodeOf program text c) (named : AreNamed program text globals) (roomy : HasRoom program text globals Row room) (frame : ℕ) (are : AreFrames c room frame) where
     sub_fits : (k : ℕ) (unit : Sub) (sub : CodeSub) → sub_at program.subs k ≡ Some unit → slice_get c.subs (k + 1) ≡ Some sub
         → SubFits program text globals mains c.texts (frames_of room) (FittedReductions program globals mains unleased c depth) (FittedForks program globals mains unleased c depth) c k unit sub.frame
     sub_fits k unit sub e at =
@@ -347,7 +351,7 @@ module _ (program : Program) (text : List ℕ → ℕ) (c : Code) (shown : ℕ �
               fits_stmt program globals mains c T (frames_of room) room (λ n. refl) apart names shown shows formed.grounded filled depth (there k unit cells) (at_first (suc k)) (around k unit cells)
               (Block unit.body.decls unit.body.stmts unit.body.handlers) (sees_sub k unit cells (omega (arith, enough, many, le)) (omega (arith, fits, le)))
               (body'.decls, body'.stmts, body'.handlers) p t
-              (subst (λ s. Roomy room (stmt program s (Block unit.body.decls unit.body.stmts unit.body.handlers))) (sub_scope_same program globals mains c.texts text (frames_of room) k unit cells) (roomy.subs k unit e).0)
+              (subst (λ s. Roomy Row room (stmt program s (Block unit.body.decls unit.body.stmts unit.body.handlers))) (sub_scope_same program globals mains c.texts text (frames_of room) k unit cells) (roomy.subs k unit e).0)
               (all_more unit.body.stmts (no_exit (there k unit cells)) (closed k unit e).0, handlers_more unit.body.handlers (no_exit (there k unit cells)) (closed k unit e).1);
         }
 

@@ -49,14 +49,14 @@ module _ (program : Program) (globals : ℕ → Entity → Option Named) (mains 
   abbrev pub S : Known → Around → Sight → Type 0
   S = Sees program names mains T frames room
 
-  abbrev pub R : Emit → Type 0
-  R = Roomy room
-
   abbrev pub Fold : ℕ → Sight → Expr → Type 0
   Fold n = FittedReductions program globals mains unleased c n
 
-  abbrev pub Row : ℕ → SiteKind → ℕ → Type 0
+  abbrev pub Row : ℕ → SiteKind → Type 0
   Row = HasSite c frames
+
+  abbrev pub R : Emit → Type 0
+  R = Roomy Row room
 
   pub runs_fit : (n m : ℕ) (rs : List Run) → LieWithin n m rs → FittedRuns program globals mains n m rs
   runs_fit n m [] h = tt
@@ -119,10 +119,10 @@ module _ (program : Program) (globals : ℕ → Entity → Option Named) (mains 
   filtered_body s h Absent b m = m
   filtered_body s h (Present e) b m = m.1.1
 
-  pub thread_room : (site : ℕ) {of : SiteKind} {least : ℕ} (h : Row site of least) → room (Site site) ≤ h.row.frame
+  pub thread_room : (site : ℕ) {of : SiteKind} (h : Row site of) → room (Site site) ≤ h.row.frame
   thread_room site h = let z = threads site in let y = h.frame in omega (arith, z, y)
 
-  pub sited : (i : Sight) {w : Known} {v : Around} → S w v i → (site : ℕ) {of : SiteKind} {least : ℕ} (h : Row site of least) → i.frames site ≡ h.row.frame
+  pub sited : (i : Sight) {w : Known} {v : Around} → S w v i → (site : ℕ) {of : SiteKind} (h : Row site of) → i.frames site ≡ h.row.frame
   sited i k site h = k.rows site ∙ h.frame
 
   -- the sight of a turn over a range in a thread
@@ -150,21 +150,21 @@ module _ (program : Program) (globals : ℕ → Entity → Option Named) (mains 
       → R (cond turns (turnings i.scope h to (pos 0) (component program (taking 3 i).scope h (i.scope.free + 1 + 1) value) (r ∷ rs)) (fillings i.scope h to (width program value) (is_plain value) (λ n. put_into program i.scope h (to + n) value) (r ∷ rs)))
       → FittedGiven program globals mains (Fold n) turns i value
   fits_given true n i w v h to r rs value k le fc fv m =
-      let turning = turned_room room i.scope h to (pos 0) _ r rs le m in
+      let turning = turned_room Row room i.scope h to (pos 0) _ r rs le m in
       let lt = kept i.scope.free (i.scope.free + 1 + 1) (room i.scope.body) i.cells turning.1.1.1.1.1.0 k.enough in
       let turn = turning.1.1.1.1.1.1.1 0 in
       (lt, fc lt turn.1)
   fits_given false n i w v h to r rs value k le fc fv m =
-      let (at, mv) = filled_room room i.scope h to (width program value) (is_plain value) (λ n. put_into program i.scope h (to + n) value) r rs le m in
+      let (at, mv) = filled_room Row room i.scope h to (width program value) (is_plain value) (λ n. put_into program i.scope h (to + n) value) r rs le m in
       fv at mv
 
   mutual
     unfolding emit
 
-    pub fits : (n : ℕ) (i : Sight) (w : Known) (v : Around) (h : ℕ) (e : Expr) → S w v i → FormedExpr program w e → ScopedExpr program shown v e → TabledExpr T Row n e → R (emit program i.scope h e) → Fitted program globals mains (Fold n) i e
+    pub fits : (n : ℕ) (i : Sight) (w : Known) (v : Around) (h : ℕ) (e : Expr) → S w v i → FormedExpr program w e → ScopedExpr program shown v e → TabledExpr T n e → R (emit program i.scope h e) → Fitted program globals mains (Fold n) i e
     fits n i w v h (Static at value literal mentions) k f p t m = tt
-    fits n i w v h (Variable at r x scalar) k f p t m = (reached_variable program names mains T frames room r x 1 k f.0 p.0, fits_selections n i w v (h + 1) x k f.1 p.1 t (part_room program room i.scope i.scope h (root_of i.scope r) x m))
-    fits n i w v h (Constant at r x scalar) k f p t m = (reached_constant program names mains T frames room r x 1 k f.0 p.0, fits_selections n i w v (h + 1) x k f.1 p.1 t (part_room program room i.scope i.scope h (constant_root_of i.scope r) x m))
+    fits n i w v h (Variable at r x scalar) k f p t m = (reached_variable program names mains T frames room r x 1 k f.0 p.0, fits_selections n i w v (h + 1) x k f.1 p.1 t (part_room program Row room i.scope i.scope h (root_of i.scope r) x m))
+    fits n i w v h (Constant at r x scalar) k f p t m = (reached_constant program names mains T frames room r x 1 k f.0 p.0, fits_selections n i w v (h + 1) x k f.1 p.1 t (part_room program Row room i.scope i.scope h (constant_root_of i.scope r) x m))
     fits n i w v h (Parameter at j) k f p t m = k.parameter j p
     fits n i w v h (Target at scalar) k f p t m = let (j, e, one) = p in let (o, is, le) = k.target j e in (o, is, omega (arith, one, le))
     fits n i w v h (Group e) k f p t m = fits n i w v h e k f p t m
@@ -184,7 +184,7 @@ module _ (program : Program) (globals : ℕ → Entity → Option Named) (mains 
     fits n i w v h (Call at callee sub actuals) k f p t m =
         let u = p.0 in
         let whole = passing_free i sub u.unit u.is in
-        let le : (passing program sub i).scope.free ≤ room i.scope.body = passed_room program room (passing program sub i).scope h sub i.scope.free actuals m.0 (λ e.
+        let le : (passing program sub i).scope.free ≤ room i.scope.body = passed_room program Row room (passing program sub i).scope h sub i.scope.free actuals m.0 (λ e.
         let none : u.unit.formals ≡ [] = subst (λ x. ScopedIn program shown v u.unit.formals x) e p.2 in
         let z : i.scope.free + shapes_cells (shapes program u.unit.formals) ≡ i.scope.free + 0 = ap (λ fs. i.scope.free + shapes_cells (shapes program fs)) none in
         let y = m.1 in omega (arith, z, y, whole)) in
@@ -234,32 +234,34 @@ module _ (program : Program) (globals : ℕ → Entity → Option Named) (mains 
     fits (suc n) i w v h (Reduction at attribute by initial (Some site) chunk (Range p true low high check filter) value) k f q t m = absurd (let z : true ≡ false = q.3 in cc)
     fits (suc n) i w v h (Reduction at attribute by initial (Some site) chunk (Range p false low high check filter) value) k f q t m =
         let (ql, qh, qf, qv) = q.4 in
-        let row = t.0 in
+        let row = m.1.1.1.1.1.1.0.1.1.1.0.1 in
+        let enough = row.enough in
         let lt = kept (i.scope.free + 1 + 2) (i.scope.free + 1 + 2 + 1) (room i.scope.body) i.cells m.1.1.1.1.0.1.1.1.0 k.enough in
         let k1 = sees_nested program names mains T frames room (sees_taking program names mains T frames room 1 (omega (arith, lt)) k) in
         let k2 = sees_taking program names mains T frames room 2 (omega (arith, lt)) k1 in
         let k3 = sees_taking program names mains T frames room 1 (omega (arith, lt)) k2 in
         let there : Sight = turn_sight (thread_sight site row.row.frame (taking 2 (taking 2 (taking 1 i)))) chunk (Range p false low high check filter) in
-        let sees : S w (with_parameter p (with_chunk chunk v)) there = turn_sees site row.row.frame chunk p low high check filter (thread_room site row) row.enough k in
+        let sees : S w (with_parameter p (with_chunk chunk v)) there = turn_sees site row.row.frame chunk p low high check filter (thread_room site row) (omega (arith, enough)) k in
         let turn = m.1.1.1.1.1.1.0.1.1.1.1.1.1.0.1.1.1 0 in
         let body = filtered_body there.scope 1 filter _ turn.1 in (
           row.row,
-          (row.is, sited i k site row, row.enough, row.entry),
+          (row.is, sited i k site row, omega (arith, enough), row.entry),
           tt,
           row.kind,
           omega (arith, lt),
-          fits n i w v h initial k f.1 q.0 t.1 m.0,
-          fits_chunk n (nested_sight (taking 1 i)) w v h chunk k1 f.2 q.1 t.2 m.1.1.1.0,
-          fits n (taking 2 (nested_sight (taking 1 i))) w v h low k2 f.3.0 ql t.3.0 m.1.1.1.1.0.0,
-          fits n (taking 1 (taking 2 (nested_sight (taking 1 i)))) w v h high k3 f.3.1 qh t.3.1 m.1.1.1.1.0.1.1.0,
-          fits_optional n there w (with_parameter p (with_chunk chunk v)) 1 filter _ sees f.3.2 qf t.3.2 turn.1,
-          fits n there w (with_parameter p (with_chunk chunk v)) 1 value sees f.3.3 qv t.4 body.0,
+          fits n i w v h initial k f.1 q.0 t.0 m.0,
+          fits_chunk n (nested_sight (taking 1 i)) w v h chunk k1 f.2 q.1 t.1 m.1.1.1.0,
+          fits n (taking 2 (nested_sight (taking 1 i))) w v h low k2 f.3.0 ql t.2.0 m.1.1.1.1.0.0,
+          fits n (taking 1 (taking 2 (nested_sight (taking 1 i)))) w v h high k3 f.3.1 qh t.2.1 m.1.1.1.1.0.1.1.0,
+          fits_optional n there w (with_parameter p (with_chunk chunk v)) 1 filter _ sees f.3.2 qf t.2.2 turn.1,
+          fits n there w (with_parameter p (with_chunk chunk v)) 1 value sees f.3.3 qv t.3 body.0,
           reducer_fits w (with_parameter p (with_chunk chunk v)) there 0 by sees (reducer_as v (with_parameter p (with_chunk chunk v)) by (λ y. chunk_outer chunk v y) q.2) body.1,
           combiner_fits w v i h by k q.2 m.1.1.1.1.1.1.1.1,
         )
     fits (suc n) i w v h (Reduction at attribute by initial (Some site) chunk (Components p constant a r x number stride dimensions filter) value) k f q t m =
         let (some, seen, qs, qf, qv) = q.4 in
-        let row = t.0 in
+        let row = m.1.1.1.1.1.1.0.1.1.1.0.1 in
+        let enough = row.enough in
         let g = through program names mains T frames room p constant a r x number stride dimensions filter (λ w. FormedExpr program w value) f.3 seen in
         let lt = kept (i.scope.free + 1 + 2) (i.scope.free + 1 + 2) (room i.scope.body) i.cells m.1.1.1.1.0.1.1 k.enough in
         let k1 = sees_nested program names mains T frames room (sees_taking program names mains T frames room 1 (omega (arith, lt)) k) in
@@ -267,25 +269,24 @@ module _ (program : Program) (globals : ℕ → Entity → Option Named) (mains 
         let there : Sight = turn_sight (thread_sight site row.row.frame (taking 2 (taking 2 (taking 1 i)))) chunk (Components p constant a r x number stride dimensions filter) in
         let sees : S g.inner (with_chunk chunk v) there = item_turn_sees site row.row.frame chunk p constant a r x number stride dimensions filter (λ w. FormedExpr program w value) g (thread_room site row) row.enough k in
         let turn = m.1.1.1.1.1.1.0.1.1.1.1.1.1.0.1.1.1.1.1.1.1 0 in
-        let body = filtered_body there.scope 1 filter _ turn.1 in
-        let enough = row.enough in (
+        let body = filtered_body there.scope 1 filter _ turn.1 in (
           row.row,
           (row.is, sited i k site row, omega (arith, enough), row.entry),
           tt,
           row.enough,
           row.kind,
           omega (arith, lt),
-          fits n i w v h initial k f.1 q.0 t.1 m.0,
-          fits_chunk n (nested_sight (taking 1 i)) w v h chunk k1 f.2 q.1 t.2 m.1.1.1.0,
+          fits n i w v h initial k f.1 q.0 t.0 m.0,
+          fits_chunk n (nested_sight (taking 1 i)) w v h chunk k1 f.2 q.1 t.1 m.1.1.1.0,
           g.reached (taking 2 (nested_sight (taking 1 i))) k2,
-          fits_selections n (taking 2 (nested_sight (taking 1 i))) w v (h + 1) x k2 g.selections qs t.3.0 m.1.1.1.1.0.1.0,
-          fits_optional n there g.inner (with_chunk chunk v) 1 filter _ sees g.filter qf t.3.1 turn.1,
-          fits n there g.inner (with_chunk chunk v) 1 value sees g.does_so qv t.4 body.0,
+          fits_selections n (taking 2 (nested_sight (taking 1 i))) w v (h + 1) x k2 g.selections qs t.2.0 m.1.1.1.1.0.1.0,
+          fits_optional n there g.inner (with_chunk chunk v) 1 filter _ sees g.filter qf t.2.1 turn.1,
+          fits n there g.inner (with_chunk chunk v) 1 value sees g.does_so qv t.3 body.0,
           reducer_fits g.inner (with_chunk chunk v) there 0 by sees (reducer_as v (with_chunk chunk v) by (λ y. chunk_outer chunk v y) q.2) body.1,
           combiner_fits w v i h by k q.2 m.1.1.1.1.1.1.1.1,
         )
 
-    pub fits_chunk : (n : ℕ) (i : Sight) (w : Known) (v : Around) (h : ℕ) (x : Chunk) → S w v i → FormedChunk program w x → ScopedChunk program shown v x → TabledChunk T Row n x → R (chunk_code program i.scope h x) → FittedChunk program globals mains (Fold n) i x
+    pub fits_chunk : (n : ℕ) (i : Sight) (w : Known) (v : Around) (h : ℕ) (x : Chunk) → S w v i → FormedChunk program w x → ScopedChunk program shown v x → TabledChunk T n x → R (chunk_code program i.scope h x) → FittedChunk program globals mains (Fold n) i x
     fits_chunk n i w v h NoChunk k f p t m = tt
     fits_chunk n i w v h (Count e) k f p t m =
         let lt = kept i.scope.free i.scope.free (room i.scope.body) i.cells m.1.0 k.enough in
@@ -294,16 +295,16 @@ module _ (program : Program) (globals : ℕ → Entity → Option Named) (mains 
         let lt = kept i.scope.free i.scope.free (room i.scope.body) i.cells m.1.0 k.enough in
         (fits n i w v h low k f.0 q.0 t.0 m.0, fits n (taking 1 i) w v h high (sees_taking program names mains T frames room 1 (omega (arith, lt)) k) f.1 q.1 t.1 m.1.1.0)
 
-    pub fits_optional : (n : ℕ) (i : Sight) (w : Known) (v : Around) (h : ℕ) (o : Optional) (b : Emit) → S w v i → FormedOptional program w o → ScopedOptional program shown v o → TabledOptional T Row n o → R (filtered program i.scope h o b) → FittedOptional program globals mains (Fold n) i o
+    pub fits_optional : (n : ℕ) (i : Sight) (w : Known) (v : Around) (h : ℕ) (o : Optional) (b : Emit) → S w v i → FormedOptional program w o → ScopedOptional program shown v o → TabledOptional T n o → R (filtered program i.scope h o b) → FittedOptional program globals mains (Fold n) i o
     fits_optional n i w v h Absent b k f p t m = tt
     fits_optional n i w v h (Present e) b k f p t m = fits n i w v h e k f p t m.0
 
-    pub fits_selections : (n : ℕ) (i : Sight) (w : Known) (v : Around) (h : ℕ) (x : Selections) → S w v i → FormedSelections program w x → ScopedSelections program shown v x → TabledSelections T Row n x → R (selected program i.scope h x) → FittedSelections program globals mains (Fold n) i x
+    pub fits_selections : (n : ℕ) (i : Sight) (w : Known) (v : Around) (h : ℕ) (x : Selections) → S w v i → FormedSelections program w x → ScopedSelections program shown v x → TabledSelections T n x → R (selected program i.scope h x) → FittedSelections program globals mains (Fold n) i x
     fits_selections n i w v h Whole k f p t m = tt
     fits_selections n i w v h (Field number offset rest) k f p t m = fits_selections n i w v h rest k f p t m.1
     fits_selections n i w v h (Index at e low high stride rest) k f p t m = (fits n i w v h e k f.0 p.0 t.0 m.0, fits_selections n i w v h rest k f.1 p.1 t.1 m.1.1)
 
-    pub fits_in : (n : ℕ) (i : Sight) (w : Known) (v : Around) (h sub base from : ℕ) (fs : List Formal) (x : Actuals) → S w v i → FormedActuals program w x → ScopedIn program shown v fs x → TabledActuals T Row n x → R (passed program i.scope h sub base x)
+    pub fits_in : (n : ℕ) (i : Sight) (w : Known) (v : Around) (h sub base from : ℕ) (fs : List Formal) (x : Actuals) → S w v i → FormedActuals program w x → ScopedIn program shown v fs x → TabledActuals T n x → R (passed program i.scope h sub base x)
         → Behind (shapes program (formals_in program sub)) base from (shapes program fs) → FittedIn program globals mains (Fold n) i sub base from (shapes program fs) x
     fits_in n i w v h sub base from fs NoActual k f p t m b = ap (shapes program) p
     fits_in n i w v h sub base from fs (In x (Number check e) rest) k f p t m b =
@@ -335,11 +336,11 @@ module _ (program : Program) (globals : ℕ → Entity → Option Named) (mains 
     fits_in n i w v h sub base from fs (CompositeInOut x at r selections subtype rest) k f p t m b = absurd p
     fits_in n i w v h sub base from fs (CompositeOut x at r selections subtype rest) k f p t m b = absurd p
 
-    pub fits_value : (n : ℕ) (i : Sight) (w : Known) (v : Around) (h to cells : ℕ) (x : Value) → S w v i → FormedValue program w x → ScopedValue program shown v cells x → TabledValue T Row n x → R (put_into program i.scope h to x) → FittedValue program globals mains (Fold n) i cells x
+    pub fits_value : (n : ℕ) (i : Sight) (w : Known) (v : Around) (h to cells : ℕ) (x : Value) → S w v i → FormedValue program w x → ScopedValue program shown v cells x → TabledValue T n x → R (put_into program i.scope h to x) → FittedValue program globals mains (Fold n) i cells x
     fits_value n i w v h to cells (Number check e) k f p t m = (p.0, fits n i w v h e k f p.1 t m.0)
     fits_value n i w v h to cells (Cells c) k f p t m = fits_composite n i w v h to cells c k f p t m
 
-    pub fits_composite : (n : ℕ) (i : Sight) (w : Known) (v : Around) (h to cells : ℕ) (x : Composite) → S w v i → FormedComposite program w x → ScopedComposite program shown v cells x → TabledComposite T Row n x → R (composed program i.scope h to x) → FittedComposite program globals mains (Fold n) i cells x
+    pub fits_composite : (n : ℕ) (i : Sight) (w : Known) (v : Around) (h to cells : ℕ) (x : Composite) → S w v i → FormedComposite program w x → ScopedComposite program shown v cells x → TabledComposite T n x → R (composed program i.scope h to x) → FittedComposite program globals mains (Fold n) i cells x
     fits_composite n i w v h to cells (WholeVariable at r x subtype) k f p t m =
         (p.0, reached_variable program names mains T frames room r x cells k (subst (λ n. Spans program w r x n) p.0 f.0) p.1, fits_selections n i w v (h + 1 + 1) x k f.1 p.2 t m.1.1.0)
     fits_composite n i w v h to cells (WholeConstant at r x subtype) k f p t m =
@@ -349,7 +350,7 @@ module _ (program : Program) (globals : ℕ → Entity → Option Named) (mains 
         (fits n i w v h condition k f.0 p.0 t.0 m.0, fits_composite n i w v h to cells value k f.1 p.1 t.1 m.1.1, fits_composite n i w v h to cells otherwise k f.2 p.2 t.2 m.1.2)
     fits_composite n i w v h to cells (Aggregate at size associations) k f p t m = (p.0, fits_associations n i w v h to cells associations k f p.1 t m.1.1)
 
-    pub fits_associations : (n : ℕ) (i : Sight) (w : Known) (v : Around) (h to cells : ℕ) (x : Associations) → S w v i → FormedAssociations program w x → ScopedAssociations program shown v cells x → TabledAssociations T Row n x → R (associated program i.scope h to x)
+    pub fits_associations : (n : ℕ) (i : Sight) (w : Known) (v : Around) (h to cells : ℕ) (x : Associations) → S w v i → FormedAssociations program w x → ScopedAssociations program shown v cells x → TabledAssociations T n x → R (associated program i.scope h to x)
         → FittedAssociations program globals mains (Fold n) i cells x
     fits_associations n i w v h to cells NoAssociation k f p t m = tt
     fits_associations n i w v h to cells (Association [] None mentions value rest) k f p t m = fits_associations n i w v h to cells rest k f.2 p.2 t.1 m.1
@@ -366,7 +367,7 @@ module _ (program : Program) (globals : ℕ → Entity → Option Named) (mains 
     fits_associations n i w v h to cells (Association (r ∷ rs) (Some x) mentions value rest) k f p t m =
         let (size, lie, pv) = p.1 in
         let e = width_is program shown (with_parameter x.parameter v) size value pv in
-        let turning = turned_room room i.scope h to x.first _ r rs lie.0 m.0 in
+        let turning = turned_room Row room i.scope h to x.first _ r rs lie.0 m.0 in
         let lt = kept i.scope.free (i.scope.free + 1 + 1) (room i.scope.body) i.cells turning.1.1.1.1.1.0 k.enough in
         let turn = turning.1.1.1.1.1.1.1 0 in (
           lt,
@@ -375,11 +376,11 @@ module _ (program : Program) (globals : ℕ → Entity → Option Named) (mains 
           fits_associations n i w v h to cells rest k f.2 p.2 t.1 m.1,
         )
 
-    pub fits_component : (n : ℕ) (i : Sight) (w : Known) (v : Around) (h at cells : ℕ) (x : Value) → S w v i → FormedValue program w x → ScopedValue program shown v cells x → TabledValue T Row n x → R (component program i.scope h at x) → FittedComponent program globals mains (Fold n) i x
+    pub fits_component : (n : ℕ) (i : Sight) (w : Known) (v : Around) (h at cells : ℕ) (x : Value) → S w v i → FormedValue program w x → ScopedValue program shown v cells x → TabledValue T n x → R (component program i.scope h at x) → FittedComponent program globals mains (Fold n) i x
     fits_component n i w v h at cells (Number check e) k f p t m = fits n i w v (h + 1) e k f p.1 t m.1.0
     fits_component n i w v h at cells (Cells c) k f p t m =
         let e = composite_is program shown v cells c p in
-        let le = composed_room program room (taking (composite_width program c) i).scope h i.scope.free c m.0 in
+        let le = composed_room program Row room (taking (composite_width program c) i).scope h i.scope.free c m.0 in
         let enough = k.enough in (
           omega (arith, le, enough),
           fits_composite n (taking (composite_width program c) i) w v h i.scope.free (composite_width program c) c (sees_taking program names mains T frames room (composite_width program c) (omega (arith, le, enough)) k) f (subst (λ n. ScopedComposite program shown v n c) (sym e) p) t m.0,

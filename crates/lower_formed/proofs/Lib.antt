@@ -13,4 +13,5 @@ mod AlikeStatements
 mod Placed
 mod Codes
 mod Strings
+mod Levels
 mod Readies

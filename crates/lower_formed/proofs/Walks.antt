@@ -9,6 +9,7 @@ use Rattle.typed_tree.specs.Syntax.{Optional, Selections, Components, Chunk, NoC
 use Rattle.ada_meaning.specs.Formed.{FormedIteration, FormedOptional, FormedSelections, Known, Spans, SpansConstant, with_constant, with_shape}
 use Rattle.ada_meaning.specs.Shapes.{size}
 use Rattle.stack_code.specs.declared.code.Around as body
+use Rattle.stack_code.specs.declared.code.SiteKind.{SiteKind}
 use Rattle.lower_emission.specs.Emits.{Emit}
 use Rattle.lower_emission.specs.Scope.{Scope, none, ◌⨟◌}
 use Rattle.ada_lower.specs.Sights.{Named, Sight, array_root_of, constant_root_of, item_sight, root_of}
@@ -33,16 +34,16 @@ chunk_free (Count e) s = refl
 chunk_free (Each k low high check) s = refl
 
 -- the code of a value that one component at least is given
-pub filled_room : (room : body.Around → ℕ) (s : Scope) (h t size : ℕ) (plain : Bool) (value : ℕ → Emit) (r : Run) (rs : List Run) → 1 ≤ r.count → Roomy room (fillings s h t size plain value (r ∷ rs)) → (n : ℕ) × Roomy room (value n)
-filled_room room s h t size plain value r rs le m = (r.first, by _ r.count le m.0)
+pub filled_room : (rows : ℕ → SiteKind → Type 0) (room : body.Around → ℕ) (s : Scope) (h t size : ℕ) (plain : Bool) (value : ℕ → Emit) (r : Run) (rs : List Run) → 1 ≤ r.count → Roomy rows room (fillings s h t size plain value (r ∷ rs)) → (n : ℕ) × Roomy rows room (value n)
+filled_room rows room s h t size plain value r rs le m = (r.first, by _ r.count le m.0)
   where
-    by : (b : Bool) (count : ℕ) → 1 ≤ count → Roomy room (cond b (value r.first ⨟ doubled s h (t + r.first) size r.count 1 r.count) (filling value count r.first r.stride)) → Roomy room (value r.first)
+    by : (b : Bool) (count : ℕ) → 1 ≤ count → Roomy rows room (cond b (value r.first ⨟ doubled s h (t + r.first) size r.count 1 r.count) (filling value count r.first r.stride)) → Roomy rows room (value r.first)
     by true count le m = m.0
     by false zero le m = absurd (omega (arith, le))
     by false (suc count) le m = m.0
 
-pub turned_room : (room : body.Around → ℕ) (s : Scope) (h t : ℕ) (low : ℤ) (component : Emit) (r : Run) (rs : List Run) → 1 ≤ r.count → Roomy room (turnings s h t low component (r ∷ rs)) → Roomy room (turning s h t low component r.count r.first r.stride)
-turned_room room s h t low component r rs le m = subst (λ b. Roomy room (cond b none (turning s h t low component r.count r.first r.stride))) (positive r.count le) m.0
+pub turned_room : (rows : ℕ → SiteKind → Type 0) (room : body.Around → ℕ) (s : Scope) (h t : ℕ) (low : ℤ) (component : Emit) (r : Run) (rs : List Run) → 1 ≤ r.count → Roomy rows room (turnings s h t low component (r ∷ rs)) → Roomy rows room (turning s h t low component r.count r.first r.stride)
+turned_room rows room s h t low component r rs le m = subst (λ b. Roomy rows room (cond b none (turning s h t low component r.count r.first r.stride))) (positive r.count le) m.0
 
 module _ (program : Program) (names : Entity → Option Named) (mains : Entity → Bool) (T : List ℕ → Type 0) (frames : ℕ → ℕ) (room : body.Around → ℕ) where
   abbrev S : Known → Around → Sight → Type 0

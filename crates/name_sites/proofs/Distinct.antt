@@ -11,7 +11,7 @@ use Rattle.name_sites.proofs.Measures.{option-of}
 use Rattle.name_sites.proofs.Records.{whole-of}
 use Rattle.name_sites.proofs.SpendsPrograms.{s-program}
 use Rattle.name_sites.specs.Law.{SitesLaw}
-use Rattle.name_sites.specs.Sites.{in_program}
+use Rattle.typed_sites.specs.Sites.{in_program}
 
 -- what is found holds a number at most once, and not at all where the number isn't given out in the end
 judged-once : (s : ℕ) (names : Names) (text : Program) → (option-of (whole-of s)).size (judged names text).0 + left s (judged names text).1 ≤ 1

@@ -7,7 +7,7 @@ use Rattle.name_rules.specs.Parts.{new_site}
 use Rattle.name_rules.specs.declared.log.Log.{Log}
 use Rattle.name_rules.specs.declared.log.Rule.{Rule}
 use Rattle.name_rules.specs.declared.scope.Context.{Context}
-use Rattle.name_sites.specs.Sites.{in_number}
+use Rattle.typed_sites.specs.Sites.{in_number}
 use Rattle.name_rules.specs.Iterations.{only_reduce_rules}
 use Rattle.name_laws.proofs.Walk.{Keeps}
 use Rattle.name_sites.proofs.Leaving.{leaving, left, left-falls, number-given}

@@ -47,7 +47,7 @@ use Rattle.name_sites.proofs.Measures.{counted-by, first-of, maybe-known, maybe-
 use Rattle.name_sites.proofs.Parts.{n-expr, n-iteration, n-optional, n-selections_of, n-sides, n-with_filter}
 use Rattle.name_sites.proofs.Records.{SpendsInside, chunked-of, entered-of, site-of, walked-of}
 use Rattle.name_sites.proofs.Spends.{Holds, Spends, h-joined, h-map, s-bind, s-both, s-given, s-given-any, s-if, s-le, s-log, s-new_site, s-only_reduce_rules, s-pure, s-some, s-then}
-use Rattle.name_sites.specs.Sites.{in_number, in_selections}
+use Rattle.typed_sites.specs.Sites.{in_number, in_selections}
 
 pub z-counted : (which : ℕ) (x0 : TypedPart) → (part-measure which).Whole x0 → Holds (part-measure which) (part-size which x0) (counted x0)
 z-counted which e h0 = (tt, omega (arith, n-expr which e))

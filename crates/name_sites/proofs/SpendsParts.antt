@@ -52,7 +52,7 @@ use Rattle.name_sites.proofs.Measures.{counted-by, maybe-known, part-measure, pa
 use Rattle.name_sites.proofs.Parts.{n-selections_of}
 use Rattle.name_sites.proofs.Records.{SpendsInside, site-of}
 use Rattle.name_sites.proofs.Spends.{Holds, Spends, h-map, s-bind, s-both-second, s-fault, s-given, s-if, s-le, s-new_site, s-pure, s-read, s-some, s-then, s-where_clean-any}
-use Rattle.name_sites.specs.Sites.{in_iteration, in_number, in_optional, in_selections}
+use Rattle.typed_sites.specs.Sites.{in_iteration, in_number, in_optional, in_selections}
 
 pub s-site_where : (which : ℕ) (x0 : Context) (x1 : ℕ) (x2 : Bool) → Spends which (site-of which) 0 (site_where x0 x1 x2)
 s-site_where which here at false = s-pure which (site-of which) _ None (tt, omega arith)

@@ -33,7 +33,7 @@ use Rattle.name_sites.proofs.Measures.{counted-by, maybe-known, maybe-part, part
 use Rattle.name_sites.proofs.Parts.{n-chunk, n-expr, n-iteration}
 use Rattle.name_sites.proofs.Records.{site-of}
 use Rattle.name_sites.proofs.Spends.{Holds, Spends, h-joined, s-bind, s-both, s-fault, s-if, s-le, s-pure, s-some, s-then}
-use Rattle.name_sites.specs.Sites.{in_expr}
+use Rattle.typed_sites.specs.Sites.{in_expr}
 
 pub z-reduction : (which : ℕ) (x0 : Going) (x1 : TypedPart) (x2 : TypedPart) (x3 : Reducer) (x4 : TypedPart) (x5 : TypedPart) → (site-of which).Whole x0.site → (part-measure which).Whole x1 → (part-measure which).Whole x2 → (part-measure which).Whole x4 → (part-measure which).Whole x5 → Holds (counted-by (λ x. in_expr which x)) ((site-of which).size x0.site + part-size which x1 + part-size which x2 + part-size which x4 + part-size which x5) (reduction x0 x1 x2 x3 x4 x5)
 z-reduction which g c i r value initial h0-site h1 h2 h4 h5 = (tt, omega (arith, n-expr which initial, n-chunk which c, n-iteration which i, n-expr which value))

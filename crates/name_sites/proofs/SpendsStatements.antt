@@ -55,7 +55,7 @@ use Rattle.name_sites.proofs.Measures.{counted-by, first-of, maybe-known, maybe-
 use Rattle.name_sites.proofs.Parts.{n-alternatives, n-arms, n-body, n-chunk, n-decls, n-expr, n-exprs_of, n-handlers, n-iteration, n-nested_stmts, n-optional, n-selections_of, n-stmts, n-turned, n-value, w-turned}
 use Rattle.name_sites.proofs.Records.{SpendsAround, SpendsInside, choosing-of, entered-of, site-of}
 use Rattle.name_sites.proofs.Spends.{Holds, Spends, h-joined, h-joined-second, h-map, h-map-any, s-bind, s-both, s-clean, s-fault, s-given, s-given-any, s-if, s-le, s-new_site, s-pure, s-some, s-then, s-where_clean, s-where_clean-any}
-use Rattle.name_sites.specs.Sites.{in_number, in_selections}
+use Rattle.typed_sites.specs.Sites.{in_number, in_selections}
 
 pub z-with_stmt : (which : ℕ) (x0 : TypedPart) (x1 : TypedPart) → (part-measure which).Whole x0 → (part-measure which).Whole x1 → Holds (part-measure which) (part-size which x0 + part-size which x1) (with_stmt x0 x1)
 z-with_stmt which made s h0 h1 = ((h1, h0), omega arith)

@@ -1,7 +1,7 @@
 -- How often a number stands in a part of a typed program as that of a parallel construct: of a parallel loop (5.5), of a
 -- parallel block (5.6.1), or of a parallel reduction (4.5.10). What is mentioned and not evaluated counts too.
 use Rattle.typed_tree.specs.Syntax.{Absent, Actuals, Aggregate, Alternative, Alternatives, AlsoExpr, AndThen, Arm, Arms, Assign, Association, Associations, Binary, Block, Body, Call, CallProcedure, Case, Cells, Chunk, Components, Composite, CompositeIf, CompositeInOut, CompositeOut, Constant, Convert, Count, DeclareConstant, DeclareDefault, DeclareVariable, Decls, Each, End, Exit, Expr, Exprs, Field, For, Get, Group, Handler, Handlers, If, IfThen, Image, In, InOut, Index, Iteration, Loop, Membership, Mentions, NoActual, NoAlternative, NoArm, NoAssociation, NoChunk, NoDecl, NoExpr, NoHandler, NoPiece, Null, Number, Optional, OrElse, Out, Padded, Parallel, ParallelFor, Parameter, Pieces, Present, Program, Put, Raise, Range, Reduction, Relation, Reraise, Return, ReturnValue, Selections, Static, Stmt, Stmts, Sub, Target, Text, Then, Unary, Value, Variable, Whole, WholeConstant, WholeTarget, WholeVariable}
-use Rattle.std.specs.Prelude.{List, None, Option, Some, [], if◌then◌else◌, ℕ, ◌+◌, ◌==◌, ◌∷◌}
+use Rattle.std.specs.Prelude.{List, None, Option, Some, [], if◌then◌else◌, length, ℕ, ◌<◌, ◌≤◌, ◌+◌, ◌==◌, ◌∷◌}
 
 -- a construct has the number that is counted, or another
 abbrev pub in_number : ℕ → ℕ → ℕ
@@ -135,3 +135,11 @@ in_subs s (u ∷ us) = in_body s u.body + in_subs s us
 -- how often it stands in a program
 abbrev pub in_program : ℕ → Program → ℕ
 in_program s p = in_subs s p.subs + in_body s p.body
+
+-- no two parallel constructs of a program have one number
+abbrev pub SitesAreDistinct : Program → Type 0
+SitesAreDistinct p = (s : ℕ) → in_program s p ≤ 1
+
+-- each has the number of a line of the table of sites
+abbrev pub SitesAreListed : Program → Type 0
+SitesAreListed p = (s : ℕ) → 1 ≤ in_program s p → s < length p.sites
