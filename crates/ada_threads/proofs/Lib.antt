@@ -3,4 +3,11 @@ mod Sizes
 mod Onto
 mod Stopping
 mod Clipping
+mod Resuming
+mod Pursued
+mod Forking
+mod InOrder
+mod Bodies
+mod Going
 mod Lending
+mod Sited

@@ -1,3 +1,9 @@
 pub mod Going
 pub mod Shares
+pub mod Came
+pub mod ThreadPaths
+pub mod Tallies
+pub mod Answers
+pub mod Framing
 pub mod Lent
+pub mod Sites

@@ -32,7 +32,7 @@ fn further(from: i64, by: u64) -> Option<i64>
 /// its loop values or positions, or 1 and 0 where it has none; and so many more cells of 0. None where one of these numbers
 /// isn't in 64 bits.
 pub fn frame_of(frame: u32, asked: Asked, part: Iterations) -> Option<Frame>
-    ensures { IfSome result (λ f. frame_values f ≡ thread_values frame asked (share_of part)) }
+    ensures { IfSome result (λ f. frame_values f ≡ thread_values frame asked (share_of share)) }
 {
     let chunk = further(asked.chunk, u64::from(part.number))?;
     let more = frame.saturating_sub(4);
