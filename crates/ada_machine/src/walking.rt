@@ -137,27 +137,27 @@ fn advance<C: Cells, H: Halt>(
 {
     let instr = fetch(code, m.pc);
     let _height = m.stack.len();
-    match instr {
-        Instr::Turn => turn(code, m, limit, halt),
-        _ => match compute(
-            code,
-            instr,
-            m.pc,
-            &mut m.stack,
-            m.base,
-            m.outward.as_slice(),
-            view,
-        ) {
-            Computed::To(to) => {
-                m.pc = to;
-                Went::On
-            }
-            Computed::Failed(reason) => {
-                m.raising = Some(reason);
-                Went::Raising
-            }
-            Computed::Beyond => Went::Stopped(Stop::NoMemory),
-            Computed::Other => effect(code, m, view, limit, halt, instr),
+    match compute(
+        code,
+        instr,
+        m.pc,
+        &mut m.stack,
+        m.base,
+        m.outward.as_slice(),
+        view,
+    ) {
+        Computed::To(to) => {
+            m.pc = to;
+            Went::On
+        }
+        Computed::Failed(reason) => {
+            m.raising = Some(reason);
+            Went::Raising
+        }
+        Computed::Beyond => Went::Stopped(Stop::NoMemory),
+        Computed::Other => match instr {
+            Instr::Turn => turn(code, m, limit, halt),
+            _ => effect(code, m, view, limit, halt, instr),
         },
     }
 }

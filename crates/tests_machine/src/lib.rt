@@ -5,3 +5,6 @@
 
 #[cfg(test)]
 mod listings;
+
+#[cfg(test)]
+mod runs;
