@@ -3,4 +3,3 @@ mod Sizes
 mod Onto
 mod Stopping
 mod Clipping
-mod Lending

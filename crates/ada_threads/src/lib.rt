@@ -6,10 +6,8 @@ mod combining;
 mod cutting;
 mod iterations;
 mod settling;
-mod views;
 
 pub use combining::answer_of;
 pub use cutting::sizes_of;
 pub use iterations::{Iterations, frame_of};
 pub use settling::settle;
-pub use views::laws;
