@@ -3,7 +3,7 @@ use Rattle.std.proofs.Common.{◌≡◌, ℕ, zero, suc, ◌+◌, ◌-◌, ◌*�
 use Rattle.behaviours.specs.Paths.{Entity}
 use Rattle.typed_tree.specs.Syntax.{Expr, Number, Cells, Program, Value}
 use Rattle.ada_meaning.specs.Values
-use Rattle.ada_meaning.specs.Values.{between, truth, bit, to_nat, count, compares, base_of}
+use Rattle.ada_meaning.specs.Values.{between, truth, bit, to_nat, count, compares, base_of, is_equal}
 use Rattle.ada_meaning.specs.Operations.{RangeCheck, Operations}
 use Rattle.ada_meaning.specs.Stored as stored
 use Rattle.ada_meaning.specs.Stored.{Stored, Cause, Left, Address}
@@ -12,17 +12,17 @@ use Rattle.stack_code.specs.declared.code.Code.{Code}
 use Rattle.ada_base.specs.Cells.{Mine}
 use Rattle.stack_code.specs.Deeds.{GoesOn}
 use Rattle.ada_lower.specs.Driven.{Dyn, Fixed, Step, on, At, On, state_of, driven}
-use Rattle.ada_lower.specs.Sights.{Emit, Named, Sight, Stands, Where, iterated_sight, none, one, own, taking, with_parameter, ◌⨟◌}
+use Rattle.ada_lower.specs.Sights.{Emit, Named, Sight, Stands, Where, iterated_sight, looped, none, one, own, taking, when_, with_parameter, ◌⨟◌}
 use Rattle.ada_lower.specs.Emission
 use Rattle.ada_lower.specs.Emission.{emit, selected, load, binary_instr, unary_instr, compare_instr, Shape, shapes, shapes_cells}
 use Rattle.ada_lower.specs.Fits.{Free, Keeps, Ghost, Ends, place_in, Spread, Knows, Stands as StandsFor, Holds, Fit}
 use Rattle.ada_lower.specs.Fitted.{Fitted, FittedRuns, FittedValue, FittedComponent}
 use Rattle.ada_lower.proofs.Framework.{any, To, Doing, comes_here, comes_on, comes_goes, does_seq, does_assoc, does_before, does_returned, comes_as}
-use Rattle.ada_lower.proofs.Memory.{set_what, own_free, fit_set, what_other, fit_alike, IsOwn, own_keeps}
-use Rattle.ada_lower.proofs.Standing.{stands_seq, stands_looped}
-use Rattle.ada_lower.proofs.Parts.{Runs, Fewer, does_first, does_keep, does_check, truth_same}
+use Rattle.ada_lower.proofs.Memory.{set_what, own_free, fit_set, what_other, fit_alike, IsOwn, own_keeps, at_same}
+use Rattle.ada_lower.proofs.Standing.{stands_seq, stands_looped, stands_when}
+use Rattle.ada_lower.proofs.Parts.{Runs, Fewer, bit_same, does_first, does_keep, does_check, truth_same}
 use Rattle.ada_lower.proofs.Declared.{keeping, knows_kept, laid_out, kept_what, among, get_of, laid_in}
-use Rattle.ada_lower.proofs.Blocks.{fit_unkept}
+use Rattle.ada_lower.proofs.Blocks.{equal_numbers, fit_unkept}
 use Rattle.ada_lower.proofs.Courses.{at_entry}
 use Rattle.ada_lower.proofs.Items.{comes_stores}
 use Rattle.ada_lower.proofs.Courses.{comes_kept}
@@ -390,22 +390,22 @@ module _ (limit : ℕ) (cuts : ℕ → ℕ → List ℕ) (program : Program) (c 
       does_first limit c f x (λ b y p z. inl (turns_within t n some room first a u v cur cs len inside b ∙ z)) (λ t' d' w'. (d', fit_alike (turns_at limit cuts c f x s.scope.free a u v (keeping (f.base + t) final g)).what (turns_within t n some room first a u v cur cs len inside) w', comes_here limit c (on f mid st d')))
       (go final (laid_length cur first cs ∙ len)))))
 
-  -- the turns of a run, from one on
+  -- the turns of a run, from one on; behind each, code comes to where the address is moved on
   turning_does : {B : Type 0} {g j : Ghost} {env : Env} {q : B → Type 0} {goal : B → Dyn → Step} (it : Option Iterated) (value : Value) (s : Sight) (t n : ℕ) (st : List ℤ) (code : Emit) → EachAt it value env s t st code → Room g j s env t n → s.scope.free + 1 + 1 < s.cells
-      → (stride head mid : ℕ) (v : ℤ) {e1 e2 e3 e4 : Option ℕ} → At c head i.Turn x.entry → Stands c code (head + 1) mid → At c mid (i.LoadL (s.scope.free + 1 + 1)) e1 → At c (mid + 1) (i.Field stride) e2 → At c (mid + 1 + 1) (i.StoreL (s.scope.free + 1 + 1)) e3 → At c (mid + 1 + 1 + 1) (i.Next s.scope.free (s.scope.free + 1) head) e4
-      → (more k first : ℕ) (cur : List ℤ) (then : List ℤ → Stored B) → v ≡ ((Emission.turned_low it) +ℤ pos k) +ℤ pos more → length cur ≡ n → ((o : ℕ) → o < suc more → first + o * stride + Emission.width program value ≤ n) → Then g j q goal t n (mid + 1 + 1 + 1 + 1) st then
+      → (stride head mid step : ℕ) (v : ℤ) {e1 e2 e3 e4 : Option ℕ} → ((d : Dyn) → To limit c (on f mid st d) (on f step st d)) → At c head i.Turn x.entry → Stands c code (head + 1) mid → At c step (i.LoadL (s.scope.free + 1 + 1)) e1 → At c (step + 1) (i.Field stride) e2 → At c (step + 1 + 1) (i.StoreL (s.scope.free + 1 + 1)) e3 → At c (step + 1 + 1 + 1) (i.Next s.scope.free (s.scope.free + 1) head) e4
+      → (more k first : ℕ) (cur : List ℤ) (then : List ℤ → Stored B) → v ≡ ((Emission.turned_low it) +ℤ pos k) +ℤ pos more → length cur ≡ n → ((o : ℕ) → o < suc more → first + o * stride + Emission.width program value ≤ n) → Then g j q goal t n (step + 1 + 1 + 1 + 1) st then
       → Doing limit c f x (turns_at limit cuts c f x s.scope.free (f.base + (t + first)) ((Emission.turned_low it) +ℤ pos k) v (keeping (f.base + t) cur g)) j q (stored.bind (Meaning.run_values ops k (suc more) first stride (turn_values it value env) cur) then) (λ d. on f head st d) goal
-  turning_does {B} {g} {j} {env} {q} {goal} it value s t n st code each room some stride head mid v jt lc j1 j2 j3 j4 zero k first cur then is len inn go =
+  turning_does {B} {g} {j} {env} {q} {goal} it value s t n st code each room some stride head mid step v arrives jt lc j1 j2 j3 j4 zero k first cur then is len inn go =
       let a : ℕ = f.base + (t + first) in
       let here : first + Emission.width program value ≤ n = (let z : first + 0 * stride + Emission.width program value ≤ n = inn 0 (omega arith) in omega (arith, z, zero-mul stride)) in
       does_assoc limit c f x _ _ then
       (turn_does it value s t n st code each room some head mid v jt lc k first cur (λ final. stored.bind (Meaning.run_values ops (k + 1) 0 (first + stride) stride (turn_values it value env) final) then) len here (λ final flen.
       does_returned limit c f x then final
       (does_first limit c f x (fewer_turns limit cuts c f x s.scope.free (keeping (f.base + t) final g) (frees t n some room final flen) a ((Emission.turned_low it) +ℤ pos k) v) (λ t' d' w'.
-      let (d2, w2, goes) = turn_last limit cuts c f x st (keeping (f.base + t) final g) s.scope.free stride a mid head k (Emission.turned_low it) v j1 j2 j3 j4 (omega (arith, ints, is)) w' in
-      (d2, fit_turns limit cuts c f x s.scope.free (keeping (f.base + t) final g) (frees t n some room final flen) (a + stride) ((Emission.turned_low it) +ℤ pos k) v w2, goes))
+      let (d2, w2, goes) = turn_last limit cuts c f x st (keeping (f.base + t) final g) s.scope.free stride a step head k (Emission.turned_low it) v j1 j2 j3 j4 (omega (arith, ints, is)) w' in
+      (d2, fit_turns limit cuts c f x s.scope.free (keeping (f.base + t) final g) (frees t n some room final flen) (a + stride) ((Emission.turned_low it) +ℤ pos k) v w2, comes_on limit c (arrives d') goes))
       (go final flen))))
-  turning_does {B} {g} {j} {env} {q} {goal} it value s t n st code each room some stride head mid v jt lc j1 j2 j3 j4 (suc more) k first cur then is len inn go =
+  turning_does {B} {g} {j} {env} {q} {goal} it value s t n st code each room some stride head mid step v arrives jt lc j1 j2 j3 j4 (suc more) k first cur then is len inn go =
       let a : ℕ = f.base + (t + first) in
       let a' : ℕ = f.base + (t + (first + stride)) in
       let place : a + stride ≡ a' = omega arith in
@@ -415,27 +415,22 @@ module _ (limit : ℕ) (cuts : ℕ → ℕ → List ℕ) (program : Program) (c 
       does_assoc limit c f x _ _ then
       (turn_does it value s t n st code each room some head mid v jt lc k first cur (λ final. stored.bind (Meaning.run_values ops (k + 1) (suc more) (first + stride) stride (turn_values it value env) final) then) len here (λ final flen.
       does_first limit c f x (fewer_turn limit cuts c f x s.scope.free a a' ((Emission.turned_low it) +ℤ pos k) ((Emission.turned_low it) +ℤ pos (k + 1)) v v (keeping (f.base + t) final g)) (λ t' d' w'.
-      let (d2, w2, goes) = turn_more limit cuts c f x st (keeping (f.base + t) final g) s.scope.free stride a mid head k more (Emission.turned_low it) v j1 j2 j3 j4 is w' in
-      (d2, subst (λ y. Fit (turns_at limit cuts c f x s.scope.free a' ((Emission.turned_low it) +ℤ pos y) v (keeping (f.base + t) final g)) t' d2) one_more (subst (λ y. Fit (turns_at limit cuts c f x s.scope.free y ((Emission.turned_low it) +ℤ pos (suc k)) v (keeping (f.base + t) final g)) t' d2) place w2), goes))
-      (turning_does it value s t n st code each room some stride head mid v jt lc j1 j2 j3 j4 more (k + 1) (first + stride) final then is' flen (λ o lt. let z = inn (suc o) (omega (arith, lt)) in omega (arith, z, suc-mul o stride)) go)))
+      let (d2, w2, goes) = turn_more limit cuts c f x st (keeping (f.base + t) final g) s.scope.free stride a step head k more (Emission.turned_low it) v j1 j2 j3 j4 is w' in
+      (d2, subst (λ y. Fit (turns_at limit cuts c f x s.scope.free a' ((Emission.turned_low it) +ℤ pos y) v (keeping (f.base + t) final g)) t' d2) one_more (subst (λ y. Fit (turns_at limit cuts c f x s.scope.free y ((Emission.turned_low it) +ℤ pos (suc k)) v (keeping (f.base + t) final g)) t' d2) place w2), comes_on limit c (arrives d') goes))
+      (turning_does it value s t n st code each room some stride head mid step v arrives jt lc j1 j2 j3 j4 more (k + 1) (first + stride) final then is' flen (λ o lt. let z = inn (suc o) (omega (arith, lt)) in omega (arith, z, suc-mul o stride)) go)))
 
-  -- a run that has components
-  turning_enters : {B : Type 0} {g j : Ghost} {env : Env} {q : B → Type 0} {goal : B → Dyn → Step} (it : Option Iterated) (value : Value) (s : Sight) (h t n : ℕ) (st : List ℤ) (code : Emit) → EachAt it value env s t st code → Room g j s env t n → s.scope.entry ≡ x.entry → s.scope.free + 1 + 1 < s.cells
-      → (count first stride from to : ℕ) (cur : List ℤ) (then : List ℤ → Stored B) → length cur ≡ n → ((o : ℕ) → o < suc count → first + o * stride + Emission.width program value ≤ n)
-      → Stands c (Emission.turning s.scope h t (Emission.turned_low it) code (suc count) first stride) from to → Then g j q goal t n to st then
-      → Doing limit c f x (keeping (f.base + t) cur g) j q (stored.bind (Meaning.run_values ops 0 (suc count) first stride (turn_values it value env) cur) then) (λ d. on f from st d) goal
-  turning_enters {B} {g} {j} {env} {q} {goal} it value s h t n st code each room en some count first stride from to cur then len inn (jp, (jk, (jp2, (jk2, (jl, (jk3, lo)))))) go =
+  -- the three cells of the turns are set
+  entering_does : {B : Type 0} {g j : Ghost} {env : Env} {q : B → Type 0} {goal : B → Dyn → Step} {m : Stored B} (it : Option Iterated) (s : Sight) (h t n : ℕ) (st : List ℤ) → Room g j s env t n → s.scope.entry ≡ x.entry → s.scope.free + 1 + 1 < s.cells
+      → (count first from mid : ℕ) (cur : List ℤ) → length cur ≡ n → Stands c (Emission.entering s.scope h t (Emission.turned_low it) count first) from mid
+      → Doing limit c f x (turns_at limit cuts c f x s.scope.free (f.base + (t + first)) (Emission.turned_low it) ((Emission.turned_low it) +ℤ pos count -ℤ pos 1) (keeping (f.base + t) cur g)) j q m (λ d. on f mid st d) goal
+      → Doing limit c f x (keeping (f.base + t) cur g) j q m (λ d. on f from st d) goal
+  entering_does {B} {g} {j} {env} {q} {goal} {m} it s h t n st room en some count first from mid cur len (jp, (jk, (jp2, (jk2, (jl, (jk3, z)))))) go =
       let N : ℕ = s.scope.free in
       let G : Ghost = keeping (f.base + t) cur g in
       let a : ℕ = f.base + (t + first) in
       let u : ℤ = (Emission.turned_low it) in
-      let v : ℤ = (Emission.turned_low it) +ℤ pos (suc count) -ℤ pos 1 in
-      let start : ℕ = from + 1 + 1 + 1 + 1 + 1 + 1 in
+      let v : ℤ = (Emission.turned_low it) +ℤ pos count -ℤ pos 1 in
       let free : (k : ℕ) → N ≤ k → k < N + 3 → G.what (f.base + k) ≡ Free = frees t n some room cur len in
-      let o = stands_looped c start to s h true (λ exit. one s.scope h i.Turn ⨟ code) (λ head. Emission.stepping s.scope h (N + 1 + 1) stride N head) lo in
-      let (jt, lc) = o.turn in
-      let (b1, (b2, (b3, (b4, be)))) = o.back in
-      let none_yet : (Emission.turned_low it) +ℤ pos 0 ≡ (Emission.turned_low it) = omega (arith, ints) in
       let free1 : (set_what (f.base + N) (Keeps u) G).what (f.base + (N + 1)) ≡ Free = what_other G (f.base + N) (f.base + (N + 1)) (Keeps u) (λ e. omega (arith, e)) ∙ free (N + 1) (omega arith) (omega arith) in
       let free2 : (set_what (f.base + (N + 1)) (Keeps v) (set_what (f.base + N) (Keeps u) G)).what (f.base + (N + 1 + 1)) ≡ Free =
       what_other (set_what (f.base + N) (Keeps u) G) (f.base + (N + 1)) (f.base + (N + 1 + 1)) (Keeps v) (λ e. omega (arith, e)) ∙ what_other G (f.base + N) (f.base + (N + 1 + 1)) (Keeps u) (λ e. omega (arith, e)) ∙ free (N + 1 + 1) (omega arith) (omega arith) in
@@ -445,31 +440,186 @@ module _ (limit : ℕ) (cuts : ℕ → ℕ → List ℕ) (program : Program) (c 
       (does_keep limit c f x (from + 1 + 1 + 1) (N + 1) v st (own_free _ free1) (at_entry en jk2)
       (does_before limit c f x (λ d. comes_goes limit c f st (from + 1 + 1 + 1 + 1 + 1) (pos a ∷ st) d jl refl)
       (does_keep limit c f x (from + 1 + 1 + 1 + 1 + 1) (N + 1 + 1) (pos a) st (own_free _ free2) (at_entry en jk3)
-      (does_first limit c f x (fewer_enters limit cuts c f x N a u v G) (λ t' d' w'. (d', turn_enters limit cuts c f x N a u v G w', comes_goes limit c f st (start + 1 + 1) st d' o.enter refl))
-      (subst (λ y. Doing limit c f x (turns_at limit cuts c f x N a y v G) j q (stored.bind (Meaning.run_values ops 0 (suc count) first stride (turn_values it value env) cur) then) (λ d. on f (start + 1 + 1) st d) goal) none_yet
-      (turning_does it value s t n st code each room some stride (start + 1 + 1) o.mid v (at_entry en jt) lc b1 b2 b3 b4 count 0 first cur then (let z : pos (suc count) ≡ pos count +ℤ pos 1 = omega (arith, ints) in omega (arith, ints, z)) len inn
-      (λ cs l. subst (λ p. Doing limit c f x (keeping (f.base + t) cs g) j q (then cs) (λ d. on f p st d) goal) be (go cs l))))))))))
+      (does_first limit c f x (fewer_enters limit cuts c f x N a u v G) (λ t' d' w'. (d', turn_enters limit cuts c f x N a u v G w', comes_here limit c (on f (from + 1 + 1 + 1 + 1 + 1 + 1) st d')))
+      (subst (λ p. Doing limit c f x (turns_at limit cuts c f x N a u v G) j q m (λ d. on f p st d) goal) z go)))))))
+
+  -- the turns of a run that has components, from the first one on
+  run_does : {B : Type 0} {g j : Ghost} {env : Env} {q : B → Type 0} {goal : B → Dyn → Step} (it : Option Iterated) (value : Value) (s : Sight) (t n : ℕ) (st : List ℤ) (code : Emit) → EachAt it value env s t st code → Room g j s env t n → s.scope.free + 1 + 1 < s.cells
+      → (stride head mid step : ℕ) {e1 e2 e3 e4 : Option ℕ} → ((d : Dyn) → To limit c (on f mid st d) (on f step st d)) → At c head i.Turn x.entry → Stands c code (head + 1) mid → At c step (i.LoadL (s.scope.free + 1 + 1)) e1 → At c (step + 1) (i.Field stride) e2 → At c (step + 1 + 1) (i.StoreL (s.scope.free + 1 + 1)) e3 → At c (step + 1 + 1 + 1) (i.Next s.scope.free (s.scope.free + 1) head) e4
+      → (count first : ℕ) (cur : List ℤ) (then : List ℤ → Stored B) → length cur ≡ n → ((o : ℕ) → o < suc count → first + o * stride + Emission.width program value ≤ n) → Then g j q goal t n (step + 1 + 1 + 1 + 1) st then
+      → Doing limit c f x (turns_at limit cuts c f x s.scope.free (f.base + (t + first)) (Emission.turned_low it) ((Emission.turned_low it) +ℤ pos (suc count) -ℤ pos 1) (keeping (f.base + t) cur g)) j q (stored.bind (Meaning.run_values ops 0 (suc count) first stride (turn_values it value env) cur) then) (λ d. on f head st d) goal
+  run_does {B} {g} {j} {env} {q} {goal} it value s t n st code each room some stride head mid step arrives jt lc j1 j2 j3 j4 count first cur then len inn go =
+      let v : ℤ = (Emission.turned_low it) +ℤ pos (suc count) -ℤ pos 1 in
+      let none_yet : (Emission.turned_low it) +ℤ pos 0 ≡ (Emission.turned_low it) = omega (arith, ints) in
+      subst (λ y. Doing limit c f x (turns_at limit cuts c f x s.scope.free (f.base + (t + first)) y v (keeping (f.base + t) cur g)) j q (stored.bind (Meaning.run_values ops 0 (suc count) first stride (turn_values it value env) cur) then) (λ d. on f head st d) goal) none_yet
+      (turning_does it value s t n st code each room some stride head mid step v arrives jt lc j1 j2 j3 j4 count 0 first cur then (let z : pos (suc count) ≡ pos count +ℤ pos 1 = omega (arith, ints) in omega (arith, ints, z)) len inn go)
+
+  -- a run alone
+  turning_enters : {B : Type 0} {g j : Ghost} {env : Env} {q : B → Type 0} {goal : B → Dyn → Step} (it : Option Iterated) (value : Value) (s : Sight) (h t n : ℕ) (st : List ℤ) (code : Emit) → EachAt it value env s t st code → Room g j s env t n → s.scope.entry ≡ x.entry → s.scope.free + 1 + 1 < s.cells
+      → (count first stride from to : ℕ) (cur : List ℤ) (then : List ℤ → Stored B) → length cur ≡ n → ((o : ℕ) → o < suc count → first + o * stride + Emission.width program value ≤ n)
+      → Stands c (Emission.turning s.scope h t (Emission.turned_low it) code (suc count) first stride) from to → Then g j q goal t n to st then
+      → Doing limit c f x (keeping (f.base + t) cur g) j q (stored.bind (Meaning.run_values ops 0 (suc count) first stride (turn_values it value env) cur) then) (λ d. on f from st d) goal
+  turning_enters {B} {g} {j} {env} {q} {goal} it value s h t n st code each room en some count first stride from to cur then len inn (jp, (jk, (jp2, (jk2, (jl, (jk3, lo)))))) go =
+      let N : ℕ = s.scope.free in
+      let start : ℕ = from + 1 + 1 + 1 + 1 + 1 + 1 in
+      let o = stands_looped c start to s h true (λ exit. one s.scope h i.Turn ⨟ code) (λ head. Emission.stepping s.scope h (N + 1 + 1) stride N head) lo in
+      let (jt, lc) = o.turn in
+      let (b1, (b2, (b3, (b4, be)))) = o.back in
+      entering_does it s h t n st room en some (suc count) first from start cur len (jp, (jk, (jp2, (jk2, (jl, (jk3, refl))))))
+      (does_before limit c f x (λ d. comes_goes limit c f st (start + 1 + 1) st d o.enter refl)
+      (run_does it value s t n st code each room some stride (start + 1 + 1) o.mid o.mid (λ d. comes_here limit c (on f o.mid st d)) (at_entry en jt) lc b1 b2 b3 b4 count first cur then len inn
+      (λ cs l. subst (λ p. Doing limit c f x (keeping (f.base + t) cs g) j q (then cs) (λ d. on f p st d) goal) be (go cs l))))
+
+  -- ---- several runs in one loop
+
+  -- what follows a turn, for the runs from one on
+  record Steps (s : Sight) (h t : ℕ) (low : ℤ) (head m : ℕ) (r : Run) (rs : List Run) (p to : ℕ) : Type 0 where
+    next : ℕ
+    dup : At c p i.Dup s.scope.entry
+    push : At c (p + 1) (i.Push (pos m)) s.scope.entry
+    eq : At c (p + 1 + 1) i.Eq s.scope.entry
+    test : At c (p + 1 + 1 + 1) (i.JFalse next) s.scope.entry
+    load : At c (p + 1 + 1 + 1 + 1) (i.LoadL (s.scope.free + 1 + 1)) s.scope.entry
+    field : At c (p + 1 + 1 + 1 + 1 + 1) (i.Field r.stride) s.scope.entry
+    store : At c (p + 1 + 1 + 1 + 1 + 1 + 1) (i.StoreL (s.scope.free + 1 + 1)) s.scope.entry
+    count : At c (p + 1 + 1 + 1 + 1 + 1 + 1 + 1) (i.Next s.scope.free (s.scope.free + 1) head) s.scope.entry
+    enters : Stands c (Emission.entering_next s.scope h t low head (m + 1) rs) (p + 1 + 1 + 1 + 1 + 1 + 1 + 1 + 1) next
+    rest : Stands c (Emission.run_steps s.scope h t low head (m + 1) rs) next to
+
+  steps_stand : (s : Sight) (h t : ℕ) (low : ℤ) (head m : ℕ) (r : Run) (rs : List Run) (p to : ℕ) → Stands c (Emission.run_steps s.scope h t low head m (r ∷ rs)) p to → Steps s h t low head m r rs p to
+  steps_stand s h t low head m r rs p to l =
+      let moved : Emit = Emission.stepping s.scope (h + 1) (s.scope.free + 1 + 1) r.stride s.scope.free head in
+      let entered : Emit = Emission.entering_next s.scope h t low head (m + 1) rs in
+      let (next, (j1, (j2, (j3, lw))), rest) = stands_seq c p to (one s.scope (h + 1) i.Dup ⨟ one s.scope (h + 1 + 1) (i.Push (pos m)) ⨟ one s.scope (h + 1 + 1 + 1) i.Eq ⨟ when_ s.scope (h + 1) (moved ⨟ entered)) (Emission.run_steps s.scope h t low head (m + 1) rs) l in
+      let (jf, lb) = stands_when c (p + 1 + 1 + 1) next s (h + 1) (moved ⨟ entered) lw in
+      let (a, (k1, (k2, (k3, (k4, z)))), le) = stands_seq c (p + 1 + 1 + 1 + 1) next moved entered lb in
+      record { next = next; dup = j1; push = j2; eq = j3; test = jf; load = k1; field = k2; store = k3; count = k4; enters = subst (λ a. Stands c entered a next) z le; rest = rest }
+
+  -- the number on the stack is that of the run, or not
+  tested : {s : Sight} {h t : ℕ} {low : ℤ} {head m : ℕ} {r : Run} {rs : List Run} {p to : ℕ} (y : Steps s h t low head m r rs p to) (k : ℕ) (b : Bool) → nat_eq k m ≡ b → (st : List ℤ) (d : Dyn) → To limit c (on f p (pos k ∷ st) d) (on f (p + 1 + 1 + 1) (bit b ∷ pos k ∷ st) d)
+  tested {m = m} {p = p} y k b e st d =
+      comes_on limit c (comes_goes limit c f (pos k ∷ st) (p + 1) (pos k ∷ pos k ∷ st) d y.dup refl)
+      (comes_on limit c (comes_goes limit c f (pos k ∷ pos k ∷ st) (p + 1 + 1) (pos m ∷ pos k ∷ pos k ∷ st) d y.push refl)
+      (comes_goes limit c f (pos m ∷ pos k ∷ pos k ∷ st) (p + 1 + 1 + 1) (bit b ∷ pos k ∷ st) d y.eq (ap (λ z. GoesOn (p + 1 + 1 + 1) (z ∷ (pos k ∷ st) ++ f.below)) (bit_same (is_equal (pos k) (pos m)) ∙ ap bit (equal_numbers k m ∙ e)))))
+
+  is_run : {s : Sight} {h t : ℕ} {low : ℤ} {head m : ℕ} {r : Run} {rs : List Run} {p to : ℕ} (y : Steps s h t low head m r rs p to) (st : List ℤ) (d : Dyn) → To limit c (on f p (pos m ∷ st) d) (on f (p + 1 + 1 + 1 + 1) (pos m ∷ st) d)
+  is_run {m = m} {p = p} y st d = comes_on limit c (tested y m true (at_same m) st d) (comes_goes limit c f (pos 1 ∷ pos m ∷ st) (p + 1 + 1 + 1 + 1) (pos m ∷ st) d y.test refl)
+
+  other_run : {s : Sight} {h t : ℕ} {low : ℤ} {head m : ℕ} {r : Run} {rs : List Run} {p to : ℕ} (y : Steps s h t low head m r rs p to) (k : ℕ) → (k ≡ m → ⊥) → (st : List ℤ) (d : Dyn) → To limit c (on f p (pos k ∷ st) d) (on f y.next (pos k ∷ st) d)
+  other_run {m = m} {p = p} y k ne st d = comes_on limit c (tested y k false (ne_eqb k m ne) st d) (comes_goes limit c f (pos 0 ∷ pos k ∷ st) y.next (pos k ∷ st) d y.test refl)
+
+  -- no later run has that number
+  past_steps : (s : Sight) (h t : ℕ) (low : ℤ) (head : ℕ) (rs : List Run) (m k p to : ℕ) → k < m → Stands c (Emission.run_steps s.scope h t low head m rs) p to → (st : List ℤ) (d : Dyn) → To limit c (on f p (pos k ∷ st) d) (on f to (pos k ∷ st) d)
+  past_steps s h t low head [] m k p to lt l st d = subst (λ z. To limit c (on f p (pos k ∷ st) d) (on f z (pos k ∷ st) d)) (sym l) (comes_here limit c (on f p (pos k ∷ st) d))
+  past_steps s h t low head (r ∷ rs) m k p to lt l st d =
+      let y = steps_stand s h t low head m r rs p to l in
+      comes_on limit c (other_run y k (λ e. omega (arith, e, lt)) st d) (past_steps s h t low head rs (m + 1) k y.next to (omega (arith, lt)) y.rest st d)
+
+  -- what follows the end of a run: those that are left, from a number on
+  following : {B : Type 0} {g j : Ghost} {env : Env} {q : B → Type 0} {goal : B → Dyn → Step} (it : Option Iterated) (value : Value) (s : Sight) (h t n : ℕ) (st : List ℤ) (code : Emit) → ((m : ℕ) → EachAt it value env s t (pos m ∷ st) code) → Room g j s env t n → s.scope.entry ≡ x.entry → s.scope.free + 1 + 1 < s.cells
+      → (head mid to : ℕ) → At c head i.Turn x.entry → Stands c code (head + 1) mid
+      → (rs : List Run) (m k a b p : ℕ) → ((i' : ℕ) → m ≤ i' → (d : Dyn) → To limit c (on f mid (pos i' ∷ st) d) (on f p (pos i' ∷ st) d)) → ((d : Dyn) → To limit c (on f b (pos k ∷ st) d) (on f to (pos k ∷ st) d))
+      → Stands c (Emission.entering_next s.scope h t (Emission.turned_low it) head m rs) a b → Stands c (Emission.run_steps s.scope h t (Emission.turned_low it) head m rs) p to
+      → (cur : List ℤ) (then : List ℤ → Stored B) → length cur ≡ n → FittedRuns program globals mains n (Emission.width program value) rs → ((i' : ℕ) → Then g j q goal t n to (pos i' ∷ st) then)
+      → Doing limit c f x (keeping (f.base + t) cur g) j q (stored.bind (Meaning.runs_values ops rs (turn_values it value env) cur) then) (λ d. on f a (pos k ∷ st) d) goal
+  following {g = g} {j = j} {q = q} {goal = goal} it value s h t n st code each room en some head mid to jt lc [] m k a b p arrives ends l ls cur then len ws go =
+      does_returned limit c f x then cur (does_before limit c f x (λ d. subst (λ z. To limit c (on f z (pos k ∷ st) d) (on f to (pos k ∷ st) d)) l (ends d)) (go k cur len))
+  following {B} {g} {j} {env} {q} {goal} it value s h t n st code each room en some head mid to jt lc (r ∷ rs) m k a b p arrives ends l ls cur then len (wr, ws) go =
+      does_assoc limit c f x _ _ then (one_run r.count wr l
+      (λ l. following it value s h t n st code each room en some head mid to jt lc rs (m + 1) k a b y.next later ends l y.rest cur then len ws go)
+      (λ cs clen. following it value s h t n st code each room en some head mid to jt lc rs (m + 1) m (p + 1 + 1 + 1 + 1 + 1 + 1 + 1 + 1) y.next y.next later (past_steps s h t low head rs (m + 1) m y.next to (omega arith) y.rest st) y.enters y.rest cs then clen ws go))
+    where
+      low : ℤ
+      low = Emission.turned_low it
+
+      y : Steps s h t low head m r rs p to
+      y = steps_stand s h t low head m r rs p to ls
+
+      after : List ℤ → Stored B
+      after cs = stored.bind (Meaning.runs_values ops rs (turn_values it value env) cs) then
+
+      later : (i' : ℕ) → m + 1 ≤ i' → (d : Dyn) → To limit c (on f mid (pos i' ∷ st) d) (on f y.next (pos i' ∷ st) d)
+      later i' le d = comes_on limit c (arrives i' (omega (arith, le)) d) (other_run y i' (λ e. omega (arith, e, le)) st d)
+
+      one_run : (count : ℕ) → ((o : ℕ) → o < count → r.first + o * r.stride + Emission.width program value ≤ n)
+          → Stands c (cond (nat_eq count 0) (Emission.entering_next s.scope h t low head (m + 1) rs) (one s.scope (h + 1) i.Pop ⨟ one s.scope h (i.Push (pos m)) ⨟ Emission.entering s.scope (h + 1) t low count r.first ⨟ one s.scope (h + 1) (i.Jump head))) a b
+          → (Stands c (Emission.entering_next s.scope h t low head (m + 1) rs) a b → Doing limit c f x (keeping (f.base + t) cur g) j q (after cur) (λ d. on f a (pos k ∷ st) d) goal)
+          → Then g j q goal t n (p + 1 + 1 + 1 + 1 + 1 + 1 + 1 + 1) (pos m ∷ st) after
+          → Doing limit c f x (keeping (f.base + t) cur g) j q (stored.bind (Meaning.run_values ops 0 count r.first r.stride (turn_values it value env) cur) after) (λ d. on f a (pos k ∷ st) d) goal
+      one_run zero inn l skips next = does_returned limit c f x after cur (skips l)
+      one_run (suc count) inn l skips next =
+          let entered : Emit = Emission.entering s.scope (h + 1) t low (suc count) r.first in
+          let (jp, (jn, l1)) = subst (λ z. Stands c (cond z (Emission.entering_next s.scope h t low head (m + 1) rs) (one s.scope (h + 1) i.Pop ⨟ one s.scope h (i.Push (pos m)) ⨟ entered ⨟ one s.scope (h + 1) (i.Jump head))) a b) (ne_eqb (suc count) 0 (λ e. omega (arith, e))) l in
+          let (e, le, (jj, z)) = stands_seq c (a + 1 + 1) b entered (one s.scope (h + 1) (i.Jump head)) l1 in
+          does_before limit c f x (λ d. comes_goes limit c f (pos k ∷ st) (a + 1) st d jp refl)
+          (does_before limit c f x (λ d. comes_goes limit c f st (a + 1 + 1) (pos m ∷ st) d jn refl)
+          (entering_does it s (h + 1) t n (pos m ∷ st) room en some (suc count) r.first (a + 1 + 1) e cur len le
+          (does_before limit c f x (λ d. comes_goes limit c f (pos m ∷ st) head (pos m ∷ st) d jj refl)
+          (run_does it value s t n (pos m ∷ st) code (each m) room some r.stride head mid (p + 1 + 1 + 1 + 1) (λ d. comes_on limit c (arrives m (le_refl m) d) (is_run y st d)) jt lc y.load y.field y.store y.count count r.first cur after len inn next))))
+
+  -- those from a number on, of which none is entered yet
+  runs_begin : {B : Type 0} {g j : Ghost} {env : Env} {q : B → Type 0} {goal : B → Dyn → Step} (it : Option Iterated) (value : Value) (s : Sight) (h t n : ℕ) (st : List ℤ) (code : Emit) → ((m : ℕ) → EachAt it value env s t (pos m ∷ st) code) → Room g j s env t n → s.scope.entry ≡ x.entry → s.scope.free + 1 + 1 < s.cells
+      → (rs : List Run) (m from to : ℕ) (cur : List ℤ) (then : List ℤ → Stored B) → length cur ≡ n → FittedRuns program globals mains n (Emission.width program value) rs
+      → Stands c (Emission.run_turnings s.scope h t (Emission.turned_low it) code m rs) from to → Then g j q goal t n to st then
+      → Doing limit c f x (keeping (f.base + t) cur g) j q (stored.bind (Meaning.runs_values ops rs (turn_values it value env) cur) then) (λ d. on f from st d) goal
+  runs_begin {g = g} {j = j} {q = q} {goal = goal} it value s h t n st code each room en some [] m from to cur then len ws l go =
+      does_returned limit c f x then cur (subst (λ p. Doing limit c f x (keeping (f.base + t) cur g) j q (then cur) (λ d. on f p st d) goal) l (go cur len))
+  runs_begin {B} {g} {j} {env} {q} {goal} it value s h t n st code each room en some (r ∷ rs) m from to cur then len (wr, ws) l go =
+      does_assoc limit c f x _ _ then (one_run r.count wr l (λ l. runs_begin it value s h t n st code each room en some rs (m + 1) from to cur then len ws l go))
+    where
+      low : ℤ
+      low = Emission.turned_low it
+
+      after : List ℤ → Stored B
+      after cs = stored.bind (Meaning.runs_values ops rs (turn_values it value env) cs) then
+
+      loop : Emit
+      loop = looped s.scope (h + 1) true (λ exit. one s.scope (h + 1) i.Turn ⨟ code) (λ head. Emission.run_steps s.scope h t low head m (r ∷ rs))
+
+      one_run : (count : ℕ) → ((o : ℕ) → o < count → r.first + o * r.stride + Emission.width program value ≤ n)
+          → Stands c (cond (nat_eq count 0) (Emission.run_turnings s.scope h t low code (m + 1) rs) (one s.scope h (i.Push (pos m)) ⨟ Emission.entering s.scope (h + 1) t low count r.first ⨟ loop ⨟ one s.scope (h + 1) i.Pop)) from to
+          → (Stands c (Emission.run_turnings s.scope h t low code (m + 1) rs) from to → Doing limit c f x (keeping (f.base + t) cur g) j q (after cur) (λ d. on f from st d) goal)
+          → Doing limit c f x (keeping (f.base + t) cur g) j q (stored.bind (Meaning.run_values ops 0 count r.first r.stride (turn_values it value env) cur) after) (λ d. on f from st d) goal
+      one_run zero inn l skips = does_returned limit c f x after cur (skips l)
+      one_run (suc count) inn l skips =
+          let entered : Emit = Emission.entering s.scope (h + 1) t low (suc count) r.first in
+          let (jn, l1) = subst (λ z. Stands c (cond z (Emission.run_turnings s.scope h t low code (m + 1) rs) (one s.scope h (i.Push (pos m)) ⨟ entered ⨟ loop ⨟ one s.scope (h + 1) i.Pop)) from to) (ne_eqb (suc count) 0 (λ e. omega (arith, e))) l in
+          let (e, le, l2) = stands_seq c (from + 1) to entered (loop ⨟ one s.scope (h + 1) i.Pop) l1 in
+          let (end, lo, (jp, z)) = stands_seq c e to loop (one s.scope (h + 1) i.Pop) l2 in
+          let o = stands_looped c e end s (h + 1) true (λ exit. one s.scope (h + 1) i.Turn ⨟ code) (λ head. Emission.run_steps s.scope h t low head m (r ∷ rs)) lo in
+          let (jt, lc) = o.turn in
+          let head : ℕ = e + 1 + 1 in
+          let p : ℕ = o.mid in
+          let y : Steps s h t low head m r rs p end = steps_stand s h t low head m r rs p end o.back in
+          does_before limit c f x (λ d. comes_goes limit c f st (from + 1) (pos m ∷ st) d jn refl)
+          (entering_does it s (h + 1) t n (pos m ∷ st) room en some (suc count) r.first (from + 1) e cur len le
+          (does_before limit c f x (λ d. comes_goes limit c f (pos m ∷ st) head (pos m ∷ st) d o.enter refl)
+          (run_does it value s t n (pos m ∷ st) code (each m) room some r.stride head p (p + 1 + 1 + 1 + 1) (λ d. is_run y st d) (at_entry en jt) lc y.load y.field y.store y.count count r.first cur after len inn (λ cs clen.
+          following it value s h t n st code each room en some head p end (at_entry en jt) lc rs (m + 1) m (p + 1 + 1 + 1 + 1 + 1 + 1 + 1 + 1) y.next y.next (λ i' le d. other_run y i' (λ e. omega (arith, e, le)) st d) (past_steps s h t low head rs (m + 1) m y.next end (omega arith) y.rest st) y.enters y.rest cs then clen ws (λ i' cs clen.
+          does_before limit c f x (λ d. comes_goes limit c f (pos i' ∷ st) (end + 1) st d jp refl) (subst (λ z. Doing limit c f x (keeping (f.base + t) cs g) j q (then cs) (λ d. on f z st d) goal) z (go cs clen)))))))
 
   -- the runs of an association whose values take turns
-  pub all_turnings : {B : Type 0} {g j : Ghost} {env : Env} {q : B → Type 0} {goal : B → Dyn → Step} (it : Option Iterated) (value : Value) (s : Sight) (h t n : ℕ) (st : List ℤ) (code : Emit) → EachAt it value env s t st code → Room g j s env t n → s.scope.entry ≡ x.entry → s.scope.free + 1 + 1 < s.cells
+  pub all_turnings : {B : Type 0} {g j : Ghost} {env : Env} {q : B → Type 0} {goal : B → Dyn → Step} (it : Option Iterated) (value : Value) (s : Sight) (h t n : ℕ) (st : List ℤ) (code : Emit) → ((st : List ℤ) → EachAt it value env s t st code) → Room g j s env t n → s.scope.entry ≡ x.entry → s.scope.free + 1 + 1 < s.cells
       → (rs : List Run) (from to : ℕ) (cur : List ℤ) (then : List ℤ → Stored B) → length cur ≡ n → FittedRuns program globals mains n (Emission.width program value) rs
       → Stands c (Emission.turnings s.scope h t (Emission.turned_low it) code rs) from to → Then g j q goal t n to st then
       → Doing limit c f x (keeping (f.base + t) cur g) j q (stored.bind (Meaning.runs_values ops rs (turn_values it value env) cur) then) (λ d. on f from st d) goal
   all_turnings {g = g} {j = j} {q = q} {goal = goal} it value s h t n st code each room en some [] from to cur then len ws l go =
       does_returned limit c f x then cur (subst (λ p. Doing limit c f x (keeping (f.base + t) cur g) j q (then cur) (λ d. on f p st d) goal) l (go cur len))
-  all_turnings {B} {g} {j} {env} {q} {goal} it value s h t n st code each room en some (r ∷ rs) from to cur then len (wr, ws) l go =
-      let (mid, l1, l2) = stands_seq c from to (cond (nat_eq r.count 0) none (Emission.turning s.scope h t (Emission.turned_low it) code r.count r.first r.stride)) (Emission.turnings s.scope h t (Emission.turned_low it) code rs) l in
-      does_assoc limit c f x _ _ then
-      (one_run r.count r.first r.stride mid wr l1 (λ cs clen.
-      all_turnings it value s h t n st code each room en some rs mid to cs then clen ws l2 go))
+  all_turnings {B} {g} {j} {env} {q} {goal} it value s h t n st code each room en some (r ∷ []) from to cur then len (wr, ws) l go =
+      does_assoc limit c f x _ _ then (one_run r.count r.first r.stride wr l)
     where
       after : List ℤ → Stored B
-      after cs = stored.bind (Meaning.runs_values ops rs (turn_values it value env) cs) then
+      after cs = stored.bind (Meaning.runs_values ops [] (turn_values it value env) cs) then
 
-      one_run : (count first stride mid : ℕ) → ((o : ℕ) → o < count → first + o * stride + Emission.width program value ≤ n)
-          → Stands c (cond (nat_eq count 0) none (Emission.turning s.scope h t (Emission.turned_low it) code count first stride)) from mid → Then g j q goal t n mid st after
+      ended : Then g j q goal t n to st after
+      ended cs clen = does_returned limit c f x then cs (go cs clen)
+
+      one_run : (count first stride : ℕ) → ((o : ℕ) → o < count → first + o * stride + Emission.width program value ≤ n)
+          → Stands c (cond (nat_eq count 0) none (Emission.turning s.scope h t (Emission.turned_low it) code count first stride)) from to
           → Doing limit c f x (keeping (f.base + t) cur g) j q (stored.bind (Meaning.run_values ops 0 count first stride (turn_values it value env) cur) after) (λ d. on f from st d) goal
-      one_run zero first stride mid wr l go = does_returned limit c f x after cur (subst (λ p. Doing limit c f x (keeping (f.base + t) cur g) j q (after cur) (λ d. on f p st d) goal) l (go cur len))
-      one_run (suc count) first stride mid wr l go =
-          turning_enters it value s h t n st code each room en some count first stride from mid cur after len wr
-          (subst (λ b. Stands c (cond b none (Emission.turning s.scope h t (Emission.turned_low it) code (suc count) first stride)) from mid) (ne_eqb (suc count) 0 (λ e. omega (arith, e))) l) go
+      one_run zero first stride wr l = does_returned limit c f x after cur (subst (λ p. Doing limit c f x (keeping (f.base + t) cur g) j q (after cur) (λ d. on f p st d) goal) l (ended cur len))
+      one_run (suc count) first stride wr l =
+          turning_enters it value s h t n st code (each st) room en some count first stride from to cur after len wr
+          (subst (λ b. Stands c (cond b none (Emission.turning s.scope h t (Emission.turned_low it) code (suc count) first stride)) from to) (ne_eqb (suc count) 0 (λ e. omega (arith, e))) l) ended
+  all_turnings it value s h t n st code each room en some (r ∷ p ∷ rs) from to cur then len ws l go =
+      runs_begin it value s h t n st code (λ m. each (pos m ∷ st)) room en some (r ∷ p ∷ rs) 0 from to cur then len ws l go

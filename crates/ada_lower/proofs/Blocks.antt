@@ -131,7 +131,7 @@ module _ (limit : ℕ) (c : Code) (f : Fixed) (x : Ends) where
 
 -- ---- choices
 
-equal_numbers : (a b : ℕ) → is_equal (pos a) (pos b) ≡ nat_eq a b
+pub equal_numbers : (a b : ℕ) → is_equal (pos a) (pos b) ≡ nat_eq a b
 equal_numbers a b = go (int_le (pos a) (pos b)) (int_le (pos b) (pos a)) (nat_eq a b) refl refl refl
   where
     go : (t u v : Bool) → int_le (pos a) (pos b) ≡ t → int_le (pos b) (pos a) ≡ u → nat_eq a b ≡ v → (t && u) ≡ v

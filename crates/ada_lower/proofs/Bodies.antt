@@ -1,8 +1,8 @@
 -- Calls of every depth do what they do.
 use Rattle.ada_lower.proofs.Inner.{InnerDo}
 use Rattle.ada_lower.proofs.ForkLaws.{ForksDo}
-use Rattle.std.proofs.Common.{◌≡◌, ℕ, zero, suc, ◌+◌, ◌-◌, ◌<◌, ◌≤◌, ℤ, pos, List, [], ◌∷◌, ◌++◌, length, slice_get, nat_eq, nat_lt, Option, Some, None, Result, Ok, Err, Bool, true, false, cond, refl, sym, ap, ◌∙◌, subst, le_refl, length-append, arith, inl, inr, ⊎_elim, true≢false, ltb-true, ltb-false, lt-ltb}
-use Rattle.std.proofs.lemmas.Bool.{le-ltb, ne_eqb}
+use Rattle.std.proofs.Common.{◌≡◌, ◌⊎◌, ℕ, zero, suc, ◌+◌, ◌-◌, ◌<◌, ◌≤◌, ℤ, pos, List, [], ◌∷◌, ◌++◌, length, nat_eq, nat_lt, Option, Some, None, Ok, Err, Bool, true, false, cond, refl, sym, ap, ◌∙◌, subst, le_refl, arith, inl, inr, ⊎_elim, true≢false, ltb-true, ltb-false, lt-ltb}
+use Rattle.std.proofs.lemmas.Bool.{cases_lt, le-ltb, ne_eqb}
 use Rattle.std.proofs.lemmas.Option.{none-some}
 use Rattle.ada_base.specs.declared.reason.Reason.{Reason}
 use Rattle.ada_base.specs.declared.reason.Reason.TheVariants as reason
@@ -11,9 +11,9 @@ use Rattle.typed_tree.specs.declared.scalars.Scalar.{Scalar}
 use Rattle.typed_tree.specs.Syntax.{Expr, Stmt, Block, Sub, Program}
 use Rattle.ada_meaning.specs.Operations.{Operations}
 use Rattle.ada_meaning.specs.Stored as stored
-use Rattle.ada_meaning.specs.Stored.{Stored, Cause, Left, Address, Kept, Stacked, slot_at, key, within}
+use Rattle.ada_meaning.specs.Stored.{Stored, Left, Address, Kept, Stacked, slot_at, key, within}
 use Rattle.ada_meaning.specs.Meaning
-use Rattle.ada_meaning.specs.Meaning.{Env, Back, Passed, Returned, sub_at}
+use Rattle.ada_meaning.specs.Meaning.{Env, Back, Passed, Returned}
 use Rattle.stack_code.specs.declared.code.Code.{Code}
 use Rattle.stack_code.specs.declared.code.CodeSub.{CodeSub}
 use Rattle.stack_code.specs.declared.instr.Instr.{Instr}
@@ -23,17 +23,20 @@ use Rattle.ada_lower.specs.Driven.{Dyn, Fixed, Step, on, state_of, driven, throw
 use Rattle.ada_lower.proofs.Alike.{alike}
 use Rattle.ada_lower.specs.Sights.{Amid, Named, Sight, Stands, with_object}
 use Rattle.ada_lower.specs.Emission.{Shape, lead, shapes, shapes_cells, stmt, returning, returning_value}
-use Rattle.ada_lower.specs.Fits.{What, Other, Free, Keeps, Access, Ghost, Ends, left_by, place_in, Spread, Refers, AtMain, Knows, Stands as StandsFor}
-use Rattle.ada_lower.specs.Fitted.{Callable}
-use Rattle.ada_lower.specs.Bodies.{formal_named, placed, AreFresh, AreBack, leaving_of, outer_scope, sub_scope, ending, sub_code, AllStand}
-use Rattle.ada_lower.proofs.Framework.{any, To, Doing, comes_here, comes_on, comes_goes, comes_thrown, comes_fails, led, does_ret, does_bind, does_before}
+use Rattle.ada_lower.specs.Fits.{What, Other, Free, Access, Ghost, Ends, left_by, place_in, Spread, Refers, AtMain, Knows, Stands as StandsFor}
+use Rattle.ada_lower.specs.Fitted.{Callable, Spot, spots}
+use Rattle.ada_lower.specs.Bodies.{formal_named, leaving_of, outer_scope, sub_scope, ending, sub_code, AllStand}
+use Rattle.ada_lower.proofs.Framework.{any, To, Doing, comes_here, comes_on, comes_goes, comes_thrown, comes_fails, does_ret, does_bind, does_before}
 use Rattle.ada_lower.proofs.Memory.{fit_alike}
 use Rattle.ada_lower.proofs.Standing.{stands_seq}
 use Rattle.ada_lower.proofs.Parts.{Runs, Fewer, does_is, does_first}
 use Rattle.ada_lower.proofs.Leaving.{does_turned, does_handles}
-use Rattle.ada_lower.proofs.Declared.{keeping, having, knows_having_at, knows_kept, laid_what, laid_out, laid_in, kept_what, stacked_what, among, length_in}
+use Rattle.ada_lower.proofs.Declared.{keeping, having, knows_having_at, knows_kept, laid_what, laid_out, kept_what, stacked_what}
 use Rattle.ada_lower.proofs.Calls.{Calling, CallsDo, Checked, also_apart, call_went, called_ends, comes_ends, comes_gives, given, grown, holds, inner, test_is, test_of, with_kept, within_call}
-use Rattle.ada_lower.proofs.Sent.{Sent, all_passed, flat, aheads, backs, Backs, SpreadOf, AreSpread, BackSuited, AreSuited, suited_cells, laid_split, laid_swap, aheads_at, aheads_swap, aheads_cases, fit_aheads, backs_cut, Also, also_seq, also_returned, also_by, also_weak, also_alike, also_raised, also_elaborates, also_back}
+use Rattle.ada_lower.proofs.Scattered.{Piece, scattered, scattering, IsClear, IsTheirs, AreIn, AreFree, clear_part, scattered_at, scattered_off, scattered_swap, scattered_cases, stands_scattered, theirs_in}
+use Rattle.ada_lower.proofs.Spots.{Each, each_without}
+use Rattle.ada_lower.proofs.Formals.{named_at, with_spot, seen_spot, spot_objects, spot_seens, sight_with, spotted, SpotsFresh, Comes, IsBack, comes_first, knows_same, knows_placed, spots_fresh, spots_back}
+use Rattle.ada_lower.proofs.Sent.{Sent, IsSuited, HaveCells, all_passed, pieces, aheads, Backs, SpreadOf, AreSpread, BackSuited, AreSuited, pieces_in, aheads_in, aheads_clear, have_cells, fit_aheads, backs_cut, Also, also_seq, also_by, also_weak, also_alike, also_raised, also_elaborates, also_back}
 use Rattle.ada_lower.proofs.Expressions.{at_entry}
 use Rattle.ada_lower.proofs.Statements.{Suits, ParDoes, stmt_does}
 
@@ -50,81 +53,102 @@ module _ (limit : ℕ) (cuts : ℕ → ℕ → List ℕ) (program : Program) (c 
 
   -- ---- formals
 
-  formals_do : {A : Type 0} {env : Env} {q : A → Dyn → Type 0} {m : Stored A} {from : Dyn → Step} {to : A → Dyn → Step} (f : Fixed) (x : Ends) (hs : List Shape) (ps : List Sent) (n : ℕ) (s : Sight) (B : Ghost) → Knows limit cuts B f s env → n + length (flat ps) ≤ s.scope.free → s.scope.free ≤ s.cells → AreFresh hs n s → AreSuited hs ps
-      → ((k : ℕ) → k < length (flat ps) → B.what (f.base + n + k) ≡ Free)
-      → ((B' : Ghost) → Knows limit cuts B' f (placed hs n s) env → Also limit c f x B' B' q m from to)
-      → Also limit c f x (keeping (f.base + n) (flat ps) B) (record B { what = aheads (f.base + n) ps B.what }) q (Meaning.with_formals ops limit program (all_passed ps) m) from to
-  formals_do f x [] [] n s B k below room fresh suited free j = j B k
-  formals_do f x [] (p ∷ ps) n s B k below room fresh suited free j = absurd suited
-  formals_do f x (h ∷ hs) [] n s B k below room fresh suited free j = absurd suited
-  formals_do {A = A} {env = env} {q = q} {m = m} {from = from} {to = to} f x (h ∷ hs) (p ∷ ps) n s B k below room (new, fresh) (e1, e2, e3, e4, e5) free j =
-      let a : ℕ = f.base + n in
-      let o1 : ℕ = n + lead h.back in
-      let o2 : ℕ = o1 + h.cells in
-      let a1 : ℕ = f.base + o1 in
-      let a2 : ℕ = f.base + o2 in
+  -- the cells of those that are left are free
+  abbrev AllFree : ℕ → (ℕ → What) → List Sent → Type 0
+  AllFree a w [] = Unit {0}
+  AllFree a w (p ∷ ps) = ((k : ℕ) → k < length p.ahead + length p.passed.cells → w (a + (p.at + k)) ≡ Free) × AllFree a w ps
+
+  all_free : (a m : ℕ) (w : ℕ → What) (ps : List Sent) → HaveCells m ps → AreFree a m w → AllFree a w ps
+  all_free a m w [] have free = tt
+  all_free a m w (p ∷ ps) (fits, off, have) free = (λ k lt. free (p.at + k) (omega (arith, lt, fits)), all_free a m w ps have free)
+
+  -- what is laid elsewhere leaves them free
+  still_free : (a e i : ℕ) (F : ℕ → ℤ → What) (xs : List ℤ) (w : ℕ → What) (ps : List Sent) → IsClear e (length xs) (pieces ps) → AllFree a w ps → AllFree a (laid_what (a + e) i F xs w) ps
+  still_free a e i F xs w [] off free = tt
+  still_free a e i F xs w (p ∷ ps) (off, (off', offs)) (free, frees) =
+      (λ k lt. laid_out (a + e) i F xs w (a + (p.at + k)) (outside k lt (cases_lt k (length p.ahead))) ∙ free k lt, still_free a e i F xs w ps offs frees)
+    where
+      outside : (k : ℕ) → k < length p.ahead + length p.passed.cells → (k < length p.ahead) ⊎ (length p.ahead ≤ k) → (a + (p.at + k) < a + e) ⊎ (a + e + length xs ≤ a + (p.at + k))
+      outside k lt (inl l) = ⊎_elim (λ o. inr (omega (arith, o))) (λ o. inl (omega (arith, o, l))) off
+      outside k lt (inr l) = ⊎_elim (λ o. inr (omega (arith, o, l))) (λ o. inl (omega (arith, o, lt))) off'
+
+  theirs_free : (a : ℕ) (w : ℕ → What) (ps : List Sent) (b : ℕ) → AllFree a w ps → IsTheirs a (pieces ps) b → w b ≡ Free
+  theirs_free a w [] b free t = absurd t
+  theirs_free a w (p ∷ ps) b (free, frees) (inl (k, z, lt)) = ap w (sym z) ∙ free k (omega (arith, lt))
+  theirs_free a w (p ∷ ps) b (free, frees) (inr (inl (k, z, lt))) =
+      let y : a + (p.at + (length p.ahead + k)) ≡ b = omega (arith, z) in ap w (sym y) ∙ free (length p.ahead + k) (omega (arith, lt))
+  theirs_free a w (p ∷ ps) b (free, frees) (inr (inr t)) = theirs_free a w ps b frees t
+
+  -- what stands for cells of the run isn't theirs
+  stand_on : (a : ℕ) (w : ℕ → What) (ps : List Sent) (b : ℕ) (z : Access) (n : ℕ) → AllFree a w ps → w b ≡ StandsFor z (Stacked n) → scattered a (pieces ps) w b ≡ StandsFor z (Stacked n)
+  stand_on a w ps b z n free e =
+      ⊎_elim (λ r. r ∙ e) (λ t. let (v, is, theirs) = t in absurd (let q : Free ≡ StandsFor z (Stacked n) = sym (theirs_free a w ps b free theirs) ∙ e in cc)) (scattered_cases a (pieces ps) w b)
+
+  stand_still : (a : ℕ) (w : ℕ → What) (ps : List Sent) (b : ℕ) (z : Access) (n : ℕ) → AllFree a w ps → scattered a (aheads ps) w b ≡ StandsFor z (Stacked n) → scattered a (pieces ps) w b ≡ StandsFor z (Stacked n)
+  stand_still a w ps b z n free e =
+      stand_on a w ps b z n free (stands_scattered a (aheads ps) w b z (Stacked n) e)
+
+  formals_do : {A : Type 0} {env : Env} {q : A → Dyn → Type 0} {m : Stored A} {from : Dyn → Step} {to : A → Dyn → Step} (f : Fixed) (x : Ends) (most : ℕ) (ks : List Spot) (ps : List Sent) (s : Sight) (B : Ghost) → Knows limit cuts B f s env → most ≤ s.scope.free → s.scope.free ≤ s.cells → SpotsFresh ks s.seen → AreSuited ks ps → HaveCells most ps
+      → AllFree f.base B.what ps
+      → ((B' : Ghost) → Knows limit cuts B' f (spotted ks s) env → Also limit c f x B' B' q m from to)
+      → Also limit c f x (scattering f.base (pieces ps) B) (scattering f.base (aheads ps) B) q (Meaning.with_formals ops limit program (all_passed ps) m) from to
+  formals_do {env = env} {q = q} {m = m} {from = from} {to = to} f x most ks [] s B k below room fresh none have free j = j B (subst (λ ks. Knows limit cuts B f (spotted ks s) env) (sym none) k)
+  formals_do {A = A} {env = env} {q = q} {m = m} {from = from} {to = to} f x most ks (p ∷ ps) s B k below room fresh (h, zs, wo, suits, suited) (fits, off, have) (free, frees) j =
+      let a : ℕ = f.base in
+      let n : ℕ = length p.ahead + length p.passed.cells in
+      let o1 : ℕ = p.at + length p.ahead in
+      let a1 : ℕ = a + o1 in
       let y : Entity = p.passed.formal in
       let cs : List ℤ = p.passed.cells in
-      let len : length (flat (p ∷ ps)) ≡ length p.ahead + length (cs ++ flat ps) = length-append p.ahead (cs ++ flat ps) in
-      let len' : length (cs ++ flat ps) ≡ length cs + length (flat ps) = length-append cs (flat ps) in
-      let at1 : a + length p.ahead ≡ a1 = omega (arith, e2) in
-      let at2 : a1 + length cs ≡ a2 = omega (arith, e3) in
-      let at3 : a + length p.ahead + length cs ≡ a2 = omega (arith, e2, e3) in
-      let B1 : Ghost = keeping a p.ahead B in
-      let g : Ghost = keeping a2 (flat ps) B1 in
-      let k1 : Knows limit cuts B1 f s env = knows_kept n p.ahead (omega (arith, below, len)) room (λ i lt. free i (omega (arith, lt, len))) k in
-      let free1 : ((i : ℕ) → i < length cs → B1.what (a1 + i) ≡ Free) = (λ i lt. laid_out a 0 kept_what p.ahead B.what (a1 + i) (inr (omega (arith, at1))) ∙ (let z : a1 + i ≡ a + (length p.ahead + i) = omega (arith, at1) in ap B.what z) ∙ free (length p.ahead + i) (omega (arith, lt, len, len'))) in
-      let free2 : ((i : ℕ) → i < length (flat ps) → B1.what (a2 + i) ≡ Free) = (λ i lt. laid_out a 0 kept_what p.ahead B.what (a2 + i) (inr (omega (arith, at3))) ∙ (let z : a2 + i ≡ a + (length p.ahead + length cs + i) = omega (arith, at3) in ap B.what z) ∙ free (length p.ahead + length cs + i) (omega (arith, lt, len, len'))) in
-      let freeg : ((i : ℕ) → i < length cs → g.what (a1 + i) ≡ Free) = (λ i lt. laid_out a2 0 kept_what (flat ps) B1.what (a1 + i) (inl (omega (arith, lt, at2))) ∙ free1 i lt) in
-      let freew : ((i : ℕ) → i < length cs → aheads a2 ps B1.what (a1 + i) ≡ Free) = (λ i lt. ⊎_elim (λ e. e ∙ free1 i lt) (λ r. let (v, e, k, z, l) = r in absurd (omega (arith, z, lt, at2))) (aheads_cases a2 ps B1.what (a1 + i))) in
-      also_alike limit c f x (keeping a1 cs g).what (λ b.
-      laid_split a 0 0 p.ahead (cs ++ flat ps) B.what b
-      ∙ laid_swap a 0 kept_what p.ahead (a + length p.ahead) 0 kept_what (cs ++ flat ps) B.what b (le_refl (a + length p.ahead))
-      ∙ ap (λ m. laid_what m 0 kept_what (cs ++ flat ps) B1.what b) at1
-      ∙ laid_split a1 0 0 cs (flat ps) B1.what b
-      ∙ ap (λ m. laid_what a1 0 kept_what cs (laid_what m 0 kept_what (flat ps) B1.what) b) at2)
-      (also_weak limit c f x {h = record B { what = aheads a2 ps B1.what }} {h' = record B { what = aheads a (p ∷ ps) B.what }}
-      (λ s d fit. fit_alike (aheads a (p ∷ ps) B.what) (λ b. sym (ap (λ m. laid_what a 0 kept_what p.ahead (aheads m ps B.what) b) at3 ∙ aheads_swap a 0 kept_what p.ahead a2 ps B.what b (omega (arith, at3)))) fit)
-      (also_elaborates limit c f x {g = g} y a1 cs freeg (aheads a2 ps B1.what) freew (λ b z i w. old B1 a2 free2 b z i w)
+      let B1 : Ghost = keeping (a + p.at) p.ahead B in
+      let g : Ghost = scattering a (pieces ps) B1 in
+      let wh : (ℕ → What) = scattered a (aheads ps) B1.what in
+      let off1 : IsClear p.at (length p.ahead) (pieces ps) = clear_part p.at n p.at (length p.ahead) (pieces ps) (le_refl p.at) (omega arith) off in
+      let off2 : IsClear o1 (length cs) (pieces ps) = clear_part p.at n o1 (length cs) (pieces ps) (omega arith) (omega arith) off in
+      let off3 : IsClear o1 (length cs) (aheads ps) = aheads_clear o1 (length cs) ps off2 in
+      let k1 : Knows limit cuts B1 f s env = knows_kept p.at p.ahead (omega (arith, below, fits)) room (λ i lt. (let z : a + p.at + i ≡ a + (p.at + i) = omega arith in ap B.what z) ∙ free i (omega (arith, lt))) k in
+      let free1 : ((i : ℕ) → i < length cs → B1.what (a1 + i) ≡ Free) = (λ i lt. laid_out (a + p.at) 0 kept_what p.ahead B.what (a1 + i) (inr (omega arith)) ∙ (let z : a1 + i ≡ a + (p.at + (length p.ahead + i)) = omega arith in ap B.what z) ∙ free (length p.ahead + i) (omega (arith, lt))) in
+      let freeg : ((i : ℕ) → i < length cs → g.what (a1 + i) ≡ Free) = (λ i lt. (let z : a1 + i ≡ a + (o1 + i) = omega arith in ap g.what z ∙ scattered_off a o1 (length cs) i (pieces ps) B1.what off2 lt ∙ ap B1.what (sym z)) ∙ free1 i lt) in
+      let freew : ((i : ℕ) → i < length cs → wh (a1 + i) ≡ Free) = (λ i lt. (let z : a1 + i ≡ a + (o1 + i) = omega arith in ap wh z ∙ scattered_off a o1 (length cs) i (aheads ps) B1.what off3 lt ∙ ap B1.what (sym z)) ∙ free1 i lt) in
+      let frees1 : AllFree a B1.what ps = still_free a p.at 0 kept_what p.ahead B.what ps off1 frees in
+      let first : Comes h ks zs s.scope.object s.seen = comes_first h ks zs s.scope.object s.seen wo fresh in
+      also_alike limit c f x (keeping a1 cs g).what (λ b. sym (scattered_swap a o1 0 kept_what cs (pieces ps) B1.what b off2))
+      (also_elaborates limit c f x {g = g} y a1 cs freeg wh freew (λ b z i w. stand_still a B1.what ps b z i frees1 w)
       (λ at fresh' slots.
       let B2 : Ghost = having y at a1 cs B1 in
+      let seen1 : s.seen y ≡ false = ap s.seen suits.formal ∙ first.new in
       let k2 : Knows limit cuts B2 f (with_object y (formal_named o1 (length cs)) s) env =
-      knows_having_at o1 y at cs (omega (arith, below, len, len', e2)) (omega (arith, below, room, len, len', e2)) free1 slots (ap s.seen e1 ∙ new) (λ b z i w. fresh' b z i (new_old B1 a2 free2 b z i w)) k1 in
-      let k3 : Knows limit cuts B2 f (with_object h.formal (formal_named o1 h.cells) s) env =
-      subst (λ i. Knows limit cuts B2 f (with_object h.formal (formal_named o1 i) s) env) e3 (subst (λ y. Knows limit cuts B2 f (with_object y (formal_named o1 (length cs)) s) env) e1 k2) in
-      also_alike limit c f x (keeping a2 (flat ps) B2).what (λ b. laid_swap a1 at stacked_what cs a2 0 kept_what (flat ps) B1.what b (omega (arith, at2)))
-      (also_weak limit c f x {h = record B2 { what = aheads a2 ps B2.what }} {h' = having y at a1 cs (record g { what = aheads a2 ps B1.what })}
-      (λ s d fit. fit_alike (laid_what a1 at stacked_what cs (aheads a2 ps B1.what)) (λ b. sym (aheads_swap a1 at stacked_what cs a2 ps B1.what b (omega (arith, at2)))) fit)
-      (formals_do f x hs ps o2 (with_object h.formal (formal_named o1 h.cells) s) B2 k3 (omega (arith, below, len, len', e2, e3)) room fresh e5
-      (λ i lt. laid_out a1 at stacked_what cs B1.what (a2 + i) (inr (omega (arith, at2))) ∙ free2 i lt) j)))))
+      knows_having_at o1 y at cs (omega (arith, below, fits)) (omega (arith, below, room, fits)) free1 slots seen1 (λ b z i w. fresh' b z i (stand_on a B1.what ps b z i frees1 w)) k1 in
+      let k3 : Knows limit cuts B2 f (sight_with s (with_spot h s.scope.object) (seen_spot h s.seen)) env = here suits (λ y o cells. Knows limit cuts B2 f (with_object y (formal_named o cells) s) env) k2 in
+      also_alike limit c f x (scattered a (pieces ps) B2.what) (λ b. scattered_swap a o1 at stacked_what cs (pieces ps) B1.what b off2)
+      (also_weak limit c f x {h = scattering a (aheads ps) B2} {h' = having y at a1 cs (record g { what = wh })}
+      (λ s d fit. fit_alike (laid_what a1 at stacked_what cs wh) (λ b. sym (scattered_swap a o1 at stacked_what cs (aheads ps) B1.what b off3)) fit)
+      (formals_do f x most zs ps (sight_with s (with_spot h s.scope.object) (seen_spot h s.seen)) B2 k3 below room first.fresh suited have (still_free a o1 at stacked_what cs B1.what ps off2 frees1)
+      (λ B' k'. j B' (knows_same s (λ z. spot_objects zs (with_spot h s.scope.object) z) (λ z. spot_objects ks s.scope.object z) (λ z. spot_seens zs (seen_spot h s.seen) z) (λ z. spot_seens ks s.seen z) first.object first.see k'))))))
     where
-      new_old : (B1 : Ghost) (a2 : ℕ) → ((i : ℕ) → i < length (flat ps) → B1.what (a2 + i) ≡ Free) → (b : ℕ) (z : Access) (i : ℕ) → B1.what b ≡ StandsFor z (Stacked i) → (keeping a2 (flat ps) B1).what b ≡ StandsFor z (Stacked i)
-      new_old B1 a2 free2 b z i w = ⊎_elim
-          (λ r. let (k, v, zz, is) = r in absurd (let q : Free ≡ StandsFor z (Stacked i) = sym (free2 k (length_in (flat ps) k v is)) ∙ ap B1.what zz ∙ w in cc))
-          (λ out. laid_out a2 0 kept_what (flat ps) B1.what b out ∙ w)
-          (among a2 b (flat ps))
-
-      old : (B1 : Ghost) (a2 : ℕ) → ((i : ℕ) → i < length (flat ps) → B1.what (a2 + i) ≡ Free) → (b : ℕ) (z : Access) (i : ℕ) → aheads a2 ps B1.what b ≡ StandsFor z (Stacked i) → (keeping a2 (flat ps) B1).what b ≡ StandsFor z (Stacked i)
-      old B1 a2 free2 b z i w = ⊎_elim
-          (λ e. new_old B1 a2 free2 b z i (sym e ∙ w))
-          (λ r. let (v, e, k, zz, l) = r in absurd (let q : Keeps v ≡ StandsFor z (Stacked i) = sym e ∙ w in cc))
-          (aheads_cases a2 ps B1.what b)
+      here : IsSuited h p → (P : Entity → ℕ → ℕ → Type 0) → P p.passed.formal (p.at + length p.ahead) (length p.passed.cells) → P h.shape.formal (h.at + lead h.shape.back) h.shape.cells
+      here suits P e =
+          let e1 = suits.place in
+          let e2 = suits.ahead in
+          let z : p.at + length p.ahead ≡ h.at + lead h.shape.back = omega (arith, e1, e2) in
+          subst (λ n. P h.shape.formal (h.at + lead h.shape.back) n) suits.cells (subst (λ o. P h.shape.formal o (length p.passed.cells)) z (subst (λ y. P y (p.at + length p.ahead) (length p.passed.cells)) suits.formal e))
 
   -- the cells of those that are copied back
-  spread_all : {B : Ghost} {env : Env} {t : Sight} (f : Fixed) (hs : List Shape) (ps : List Sent) (n a : ℕ) → a ≡ f.base + n → AreSuited hs ps → AreBack hs n t → Knows limit cuts B f t env → AreSpread B a ps
-  spread_all f [] [] n a z suited backs k = tt
-  spread_all f [] (p ∷ ps) n a z suited backs k = absurd suited
-  spread_all f (h ∷ hs) [] n a z suited backs k = absurd suited
-  spread_all {B} {env} {t} f (h ∷ hs) (p ∷ ps) n a z (e1, e2, e3, e4, e5) (here, backs) k =
-      (one' p.passed.back e4, spread_all f hs ps (n + lead h.back + h.cells) (a + length p.ahead + length p.passed.cells) (omega (arith, z, e2, e3)) e5 backs k)
+  spread_all : {B : Ghost} {env : Env} {t : Sight} (f : Fixed) (ks : List Spot) (ps : List Sent) → AreSuited ks ps → Each (IsBack t) ks → Knows limit cuts B f t env → AreSpread B f.base ps
+  spread_all f ks [] suited backs k = tt
+  spread_all {B} {env} {t} f ks (p ∷ ps) (h, zs, wo, suits, suited) backs k =
+      let (here, rest) = each_without (IsBack t) h ks zs wo backs in
+      (one' here p.passed.back suits.back, spread_all f zs ps suited rest k)
     where
-      one' : (o : Option Back) → BackSuited h.back h.cells o → SpreadOf B p.passed.formal o (length p.passed.cells) (a + length p.ahead)
-      one' None e = tt
-      one' (Some b) (is, many) =
-          let r : Refers B f (formal_named (n + lead h.back) h.cells) h.formal 0 = k.object h.formal (formal_named (n + lead h.back) h.cells) (here is) in
-          let l : r.address ≡ f.base + (n + lead h.back) = r.leads in
-          let w : r.address ≡ a + length p.ahead = omega (arith, l, z, e2) in
-          (many ∙ sym e3, subst (λ y. Spread B y 0 (length p.passed.cells) (a + length p.ahead)) (sym e1) (subst (λ m. Spread B h.formal 0 m (a + length p.ahead)) (sym e3) (subst (λ b. Spread B h.formal 0 h.cells b) w r.spread)))
+      one' : IsBack t h → (o : Option Back) → BackSuited h.shape.back h.shape.cells o → SpreadOf B p.passed.formal o (length p.passed.cells) (f.base + (p.at + length p.ahead))
+      one' here None e = tt
+      one' here (Some b) (is, many) =
+          let r : Refers B f (named_at h) h.shape.formal 0 = k.object h.shape.formal (named_at h) (here is) in
+          let l : r.address ≡ f.base + (h.at + lead h.shape.back) = r.leads in
+          let e1 = suits.place in
+          let e2 = suits.ahead in
+          let w : r.address ≡ f.base + (p.at + length p.ahead) = omega (arith, l, e1, e2) in
+          (many ∙ sym suits.cells, subst (λ y. Spread B y 0 (length p.passed.cells) (f.base + (p.at + length p.ahead))) (sym suits.formal) (subst (λ m. Spread B h.shape.formal 0 m (f.base + (p.at + length p.ahead))) (sym suits.cells) (subst (λ b. Spread B h.shape.formal 0 h.shape.cells b) w r.spread)))
 
   -- ---- the scope of a call
 
@@ -193,11 +217,10 @@ module _ (limit : ℕ) (cuts : ℕ → ℕ → List ℕ) (program : Program) (c 
     })
 
     -- the cells of the formals, where they are free
-    free_call : (m : ℕ) → n + m ≡ s.scope.free → ((j : ℕ) → j < m → g.what (f.base + n + j) ≡ Free) → (j : ℕ) → j < m → B.what (f.base + n + 0 + j) ≡ Free
+    free_call : (m : ℕ) → n + m ≡ s.scope.free → AreFree (f.base + n) m g.what → AreFree (f.base + n) m B.what
     free_call m e free j lt =
-        let z : f.base + n + 0 + j ≡ f.base + n + j = omega arith in
         let t = k.top in
-        ap B.what z ∙ what_inside (f.base + n + j) (omega (arith, lt, e, room, t)) ∙ free j lt
+        what_inside (f.base + n + j) (omega (arith, lt, e, room, t)) ∙ free j lt
 
     knows_call : Knows limit cuts B f' (outer_scope program globals mains texts text frames sub u.unit cells) (Meaning.outset env.nested)
     knows_call = record {
@@ -339,63 +362,71 @@ module _ (limit : ℕ) (cuts : ℕ → ℕ → List ℕ) (program : Program) (c 
         go false e = does_is limit c f x (Err (Left (Raises reason.ConstraintError))) (λ s. test_is check s ∙ ap (λ b. stored.at s (cond b (Ok tt) (Err (Left (Raises reason.ConstraintError))))) e) (λ d. call_fails is n to (holds check) f before after d few e at)
 
     -- the arguments stand where the formals are
-    args_alike : (g : Ghost) (f : Fixed) (n frame : ℕ) (vs : List ℤ) → f.base + n + length vs ≤ g.top → (a : ℕ)
-        → (within_call (f.base + n + frame) (keeping (f.base + n) vs g)).what a ≡ (keeping (f.base + n + 0) vs (within_call (f.base + n + frame) g)).what a
-    args_alike g f n frame vs below a =
-        let z : f.base + n + 0 ≡ f.base + n = omega arith in
-        subst (λ b. (within_call (f.base + n + frame) (keeping (f.base + n) vs g)).what a ≡ (keeping b vs (within_call (f.base + n + frame) g)).what a) (sym z) (⊎_elim
-        (λ r. let (j, v, e, is) = r in subst (λ a. (within_call (f.base + n + frame) (keeping (f.base + n) vs g)).what a ≡ (keeping (f.base + n) vs (within_call (f.base + n + frame) g)).what a) e
-        (ap (λ b. cond b ((keeping (f.base + n) vs g).what (f.base + n + j)) (cond (nat_lt (f.base + n + j) (g.top + (f.base + n + frame - g.top))) Free Other)) (lt-ltb (f.base + n + j) g.top (let l : j < length vs = length_in vs j v is in omega (arith, l, below)))
-        ∙ laid_in (f.base + n) 0 kept_what vs g.what j v is ∙ sym (laid_in (f.base + n) 0 kept_what vs (within_call (f.base + n + frame) g).what j v is)))
-        (λ out. ap (λ w. cond (nat_lt a g.top) w (cond (nat_lt a (g.top + (f.base + n + frame - g.top))) Free Other)) (laid_out (f.base + n) 0 kept_what vs g.what a out)
-        ∙ sym (laid_out (f.base + n) 0 kept_what vs (within_call (f.base + n + frame) g).what a out))
-        (among (f.base + n) a vs))
+    args_alike : (g : Ghost) (f : Fixed) (n m frame : ℕ) (ps : List Piece) → AreIn m ps → f.base + n + m ≤ g.top → (a : ℕ)
+        → (within_call (f.base + n + frame) (scattering (f.base + n) ps g)).what a ≡ (scattering (f.base + n) ps (within_call (f.base + n + frame) g)).what a
+    args_alike g f n m frame ps lie below a = go (nat_lt a g.top) refl
+      where
+        w : ℕ → What
+        w = (within_call (f.base + n + frame) g).what
+
+        beyond : What
+        beyond = cond (nat_lt a (g.top + (f.base + n + frame - g.top))) Free Other
+
+        go : (b : Bool) → nat_lt a g.top ≡ b → (within_call (f.base + n + frame) (scattering (f.base + n) ps g)).what a ≡ scattered (f.base + n) ps w a
+        go true e = ap (λ b. cond b (scattered (f.base + n) ps g.what a) beyond) e ∙ scattered_at (f.base + n) ps g.what w a (sym (ap (λ b. cond b (g.what a) beyond) e))
+        go false e = ap (λ b. cond b (scattered (f.base + n) ps g.what a) beyond) e ∙ sym (⊎_elim
+            (λ r. r ∙ ap (λ b. cond b (g.what a) beyond) e)
+            (λ t. let (v, is, theirs) = t in let (k, z, lt) = theirs_in (f.base + n) m ps a lie theirs in absurd (let ge = ltb-false a g.top e in omega (arith, ge, z, lt, below)))
+            (scattered_cases (f.base + n) ps w a))
 
     call_once : {g : Ghost} {env : Env} (depth : ℕ) (f : Fixed) → f.asked ≡ asked → f.calls + suc depth ≡ 1000 → (x : Ends) (s : Sight) (sub n q back : ℕ) (before after : List ℤ) (kept : List ℤ) (check : Checked) (ps : List Sent) (u : Callable program globals mains s sub)
         → ((f' : Fixed) → f'.calls ≡ f.calls + 1 → f'.asked ≡ f.asked → CallsDo limit cuts program globals mains c f' (Meaning.call ops limit program depth))
-        → Knows limit cuts g f s env → n + length (flat ps) ≡ s.scope.free → s.scope.free ≤ s.cells → AreSuited (shapes program u.unit.formals) ps → ((k : ℕ) → k < length (flat ps) → g.what (f.base + n + k) ≡ Free)
+        → Knows limit cuts g f s env → n + shapes_cells (shapes program u.unit.formals) ≡ s.scope.free → s.scope.free ≤ s.cells → AreSuited (spots 0 (shapes program u.unit.formals)) ps → AreFree (f.base + n) (shapes_cells (shapes program u.unit.formals)) g.what
         → Calling limit c (with_kept kept f) q before after (sub + 1) n back (holds check) x.entry
-        → Also limit c (with_kept kept f) x {A = Returned} (keeping (f.base + n) (flat ps) g) (record g { what = aheads (f.base + n) ps g.what }) (λ r d. Backs (f.base + n) ps r.cells d.cells) (Meaning.call ops limit program (suc depth) env.nested sub (test_of check) (all_passed ps))
+        → Also limit c (with_kept kept f) x {A = Returned} (scattering (f.base + n) (pieces ps) g) (scattering (f.base + n) (aheads ps) g) (λ r d. Backs (f.base + n) ps r.cells d.cells) (Meaning.call ops limit program (suc depth) env.nested sub (test_of check) (all_passed ps))
         (λ d. on (with_kept kept f) q before d) (λ r d. on (with_kept kept f) back (given u.unit.result r.value ++ after) d)
     call_once {g} {env} depth f same_asked many x s sub n q back before after kept check ps u calls k whole room suited free begins =
         let b = stood sub u.unit u.is in
         let fk : Fixed = with_kept kept f in
         let hs : List Shape = shapes program u.unit.formals in
-        let vs : List ℤ = flat ps in
-        let gk : Ghost = keeping (f.base + n) vs g in
+        let ks : List Spot = spots 0 hs in
+        let count : ℕ = shapes_cells hs in
+        let gk : Ghost = scattering (f.base + n) (pieces ps) g in
         let frame : ℕ = b.is.frame in
-        let len : length vs ≡ shapes_cells hs = suited_cells hs ps suited in
-        let here : n + shapes_cells hs ≡ s.scope.free = omega (arith, whole, len) in
+        let have : HaveCells count ps = have_cells hs ps suited in
         let B : Ghost = within_call (f.base + n + frame) g in
         let cells : ℕ = g.top + (f.base + n + frame - g.top) - (f.base + n) in
         let f' : Fixed = inner fk q back n after g.top in
         let t : Sight = sub_scope program globals mains texts text frames sub u.unit cells in
+        let outside : Sight = outer_scope program globals mains texts text frames sub u.unit cells in
         let top : g.top ≡ f.base + s.cells = k.top in
         let enough : frame ≤ cells = omega arith in
-        let base : Knows limit cuts B f' (outer_scope program globals mains texts text frames sub u.unit cells) (Meaning.outset env.nested) = knows_call g f s env k sub n q back kept after u frame here room in
-        let z0 : f.base + n + 0 ≡ f.base + n = omega arith in
+        let base : Knows limit cuts B f' outside (Meaning.outset env.nested) = knows_call g f s env k sub n q back kept after u frame whole room in
         let few : f.calls < 1000 = omega (arith, many) in
-        let end_ : Ghost = record g { what = aheads (f.base + n) ps g.what } in
-        also_seq limit c fk x {g = gk} {h = gk} {j = end_} (λ t d w. fit_aheads (f.base + n) ps g free w) (λ ts al. al) (does_turned limit c fk x cuts before (call_went limit b.is n back (holds check) (after ++ f.below)) (begins.does b.is b.here) k.most begins.at) (λ _ _.
-        also_seq limit c fk x {g = gk} {h = gk} {j = end_} (λ t d w. fit_aheads (f.base + n) ps g free w) (λ ts al. al) (test_does x b.is n back check fk before after few begins.at) (λ _ good.
+        let end_ : Ghost = scattering (f.base + n) (aheads ps) g in
+        also_seq limit c fk x {g = gk} {h = gk} {j = end_} (λ t d w. fit_aheads (f.base + n) count ps g have free w) (λ ts al. al) (does_turned limit c fk x cuts before (call_went limit b.is n back (holds check) (after ++ f.below)) (begins.does b.is b.here) k.most begins.at) (λ _ _.
+        also_seq limit c fk x {g = gk} {h = gk} {j = end_} (λ t d w. fit_aheads (f.base + n) count ps g have free w) (λ ts al. al) (test_does x b.is n back check fk before after few begins.at) (λ _ good.
         subst (λ o. Also limit c fk x {A = Returned} gk end_ (λ r d. Backs (f.base + n) ps r.cells d.cells) (Meaning.exec_sub ops limit program (Meaning.call ops limit program depth) o env.nested (all_passed ps)) (λ d. driven limit c (call_went limit b.is n back (holds check) (after ++ f.below) (state_of fk q before [] None d)) d.world) (λ r d. on fk back (given u.unit.result r.value ++ after) d)) (sym u.is)
         (also_by limit c fk x (λ t d w. call_goes b.is n back g.top (holds check) fk before after d few good w.top)
-        (also_apart limit c fk x {A = Returned} {g = gk} {p = λ r d. Backs (f.base + n + 0) ps r.cells d.cells} {p' = λ r d. Backs (f.base + n) ps r.cells d.cells} back n (f.base + n + frame) after (aheads (f.base + n + 0) ps B.what) (aheads (f.base + n) ps g.what) begins.at
-        (λ a le. ⊎_elim (λ e. e ∙ k.beyond a le) (λ r. let (v, e, i, z, l) = r in absurd (omega (arith, z, l, le, whole, room, top))) (aheads_cases (f.base + n) ps g.what a))
-        (λ a lt. ap (λ m. aheads m ps B.what a) z0 ∙ aheads_at (f.base + n) ps B.what g.what a (what_inside g f s env k sub n q back kept after u frame here room a lt))
-        (λ r d bs. backs_cut g.top (f.base + n) ps r.cells d.cells (omega (arith, whole, room, top)) (subst (λ m. Backs m ps r.cells d.cells) z0 bs))
-        (also_alike limit c f' (called_ends limit c x g.top) (keeping (f.base + n + 0) vs B).what (args_alike g f n frame vs (omega (arith, whole, room, top)))
-        (formals_do {A = Returned} {q = λ r d. Backs (f.base + n + 0) ps r.cells d.cells} f' (called_ends limit c x g.top) hs ps 0 (outer_scope program globals mains texts text frames sub u.unit cells) B base (omega (arith, len)) (let e = b.enough in omega (arith, e, enough)) (b.fresh cells) suited
-        (λ i lt. free_call g f s env k sub n q back kept after u frame here room (length vs) whole free i lt)
-        (λ B' k'. body_does fk x q back n after g.top (Meaning.call ops limit program depth) u.unit t env.nested b.is.entry b.to ps (f.base + n + 0) (spread_all f' hs ps 0 (f.base + n + 0) refl suited (b.backs cells) k') (record { called = calls f' refl refl; forked = (pars f' same_asked depth (λ f'' e. calls f'' e.0 e.1)).forked }) (pars f' same_asked depth (λ f'' e. calls f'' e.0 e.1)).parallel k' refl refl (λ m. refl) refl same_texts (b.fitted cells enough) (b.stands cells enough))))))))
+        (also_apart limit c fk x {A = Returned} {g = gk} {p = λ r d. Backs (f.base + n) ps r.cells d.cells} {p' = λ r d. Backs (f.base + n) ps r.cells d.cells} back n (f.base + n + frame) after (scattered (f.base + n) (aheads ps) B.what) (scattered (f.base + n) (aheads ps) g.what) begins.at
+        (λ a le. ⊎_elim (λ e. e ∙ k.beyond a le) (λ r. let (v, e, theirs) = r in let (i, z, l) = theirs_in (f.base + n) count (aheads ps) a (aheads_in count ps have) theirs in absurd (omega (arith, z, l, le, whole, room, top))) (scattered_cases (f.base + n) (aheads ps) g.what a))
+        (λ a lt. scattered_at (f.base + n) (aheads ps) B.what g.what a (what_inside g f s env k sub n q back kept after u frame whole room a lt))
+        (λ r d bs. backs_cut g.top (f.base + n) count ps r.cells d.cells have (omega (arith, whole, room, top)) bs)
+        (also_alike limit c f' (called_ends limit c x g.top) (scattered (f.base + n) (pieces ps) B.what) (args_alike g f n count frame (pieces ps) (pieces_in count ps have) (omega (arith, whole, room, top)))
+        (formals_do {A = Returned} {q = λ r d. Backs (f.base + n) ps r.cells d.cells} f' (called_ends limit c x g.top) count ks ps outside B base (le_refl count) (let e = b.enough in omega (arith, e, enough)) (spots_fresh 0 hs outside (b.fresh cells)) suited have
+        (all_free (f.base + n) count B.what ps have (free_call g f s env k sub n q back kept after u frame whole room count whole free))
+        (λ B' k'.
+        let k'' : Knows limit cuts B' f' t (Meaning.outset env.nested) = knows_placed hs outside k' in
+        body_does fk x q back n after g.top (Meaning.call ops limit program depth) u.unit t env.nested b.is.entry b.to ps (f.base + n) (spread_all f' ks ps suited (spots_back 0 hs t (b.backs cells)) k'') (record { called = calls f' refl refl; forked = (pars f' same_asked depth (λ f'' e. calls f'' e.0 e.1)).forked }) (pars f' same_asked depth (λ f'' e. calls f'' e.0 e.1)).parallel k'' refl refl (λ m. refl) refl same_texts (b.fitted cells enough) (b.stands cells enough))))))))
 
     pub call_do : (depth : ℕ) (f : Fixed) → f.asked ≡ asked → f.calls + depth ≡ 1000 → CallsDo limit cuts program globals mains c f (Meaning.call ops limit program depth)
     call_do zero f same_asked many = record {
       by = λ {g} x s sub n q back before after kept check ps u k whole room suited free begins.
           let b = stood sub u.unit u.is in
           let fk : Fixed = with_kept kept f in
-          also_seq limit c fk x {h = keeping (f.base + n) (flat ps) g} (λ t d w. fit_aheads (f.base + n) ps _ free w) (λ ts al. al) (does_turned limit c fk x cuts before (call_went limit b.is n back (holds check) (after ++ f.below)) (begins.does b.is b.here) k.most begins.at) (λ _ _.
-          also_weak limit c fk x (λ t d w. fit_aheads (f.base + n) ps _ free w)
+          let hs : List Shape = shapes program u.unit.formals in
+          also_seq limit c fk x {h = scattering (f.base + n) (pieces ps) g} (λ t d w. fit_aheads (f.base + n) (shapes_cells hs) ps g (have_cells hs ps suited) free w) (λ ts al. al) (does_turned limit c fk x cuts before (call_went limit b.is n back (holds check) (after ++ f.below)) (begins.does b.is b.here) k.most begins.at) (λ _ _.
+          also_weak limit c fk x (λ t d w. fit_aheads (f.base + n) (shapes_cells hs) ps g (have_cells hs ps suited) free w)
           (also_raised limit c fk x reason.StorageError (λ t. raise_is reason.StorageError t) (λ d. full_goes b.is n back (holds check) fk before after d (omega (arith, many)) begins.at)));
     }
     call_do (suc depth) f same_asked many = record {

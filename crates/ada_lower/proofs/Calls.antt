@@ -5,7 +5,7 @@ use Rattle.ada_base.specs.declared.reason.Reason.{Reason}
 use Rattle.ada_base.specs.declared.reason.Reason.TheVariants as reason
 use Rattle.behaviours.specs.Paths.{Exits, Returns, Raises, Entity}
 use Rattle.ada_meaning.specs.Stored as stored
-use Rattle.ada_meaning.specs.Stored.{Stored, Cause, Left, OutOfTurns, NoRoom, CutOff, Misnoted, Address, Kept, Stacked, Touch, slot_at, key, within}
+use Rattle.ada_meaning.specs.Stored.{Stored, Cause, Left, OutOfTurns, NoRoom, CutOff, Misnoted}
 use Rattle.ada_meaning.specs.Meaning.{Env, Passed, Returned}
 use Rattle.ada_meaning.specs.Operations.{RangeCheck}
 use Rattle.ada_meaning.proofs.Cells.{get_left, get_right, get_take}
@@ -22,10 +22,11 @@ use Rattle.ada_lower.specs.Fits.{What, Other, Free, Right, Ghost, Fit, Ends, Kno
 use Rattle.ada_lower.proofs.Framework.{To, comes_as, comes_thrown, led, leads_on}
 use Rattle.ada_lower.proofs.Memory.{right_same}
 use Rattle.ada_lower.proofs.Parts.{Fewer, allows_fewer}
-use Rattle.ada_lower.proofs.Declared.{get_of, keeping}
-use Rattle.ada_lower.specs.Fitted.{Callable}
-use Rattle.ada_lower.specs.Emission.{shapes}
-use Rattle.ada_lower.proofs.Sent.{Sent, all_passed, flat, aheads, AreSuited, Backs, Also, LandsAlso}
+use Rattle.ada_lower.proofs.Declared.{get_of}
+use Rattle.ada_lower.specs.Fitted.{Callable, spots}
+use Rattle.ada_lower.specs.Emission.{shapes, shapes_cells}
+use Rattle.ada_lower.proofs.Scattered.{AreFree, scattering}
+use Rattle.ada_lower.proofs.Sent.{Sent, all_passed, pieces, aheads, AreSuited, Backs, Also, LandsAlso}
 use Rattle.typed_tree.specs.declared.scalars.Scalar.{Scalar}
 use Rattle.typed_tree.specs.Syntax.{Program}
 
@@ -269,12 +270,12 @@ with_kept vs f = record f { kept = vs }
 
 -- calls whose arguments stand in cells of the caller's frame, where they leave what is copied back; accumulators may be kept
 pub record CallsDo (limit : ℕ) (cuts : ℕ → ℕ → List ℕ) (program : Program) (globals : ℕ → Entity → Option Named) (mains : Entity → Bool) (c : Code) (f : Fixed) (calls : ℕ → ℕ → Stored (Unit {0}) → List Passed → Stored Returned) : Type 0 where
-  pub by : {g : Ghost} {env : Env} (x : Ends) (s : Sight) (sub n q to : ℕ) (before after : List ℤ) (kept : List ℤ) (check : Checked) (ps : List Sent) (u : Callable program globals mains s sub) → Knows limit cuts g f s env → n + length (flat ps) ≡ s.scope.free → s.scope.free ≤ s.cells → AreSuited (shapes program u.unit.formals) ps
-      → ((k : ℕ) → k < length (flat ps) → g.what (f.base + n + k) ≡ Free) → Calling limit c (with_kept kept f) q before after (sub + 1) n to (holds check) x.entry
-      → Also limit c (with_kept kept f) x {A = Returned} (keeping (f.base + n) (flat ps) g) (record g { what = aheads (f.base + n) ps g.what }) (λ r d. Backs (f.base + n) ps r.cells d.cells) (calls env.nested sub (test_of check) (all_passed ps)) (λ d. on (with_kept kept f) q before d) (λ r d. on (with_kept kept f) to (given u.unit.result r.value ++ after) d)
+  pub by : {g : Ghost} {env : Env} (x : Ends) (s : Sight) (sub n q to : ℕ) (before after : List ℤ) (kept : List ℤ) (check : Checked) (ps : List Sent) (u : Callable program globals mains s sub) → Knows limit cuts g f s env → n + shapes_cells (shapes program u.unit.formals) ≡ s.scope.free → s.scope.free ≤ s.cells → AreSuited (spots 0 (shapes program u.unit.formals)) ps
+      → AreFree (f.base + n) (shapes_cells (shapes program u.unit.formals)) g.what → Calling limit c (with_kept kept f) q before after (sub + 1) n to (holds check) x.entry
+      → Also limit c (with_kept kept f) x {A = Returned} (scattering (f.base + n) (pieces ps) g) (scattering (f.base + n) (aheads ps) g) (λ r d. Backs (f.base + n) ps r.cells d.cells) (calls env.nested sub (test_of check) (all_passed ps)) (λ d. on (with_kept kept f) q before d) (λ r d. on (with_kept kept f) to (given u.unit.result r.value ++ after) d)
 
 -- those where nothing is checked
 pub called_plainly : {limit : ℕ} {cuts : ℕ → ℕ → List ℕ} {program : Program} {globals : ℕ → Entity → Option Named} {mains : Entity → Bool} {c : Code} {f : Fixed} {calls : ℕ → ℕ → Stored (Unit {0}) → List Passed → Stored Returned} {g : Ghost} {env : Env} → CallsDo limit cuts program globals mains c f calls → (x : Ends) (s : Sight) (sub n q : ℕ) (st : List ℤ) (ps : List Sent) (u : Callable program globals mains s sub)
-    → Knows limit cuts g f s env → n + length (flat ps) ≡ s.scope.free → s.scope.free ≤ s.cells → AreSuited (shapes program u.unit.formals) ps → ((k : ℕ) → k < length (flat ps) → g.what (f.base + n + k) ≡ Free) → At c q (i.CallAt (sub + 1) n) x.entry
-    → Also limit c f x {A = Returned} (keeping (f.base + n) (flat ps) g) (record g { what = aheads (f.base + n) ps g.what }) (λ r d. Backs (f.base + n) ps r.cells d.cells) (calls env.nested sub (stored.ret tt) (all_passed ps)) (λ d. on f q st d) (λ r d. on f (q + 1) (given u.unit.result r.value ++ st) d)
+    → Knows limit cuts g f s env → n + shapes_cells (shapes program u.unit.formals) ≡ s.scope.free → s.scope.free ≤ s.cells → AreSuited (spots 0 (shapes program u.unit.formals)) ps → AreFree (f.base + n) (shapes_cells (shapes program u.unit.formals)) g.what → At c q (i.CallAt (sub + 1) n) x.entry
+    → Also limit c f x {A = Returned} (scattering (f.base + n) (pieces ps) g) (scattering (f.base + n) (aheads ps) g) (λ r d. Backs (f.base + n) ps r.cells d.cells) (calls env.nested sub (stored.ret tt) (all_passed ps)) (λ d. on f q st d) (λ r d. on f (q + 1) (given u.unit.result r.value ++ st) d)
 called_plainly {f = f} called x s sub n q st ps u k whole room suited free at = called.by x s sub n q (q + 1) st st f.kept Unchecked ps u k whole room suited free (plain_call st at)

@@ -133,7 +133,7 @@ module _ (program : Program) (leases : ℕ → List Lease) where
       let w : 0 + k ≡ k = omega arith in
       subst (λ m. slice_get (all_subs program text ps) m ≡ Some (code_sub program text ps k unit)) z (sub_row program text ps 0 program.subs k unit e ∙ ap (λ m. Some (code_sub program text ps m unit)) w)
 
-  construct_row : (k : ℕ) → k < length program.sites → slice_get (code_of program leases).sites k ≡ Some (code_site ps leases k)
+  pub construct_row : (k : ℕ) → k < length program.sites → slice_get (code_of program leases).sites k ≡ Some (code_site ps leases k)
   construct_row k lt = let w : 0 + k ≡ k = omega arith in site_row ps leases 0 program.sites k lt ∙ ap (λ m. Some (code_site ps leases m)) w
 
   -- an instruction's body is there
@@ -158,16 +158,16 @@ module _ (program : Program) (leases : ℕ → List Lease) where
         (code_sub program text ps k unit, unit_row k unit e, refl, omega (arith, c));
   }
 
+  -- the row of a construct whose fork stands there
+  pub row_of : HasForks program → (q site : ℕ) (p : Placed) → slice_get ps q ≡ Some p → p.instr ≡ Forks site → fork_from site no_fork 0 ps ≡ fork_at q p
+  row_of counted q site p e is = let z : 0 + q ≡ q = omega arith in found site no_fork 0 ps q p e is (λ j x ex ix. counted.once j q site x p ex e ix is) ∙ ap (λ n. fork_at n p) z
+
   module _ (sited : IsSited program) (counted : HasForks program) (leased : LeasesFit program leases) where
     named : (q : ℕ) (p : Placed) (i : Instr) → slice_get ps q ≡ Some p → p.instr ≡ i → Names program p.body i
     named q p i e is = subst (λ i. Names program p.body i) is (listed_names program sited q p e).1
 
     behind : (b : Around) (site outer : ℕ) → b ≡ body.Site outer → IsBehind program b site → outer < site
     behind b site outer e w = subst (λ b. IsBehind program b site) e w
-
-    -- the row of a construct whose fork stands there
-    row_of : (q site : ℕ) (p : Placed) → slice_get ps q ≡ Some p → p.instr ≡ Forks site → fork_from site no_fork 0 ps ≡ fork_at q p
-    row_of q site p e is = let z : 0 + q ≡ q = omega arith in found site no_fork 0 ps q p e is (λ j x ex ix. counted.once j q site x p ex e ix is) ∙ ap (λ n. fork_at n p) z
 
     pub tables_are : HasTables program text (code_of program leases)
     tables_are = record {
@@ -183,7 +183,7 @@ module _ (program : Program) (leases : ℕ → List Lease) where
           let same : length (code_subs program text ps 0 program.subs) ≡ length program.subs = subs_length program text ps 0 program.subs in
           sub_below program.subs k (omega (arith, lt, same));
       forks = λ q site p e is.
-          let row = row_of q site p e is in
+          let row = row_of counted q site p e is in
           let (least, h) = needed_keeps (body.Site site) (at_least 4) ps in
           let two : q + 2 ≡ q + 1 + 1 = omega arith in
           subst (λ o. IsSomeAnd o (λ s. (s.entry ≡ q + 1 + 1) × (4 ≤ s.frame) × (s.around ≡ p.body) × (s.kind ≡ p.kind))) (sym (construct_row site (named q p (Forks site) e is).0))
@@ -197,7 +197,7 @@ module _ (program : Program) (leases : ℕ → List Lease) where
           let same = sites_length ps leases 0 program.sites in
           let inside : site < length program.sites = omega (arith, lt, same) in
           let (q, p, at_q, fork) = counted.each site inside in
-          let row = row_of q site p at_q fork in
+          let row = row_of counted q site p at_q fork in
           let there : code_site ps leases site ≡ s = some_same (code_site ps leases site) s (sym (construct_row site inside) ∙ e) in
           behind p.body site outer (sym (ap (λ f. f.around) row) ∙ ap (λ s. s.around) there ∙ is) (named q p (Forks site) at_q fork).1;
       leases = λ site s e. leased site s e;

@@ -1,6 +1,8 @@
--- That what is asked of programs can be given: a procedure whose formals are copied back.
+-- That what is asked of programs can be given: a procedure whose formals are copied back, called with its actual parameters
+-- in another order.
 --   procedure P (A : in out Integer; B : out Integer; V : in out Pair) is begin B := A; A := 2; end P;
-use Rattle.std.proofs.Common.{◌≡◌, ℕ, zero, suc, ◌≤◌, pos, List, [], ◌∷◌, map, replicate, ◌++◌, slice_get, Some, None, Ok, true, false, refl, subst, arith, inl}
+--   P (B => Y, A => X, V => Z);
+use Rattle.std.proofs.Common.{◌≡◌, ℕ, zero, suc, ◌≤◌, pos, List, [], ◌∷◌, map, replicate, ◌++◌, slice_get, Some, None, Ok, true, false, refl, subst, arith, inl, inr}
 use Rattle.std.proofs.lemmas.Option.{none-some}
 use Rattle.ada_base.specs.declared.operation.Base.TheVariants as base
 use Rattle.typed_tree.specs.declared.scalars.Class.TheVariants as class
@@ -31,7 +33,7 @@ procedure = record { formals = record { object = 0; mode = mode.InOut } ∷ reco
 
 abbrev pub main : Stmts
 main = Then (Block (DeclareDefault 3 (DeclareDefault 4 (DeclareDefault 5 NoDecl)))
-    (Then (CallProcedure 0 0 0 (InOut 0 0 (root.Object 3) Whole integer integer (Out 1 0 (root.Object 4) Whole integer integer (CompositeInOut 2 0 (root.Object 5) Whole 1 NoActual))))
+    (Then (CallProcedure 0 0 0 (Out 1 0 (root.Object 4) Whole integer integer (InOut 0 0 (root.Object 3) Whole integer integer (CompositeInOut 2 0 (root.Object 5) Whole 1 NoActual))))
     (Then (Put 0 0 (Image (class.Integer base.Narrow) (Variable 0 (root.Object 3) Whole integer) NoPiece) true) End)) NoHandler) End
 
 abbrev pub program : Program
@@ -101,7 +103,7 @@ main_fitted = (
             refl,
             refl,
             omega arith,
-            (_, refl, refl, (record { through = false; place = own 0; cells = 1 }, refl, omega arith), tt, (_, refl, refl, (record { through = false; place = own 1; cells = 1 }, refl, omega arith), tt, (_, refl, refl, (record { through = false; place = own 2; cells = 2 }, refl, omega arith), tt, refl))),
+            (2, _, inr (_, refl, inl (refl, refl)), refl, (record { through = false; place = own 1; cells = 1 }, refl, omega arith), tt, (0, _, inl (refl, refl), refl, (record { through = false; place = own 0; cells = 1 }, refl, omega arith), tt, (4, _, inl (refl, refl), refl, (record { through = false; place = own 2; cells = 2 }, refl, omega arith), tt, refl))),
           ),
           ((omega arith, (((record { through = false; place = own 0; cells = 1 }, refl, omega arith), tt), tt)), tt),
         ),

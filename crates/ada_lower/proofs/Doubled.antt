@@ -16,7 +16,7 @@ use Rattle.ada_lower.proofs.Framework.{To, comes_here, comes_on, comes_goes, com
 use Rattle.ada_lower.proofs.Memory.{IsOwn, fit_alike}
 use Rattle.ada_lower.proofs.Standing.{stands_seq}
 use Rattle.ada_lower.proofs.Declared.{keeping, laid_out, laid_in, laid_what, kept_what}
-use Rattle.ada_lower.proofs.Sent.{laid_split, laid_swap}
+use Rattle.ada_lower.proofs.Scattered.{laid_split, laid_swap}
 use Rattle.ada_lower.proofs.Copies.{loads_done, stores_done, kept_there}
 
 -- ---- the same numbers, so many times

@@ -106,7 +106,7 @@ stands cells le = (here refl, (here refl, (here refl, (here refl, (here refl, (h
 fitted : (cells : ℕ) → 3 ≤ cells → FittedStmt program none_there none_main no_threads no_fork (scope cells) (Block NoDecl body NoHandler)
 fitted cells le = (
   ((there, tt), (tt, tt), tt),
-  (((record { unit = function; is = refl; outer = λ y n e. absurd (none-some n e); main = λ y e. e }, (integer, refl), refl, omega (arith, le), ([], refl, refl, (there, tt), refl)), there), tt),
+  (((record { unit = function; is = refl; outer = λ y n e. absurd (none-some n e); main = λ y e. e }, (integer, refl), refl, omega (arith, le), (0, [], inl (refl, refl), refl, (there, tt), refl)), there), tt),
 )
   where
     there : ((n : Named) × (Some (formal_named 0 1) ≡ Some n) × (1 ≤ n.cells)) × Unit {0}
@@ -128,7 +128,7 @@ unfolding Rattle.ada_lower.specs.Emission.emit Rattle.ada_lower.specs.Emission.s
 main_stands = (here refl, (here refl, (here refl, (here refl, (here refl, (here refl, (here refl, (here refl, (here refl, refl)))))))))
 
 main_fitted : FittedStmt program none_there none_main no_threads no_fork (main_scope program none_there none_main [] text four_each 3) (Block NoDecl main NoHandler)
-main_fitted = ((omega arith, ((record { unit = function; is = refl; outer = λ y n e. absurd (none-some n e); main = λ y e. e }, (integer, refl), refl, omega arith, ([], refl, refl, tt, refl)), tt)), tt)
+main_fitted = ((omega arith, ((record { unit = function; is = refl; outer = λ y n e. absurd (none-some n e); main = λ y e. e }, (integer, refl), refl, omega arith, (0, [], inl (refl, refl), refl, tt, refl)), tt)), tt)
 
 -- and where the stored run of the program gives a value, the machine ends with its output
 pub comes : (limit : ℕ) (cuts : ℕ → ℕ → List ℕ) (slots : ℕ) (input before : List ℕ) (notes : Schedule) → let r = (Meaning.main (stored.noted_operations limit cuts) limit program).does (stored.noted_outset slots input before notes) in r.end ≡ Ok tt

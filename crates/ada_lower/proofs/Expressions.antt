@@ -1,5 +1,5 @@
 -- The code of an expression does what the expression does.
-use Rattle.std.proofs.Common.{◌≡◌, ℕ, zero, suc, ◌+◌, ◌-◌, ◌*◌, ◌<◌, ◌≤◌, ℤ, pos, ◌-ℤ◌, List, [], ◌∷◌, ◌++◌, length, slice_get, nat_eq, Option, Some, None, Bool, true, false, not, cond, refl, sym, ap, ◌∙◌, subst, le_refl, arith, inl, inr, append-nil, append_assoc, length-append}
+use Rattle.std.proofs.Common.{◌≡◌, ℕ, zero, suc, ◌+◌, ◌-◌, ◌*◌, ◌<◌, ◌≤◌, ℤ, pos, ◌-ℤ◌, List, [], ◌∷◌, ◌++◌, length, slice_get, nat_eq, Option, Some, None, Bool, true, false, not, cond, refl, sym, ap, ◌∙◌, subst, le_refl, arith, inl, append-nil, append_assoc}
 use Rattle.behaviours.specs.Paths.{Entity, VariableOf, ConstantOf}
 use Rattle.behaviours.specs.Doings.{folded}
 use Rattle.typed_tree.specs.declared.expressions.Reducer.{Reducer}
@@ -8,32 +8,34 @@ use Rattle.typed_tree.specs.declared.expressions.Iterated.{Iterated}
 use Rattle.typed_tree.specs.declared.expressions.Run.{Run}
 use Rattle.typed_tree.specs.Syntax.{Expr, Static, Variable, Constant, Parameter, Target, Group, Unary, Binary, AndThen, OrElse, Relation, Membership, If, Call, Convert, Reduction, Range, Components, Optional, Absent, Present, Selections, Whole, Field, Index, Actuals, NoActual, In, InOut, Out, CompositeInOut, CompositeOut, Number, Cells, Program, Value, Composite, WholeVariable, WholeConstant, WholeTarget, CompositeIf, Aggregate, Associations, NoAssociation, Association}
 use Rattle.ada_meaning.specs.Values
-use Rattle.ada_meaning.specs.Values.{between, truth, bit, to_nat, count, compares, base_of}
+use Rattle.ada_meaning.specs.Values.{between, truth, bit, to_nat, count, compares}
 use Rattle.ada_meaning.specs.Operations.{IndexCheck, RangeCheck, Operations, operate, reduce}
 use Rattle.ada_meaning.specs.Stored as stored
-use Rattle.ada_meaning.specs.Stored.{Stored, Cause, Left, Address}
+use Rattle.ada_meaning.specs.Stored.{Stored}
 use Rattle.ada_meaning.specs.Meaning.{Env, ObjectPart, Passed, Returned, variable_root, constant_root}
 use Rattle.stack_code.specs.declared.code.Code.{Code}
 use Rattle.ada_base.specs.Cells.{value_in}
 use Rattle.stack_code.specs.Deeds.{GoesOn}
 use Rattle.ada_lower.specs.Driven.{Dyn, Fixed, Step, on, At}
-use Rattle.ada_lower.specs.Sights.{Emit, Level, Named, Own, Sight, Stands, Where, address_of, constant_root_of, item_sight, iterated_sight, load_at, none, one, own, passing, range_sight, root_of, taking, with_parameter, ◌⨟◌}
+use Rattle.ada_lower.specs.Sights.{Emit, Named, Sight, Stands, constant_root_of, item_sight, iterated_sight, none, one, own, passing, range_sight, root_of, taking, ◌⨟◌}
 use Rattle.ada_lower.specs.Emission
-use Rattle.ada_lower.specs.Emission.{emit, selected, load, binary_instr, unary_instr, compare_instr, Shape, shapes, shapes_cells}
+use Rattle.ada_lower.specs.Emission.{emit, selected, binary_instr, unary_instr, compare_instr, Shape, shapes, shapes_cells}
 use Rattle.ada_lower.specs.Fits.{Free, Keeps, Ghost, Ends, Spread, Refers, Knows, Fit}
-use Rattle.ada_lower.specs.Fitted.{Reaches, Fitted, FittedFold, FittedOptional, FittedSelections, FittedIn, FittedAssociations, FittedComponent, FittedComposite, FittedGiven, FittedRuns}
+use Rattle.ada_lower.specs.Fitted.{Spot, spot, spots, Reaches, Fitted, FittedFold, FittedOptional, FittedSelections, FittedIn, FittedAssociations, FittedComponent, FittedComposite, FittedGiven, FittedRuns}
 use Rattle.ada_lower.proofs.Framework.{any, To, Doing, comes_here, comes_on, comes_goes, does_ret, does_bind, does_seq, does_assoc, does_before, does_returned}
 use Rattle.ada_lower.proofs.Memory.{number_seen, set_what, own_free, fit_unset, what_same, what_other, fit_alike, IsOwn}
 use Rattle.ada_lower.proofs.Standing.{stands_seq, stands_assoc3, stands_choose, stands_when}
 use Rattle.ada_lower.proofs.Parts.{Runs, allows_fewer, does_first, does_keep, does_operate, does_check}
-use Rattle.ada_lower.proofs.Declared.{keeping, knows_kept, keep_one_more, laid_out, kept_what, laid_what}
+use Rattle.ada_lower.proofs.Declared.{keeping, knows_kept}
 use Rattle.ada_lower.proofs.Blocks.{fit_unkept}
 use Rattle.ada_lower.proofs.Calls.{called_plainly, given}
 use Rattle.ada_lower.proofs.Inner.{InnerDo}
 pub use Rattle.ada_lower.proofs.Courses.{at_entry}
 use Rattle.ada_lower.proofs.Items.{named_entity, array_refers, items_folds}
 use Rattle.ada_lower.proofs.Courses.{comes_kept, course_does, fit_uncount, count_none, range_folds, folds_none, turn_folds, tests}
-use Rattle.ada_lower.proofs.Sent.{Sent, all_passed, flat, aheads, laid_split, laid_swap, AreSuited, suited_cells, fit_unaheads, also_then}
+use Rattle.ada_lower.proofs.Sent.{Sent, HaveCells, sent_in, suits_in, all_passed, pieces, aheads, pieces_in, aheads_in, have_cells, AreSuited, also_then}
+use Rattle.ada_lower.proofs.Scattered.{AreFree, scattering, fit_unscattered, fewer_scattered, both_kept}
+use Rattle.ada_lower.proofs.Passing.{Passing, passing_none, passing_more, placing}
 use Rattle.ada_lower.proofs.Names.{root_refers, constant_root_refers, index_below, does_by, does_index, does_load, comes_address, comes_number}
 use Rattle.std.proofs.lemmas.Bool.{ne_eqb}
 use Rattle.ada_lower.proofs.Copies.{does_copy}
@@ -76,74 +78,67 @@ module _ (limit : ℕ) (cuts : ℕ → ℕ → List ℕ) (program : Program) (c 
   ActualsDone (In formal (Cells value) rest) = Into (Cells value) × ActualsDone rest
   ActualsDone _ = Unit {1}
 
-  -- an actual parameter of mode `in`
-  abbrev pub sent_in : ℕ → List ℤ → Sent
-  sent_in formal cs = record { passed = record { formal = ConstantOf formal; cells = cs; back = None }; ahead = [] }
-
   -- actual parameters of functions go to the cells of their formals
-  pub passed_does : (as' : Actuals) (from to : ℕ) → ActualsDone as' → {B : Type 0} {g : Ghost} {env : Env} {q : B → Type 0} {goal : B → Dyn → Step} → (s : Sight) (h sub w n : ℕ) (hs : List Shape) (vs : List ℤ) (st : List ℤ) (so_far : List Passed) (then : List Passed → Stored B)
-      → Knows limit cuts g f s env → s.scope.entry ≡ x.entry → FittedIn program globals mains epar s sub w n hs as' → w + n + shapes_cells hs ≤ s.scope.free → s.scope.free ≤ s.cells → ((k : ℕ) → k < n + shapes_cells hs → g.what (f.base + w + k) ≡ Free) → length vs ≡ n
+  pub passed_does : (as' : Actuals) (from to : ℕ) → ActualsDone as' → {B : Type 0} {g G : Ghost} {env : Env} {q : B → Type 0} {goal : B → Dyn → Step} → (s : Sight) (h sub w m : ℕ) (ks : List Spot) (st : List ℤ) (so_far : List Passed) (then : List Passed → Stored B)
+      → Passing limit cuts f env s w m g G ks → s.scope.entry ≡ x.entry → FittedIn program globals mains epar s sub w ks as'
       → Stands c (Emission.passed program s.scope h sub w as') from to
-      → ((ps : List Sent) → AreSuited hs ps → Doing limit c f x (keeping (f.base + w) (vs ++ flat ps) g) g q (then (so_far ++ all_passed ps)) (λ d. on f to st d) goal)
-      → Doing limit c f x (keeping (f.base + w) vs g) g q (stored.bind (Meaning.pass ops limit program calls as' env so_far) then) (λ d. on f from st d) goal
+      → ((ps : List Sent) → AreSuited ks ps → Doing limit c f x (scattering (f.base + w) (pieces ps) G) g q (then (so_far ++ all_passed ps)) (λ d. on f to st d) goal)
+      → Doing limit c f x G g q (stored.bind (Meaning.pass ops limit program calls as' env so_far) then) (λ d. on f from st d) goal
   unfolding Rattle.ada_lower.specs.Emission.emit
-  passed_does NoActual from to done {g = g} {q = q} {goal = goal} s h sub w n hs vs st so_far then k en e below room free len l j =
+  passed_does NoActual from to done {g = g} {G = G} {q = q} {goal = goal} s h sub w m ks st so_far then p en e l j =
       does_returned limit c f x then so_far
-      (subst (λ p. Doing limit c f x (keeping (f.base + w) vs g) g q (then so_far) (λ d. on f p st d) goal) l
-      (subst (λ us. Doing limit c f x (keeping (f.base + w) us g) g q (then so_far) (λ d. on f to st d) goal) (append-nil vs)
-      (subst (λ ps. Doing limit c f x (keeping (f.base + w) (vs ++ []) g) g q (then ps) (λ d. on f to st d) goal) (append-nil so_far)
-      (j [] (subst (λ z. AreSuited z []) (sym e) tt)))))
-  passed_does (In formal (Number check e) rest) from to done {g = g} {env = env} {q = q} {goal = goal} s h sub w n hs vs st so_far then k en (zs, same, cell, we, wr) below room free len l j =
-      let more : shapes_cells hs ≡ suc (shapes_cells zs) = ap (λ z. shapes_cells z) same ∙ (let z : 0 + 1 + shapes_cells zs ≡ suc (shapes_cells zs) = omega arith in z) in
+      (subst (λ p. Doing limit c f x G g q (then so_far) (λ d. on f p st d) goal) l
+      (subst (λ ps. Doing limit c f x G g q (then ps) (λ d. on f to st d) goal) (append-nil so_far)
+      (j [] e)))
+  passed_does (In formal (Number check e) rest) from to done {B} {g} {G} {env} {q} {goal} s h sub w m ks st so_far then p en (o, zs, wo, cell, we, wr) l j =
       let (m1, l1, l2) = stands_seq c from to (emit program s.scope h e ⨟ Emission.checked s.scope (h + 1) check.scalar ⨟ Emission.keep s.scope (h + 1) (Emission.formal_of program sub w (ConstantOf formal))) (Emission.passed program s.scope h sub w rest) l in
       let (m2, l3, (j1, (j2, z))) = stands_seq c from m1 (emit program s.scope h e) (Emission.checked s.scope (h + 1) check.scalar ⨟ Emission.keep s.scope (h + 1) (Emission.formal_of program sub w (ConstantOf formal))) l1 in
-      let free' : (i : ℕ) → i < length vs → g.what (f.base + w + i) ≡ Free = (λ i lt. free i (omega (arith, lt, len))) in
-      let kk : Knows limit cuts (keeping (f.base + w) vs g) f s env = knows_kept w vs (omega (arith, below, len)) room free' k in
-      let next : f.base + w + length vs ≡ f.base + (w + n) = omega (arith, len) in
-      let loose : (keeping (f.base + w) vs g).what (f.base + (w + n)) ≡ Free =
-      ap (keeping (f.base + w) vs g).what (sym next) ∙ laid_out (f.base + w) 0 kept_what vs g.what (f.base + w + length vs) (inr (le_refl (f.base + w + length vs))) ∙ (let e' : f.base + w + length vs ≡ f.base + w + n = omega (arith, len) in ap g.what e') ∙ free n (omega (arith, more)) in
+      let place = placing (spot (ConstantOf formal) false 1 o) zs wo p in
+      let loose : G.what (f.base + (w + o)) ≡ Free = (let y : f.base + (w + o) ≡ f.base + w + o + 0 = omega arith in ap G.what y) ∙ place.free 0 (omega arith) in
+      let there : f.base + w + (o + 0) ≡ f.base + (w + o) = omega arith in
+      let then' : (List ℤ → Stored B) = (λ cs. stored.bind (Meaning.pass ops limit program calls rest env (so_far ++ (record { formal = ConstantOf formal; cells = cs; back = None } ∷ []))) then) in
       does_assoc limit c f x _ _ then
-      (does_assoc limit c f x _ _ (λ cs. stored.bind (Meaning.pass ops limit program calls rest env (so_far ++ (record { formal = ConstantOf formal; cells = cs; back = None } ∷ []))) then)
-      (does_seq limit c f x (λ t d w'. fit_unkept (f.base + w) vs g free' w') (λ ts al. al) (done.0 (Unit {0}) from m2 _ env s h st kk en we l3) (λ v _.
-      does_assoc limit c f x _ _ (λ cs. stored.bind (Meaning.pass ops limit program calls rest env (so_far ++ (record { formal = ConstantOf formal; cells = cs; back = None } ∷ []))) then)
-      (does_seq limit c f x (λ t d w'. fit_unkept (f.base + w) vs g free' w') (λ ts al. al) (does_check limit c f x RangeCheck check.at check.scalar.low check.scalar.high v (Values.is_in check.scalar v) st refl (at_entry en j1)) (λ _ _.
-      does_returned limit c f x (λ cs. stored.bind (Meaning.pass ops limit program calls rest env (so_far ++ (record { formal = ConstantOf formal; cells = cs; back = None } ∷ []))) then) (v ∷ [])
-      (does_keep limit c f x (m2 + 1) (w + n) v st (own_free _ loose) (subst (λ p. At c (m2 + 1) (i.StoreL p) x.entry) cell (at_entry en j2))
-      (does_first limit c f x (fewer_one_more limit cuts program c f x calls globals mains epar calls_do w n vs v g next) (λ t d' w'. (d', fit_alike (keeping (f.base + w) (vs ++ (v ∷ [])) g).what (λ a. (ap (λ p. (set_what p (Keeps v) (keeping (f.base + w) vs g)).what a) (sym next)) ∙ keep_one_more (f.base + w) vs v g a) w', comes_here limit c (on f (m2 + 1 + 1) st d')))
-      (subst (λ p. Doing limit c f x (keeping (f.base + w) (vs ++ (v ∷ [])) g) g q (stored.bind (Meaning.pass ops limit program calls rest env (so_far ++ (record { formal = ConstantOf formal; cells = v ∷ []; back = None } ∷ []))) then) (λ d. on f p st d) goal) z
-      (passed_does rest m1 to done.1 s h sub w (n + 1) zs (vs ++ (v ∷ [])) st (so_far ++ (record { formal = ConstantOf formal; cells = v ∷ []; back = None } ∷ [])) then k en wr (omega (arith, below, more)) room (λ i lt. free i (omega (arith, lt, more))) (length-append vs (v ∷ []) ∙ (let e' : length vs + 1 ≡ n + 1 = omega (arith, len) in e')) l2 (λ ps suited.
-      subst (λ ws. Doing limit c f x (keeping (f.base + w) ws g) g q (then ((so_far ++ (record { formal = ConstantOf formal; cells = v ∷ []; back = None } ∷ [])) ++ all_passed ps)) (λ d. on f to st d) goal) (sym (append_assoc vs (v ∷ []) (flat ps)))
-      (subst (λ us. Doing limit c f x (keeping (f.base + w) (vs ++ (v ∷ flat ps)) g) g q (then us) (λ d. on f to st d) goal) (sym (append_assoc so_far (record { formal = ConstantOf formal; cells = v ∷ []; back = None } ∷ []) (all_passed ps)))
-      (j (sent_in formal (v ∷ []) ∷ ps) (subst (λ z. AreSuited z (sent_in formal (v ∷ []) ∷ ps)) (sym same) (refl, refl, refl, tt, suited))))))))))))))
-  passed_does (In formal (Cells value) rest) from to done {B} {g} {env} {q} {goal} s h sub w n hs vs st so_far then k en (zs, nv, same, cell, wv, wr) below room free len l j =
-      let more : shapes_cells hs ≡ nv + shapes_cells zs = ap (λ z. shapes_cells z) same ∙ (let z : 0 + nv + shapes_cells zs ≡ nv + shapes_cells zs = omega arith in z) in
+      (does_assoc limit c f x _ _ then'
+      (does_seq limit c f x p.weak (λ ts al. al) (done.0 (Unit {0}) from m2 _ env s h st p.knows en we l3) (λ v _.
+      does_assoc limit c f x _ _ then'
+      (does_seq limit c f x p.weak (λ ts al. al) (does_check limit c f x RangeCheck check.at check.scalar.low check.scalar.high v (Values.is_in check.scalar v) st refl (at_entry en j1)) (λ _ _.
+      let p' : Passing limit cuts f env s w m g (keeping (f.base + w + (o + 0)) (v ∷ []) G) zs =
+      passing_more (spot (ConstantOf formal) false 1 o) (o + 0) (v ∷ []) (omega arith) (omega arith) place.fits (λ n lt. (let y : f.base + w + (o + 0) + n ≡ f.base + w + o + n = omega arith in ap G.what y) ∙ place.free n (omega (arith, lt))) place.off place.rest in
+      does_returned limit c f x then' (v ∷ [])
+      (does_keep limit c f x (m2 + 1) (w + o) v st (own_free _ loose) (subst (λ p. At c (m2 + 1) (i.StoreL p) x.entry) cell (at_entry en j2))
+      (subst (λ b. Doing limit c f x (keeping b (v ∷ []) G) g q (then' (v ∷ [])) (λ d. on f (m2 + 1 + 1) st d) goal) there
+      (subst (λ p. Doing limit c f x (keeping (f.base + w + (o + 0)) (v ∷ []) G) g q (then' (v ∷ [])) (λ d. on f p st d) goal) z
+      (passed_does rest m1 to done.1 s h sub w m zs st (so_far ++ (record { formal = ConstantOf formal; cells = v ∷ []; back = None } ∷ [])) then p' en wr l2 (λ ps suited.
+      subst (λ us. Doing limit c f x (scattering (f.base + w) (pieces (sent_in formal o (v ∷ []) ∷ ps)) G) g q (then us) (λ d. on f to st d) goal) (sym (append_assoc so_far (record { formal = ConstantOf formal; cells = v ∷ []; back = None } ∷ []) (all_passed ps)))
+      (j (sent_in formal o (v ∷ []) ∷ ps) (spot (ConstantOf formal) false 1 o, zs, wo, suits_in formal 1 o (v ∷ []) refl, suited))))))))))))
+  passed_does (In formal (Cells value) rest) from to done {B} {g} {G} {env} {q} {goal} s h sub w m ks st so_far then p en (o, nv, zs, wo, cell, wv, wr) l j =
       let (m1, l1, l2) = stands_seq c from to (Emission.put_into program s.scope h (Emission.formal_of program sub w (ConstantOf formal)) (Cells value)) (Emission.passed program s.scope h sub w rest) l in
-      let free' : (i : ℕ) → i < length vs → g.what (f.base + w + i) ≡ Free = (λ i lt. free i (omega (arith, lt, len))) in
-      let kk : Knows limit cuts (keeping (f.base + w) vs g) f s env = knows_kept w vs (omega (arith, below, len)) room free' k in
-      let place : f.base + (w + n) ≡ f.base + w + length vs = omega (arith, len) in
-      let loose : (i : ℕ) → i < nv → (keeping (f.base + w) vs g).what (f.base + (w + n) + i) ≡ Free = (λ i lt. laid_out (f.base + w) 0 kept_what vs g.what (f.base + (w + n) + i) (inr (omega (arith, len))) ∙ (let z : f.base + (w + n) + i ≡ f.base + w + (n + i) = omega arith in ap g.what z) ∙ free (n + i) (omega (arith, lt, more))) in
-      let back : (cs : List ℤ) (b : ℕ) → (keeping (f.base + (w + n)) cs (keeping (f.base + w) vs g)).what b ≡ (keeping (f.base + w) (vs ++ cs) g).what b = (λ cs b.
-      ap (λ m. laid_what m 0 kept_what cs (laid_what (f.base + w) 0 kept_what vs g.what) b) place
-      ∙ sym (laid_split (f.base + w) 0 0 vs cs g.what b ∙ laid_swap (f.base + w) 0 kept_what vs (f.base + w + length vs) 0 kept_what cs g.what b (le_refl (f.base + w + length vs)))) in
+      let place = placing (spot (ConstantOf formal) false nv o) zs wo p in
+      let fits = place.fits in
+      let below = p.below in
+      let loose : (n : ℕ) → n < nv → G.what (f.base + (w + o) + n) ≡ Free = (λ n lt. (let y : f.base + (w + o) + n ≡ f.base + w + o + n = omega arith in ap G.what y) ∙ place.free n (omega (arith, lt))) in
+      let there : f.base + w + (o + 0) ≡ f.base + (w + o) = omega arith in
+      let then' : (List ℤ → Stored B) = (λ cs. stored.bind (Meaning.pass ops limit program calls rest env (so_far ++ (record { formal = ConstantOf formal; cells = cs; back = None } ∷ []))) then) in
       does_assoc limit c f x _ _ then
-      (done.0 B (keeping (f.base + w) vs g) g env q goal s h (w + n) nv st
+      (done.0 B G g env q goal s h (w + o) nv st
       (record {
-        below = omega (arith, below, more);
-        own = λ i lt. own_free _ (loose i lt);
-        knows = kk;
-        weak = λ u d z. fit_unkept (f.base + w) vs g free' z;
-        kept = λ cs clen. knows_kept (w + n) cs (omega (arith, below, more, clen)) room (λ i lt. loose i (omega (arith, lt, clen))) kk;
-        less = λ cs clen u d z. fit_unkept (f.base + w) vs g free' (fit_unkept (f.base + (w + n)) cs (keeping (f.base + w) vs g) (λ i lt. loose i (omega (arith, lt, clen))) z);
-      }) en from m1 (λ cs. stored.bind (Meaning.pass ops limit program calls rest env (so_far ++ (record { formal = ConstantOf formal; cells = cs; back = None } ∷ []))) then) wv (subst (λ t. Stands c (Emission.put_into program s.scope h t (Cells value)) from m1) cell l1) (λ cs clen.
-      does_first limit c f x (λ b y p z. inl (back cs b ∙ z)) (λ t d z. (d, fit_alike (keeping (f.base + w) (vs ++ cs) g).what (back cs) z, comes_here limit c (on f m1 st d)))
-      (passed_does rest m1 to done.1 s h sub w (n + nv) zs (vs ++ cs) st (so_far ++ (record { formal = ConstantOf formal; cells = cs; back = None } ∷ [])) then k en wr (omega (arith, below, more)) room (λ i lt. free i (omega (arith, lt, more))) (length-append vs cs ∙ (let z : length vs + length cs ≡ n + nv = omega (arith, len, clen) in z)) l2 (λ ps suited.
-      subst (λ ws. Doing limit c f x (keeping (f.base + w) ws g) g q (then ((so_far ++ (record { formal = ConstantOf formal; cells = cs; back = None } ∷ [])) ++ all_passed ps)) (λ d. on f to st d) goal) (sym (append_assoc vs cs (flat ps)))
-      (subst (λ us. Doing limit c f x (keeping (f.base + w) (vs ++ (cs ++ flat ps)) g) g q (then us) (λ d. on f to st d) goal) (sym (append_assoc so_far (record { formal = ConstantOf formal; cells = cs; back = None } ∷ []) (all_passed ps)))
-      (j (sent_in formal cs ∷ ps) (subst (λ z. AreSuited z (sent_in formal cs ∷ ps)) (sym same) (refl, refl, clen, tt, suited))))))))
-  passed_does (InOut formal at r selections inner outer rest) from to done s h sub w n hs vs st so_far then k en e below room free len l j = absurd e
-  passed_does (Out formal at r selections inner outer rest) from to done s h sub w n hs vs st so_far then k en e below room free len l j = absurd e
-  passed_does (CompositeInOut formal at r selections subtype rest) from to done s h sub w n hs vs st so_far then k en e below room free len l j = absurd e
-  passed_does (CompositeOut formal at r selections subtype rest) from to done s h sub w n hs vs st so_far then k en e below room free len l j = absurd e
+        below = omega (arith, below, fits);
+        own = λ n lt. own_free _ (loose n lt);
+        knows = p.knows;
+        weak = p.weak;
+        kept = λ cs clen. knows_kept (w + o) cs (omega (arith, below, fits, clen)) p.room (λ n lt. loose n (omega (arith, lt, clen))) p.knows;
+        less = λ cs clen u d z. p.weak u d (fit_unkept (f.base + (w + o)) cs G (λ n lt. loose n (omega (arith, lt, clen))) z);
+      }) en from m1 then' wv (subst (λ t. Stands c (Emission.put_into program s.scope h t (Cells value)) from m1) cell l1) (λ cs clen.
+      let p' : Passing limit cuts f env s w m g (keeping (f.base + w + (o + 0)) cs G) zs =
+      passing_more (spot (ConstantOf formal) false nv o) (o + 0) cs (omega arith) (omega (arith, clen)) fits (λ n lt. (let y : f.base + w + (o + 0) + n ≡ f.base + w + o + n = omega arith in ap G.what y) ∙ place.free n (omega (arith, lt, clen))) place.off place.rest in
+      subst (λ b. Doing limit c f x (keeping b cs G) g q (then' cs) (λ d. on f m1 st d) goal) there
+      (passed_does rest m1 to done.1 s h sub w m zs st (so_far ++ (record { formal = ConstantOf formal; cells = cs; back = None } ∷ [])) then p' en wr l2 (λ ps suited.
+      subst (λ us. Doing limit c f x (scattering (f.base + w) (pieces (sent_in formal o cs ∷ ps)) G) g q (then us) (λ d. on f to st d) goal) (sym (append_assoc so_far (record { formal = ConstantOf formal; cells = cs; back = None } ∷ []) (all_passed ps)))
+      (j (sent_in formal o cs ∷ ps) (spot (ConstantOf formal) false nv o, zs, wo, suits_in formal nv o cs clen, suited))))))
+  passed_does (InOut formal at r selections inner outer rest) from to done s h sub w m ks st so_far then p en e l j = absurd e
+  passed_does (Out formal at r selections inner outer rest) from to done s h sub w m ks st so_far then p en e l j = absurd e
+  passed_does (CompositeInOut formal at r selections subtype rest) from to done s h sub w m ks st so_far then p en e l j = absurd e
+  passed_does (CompositeOut formal at r selections subtype rest) from to done s h sub w m ks st so_far then p en e l j = absurd e
 
   item_entry : (constant : Bool) (s : Sight) (p stride : ℕ) → s.scope.entry ≡ x.entry → (item_sight s None constant p stride 0).scope.entry ≡ x.entry
   item_entry true s p stride e = e
@@ -159,7 +154,6 @@ module _ (limit : ℕ) (cuts : ℕ → ℕ → List ℕ) (program : Program) (c 
   reduced_here (Operator at op class) token from to {g} s h a v st k en w (j, z) =
       subst (λ q. Runs limit c f x g any (operate stored.doings stored.checks op token class a v) (λ d. on f from (v ∷ a ∷ st) d) (λ b d. on f q (b ∷ st) d)) (sym z) (does_operate limit c f x op token class a v st (at_entry en j))
   reduced_here (Function at sub accumulator kind) token from to {g} {env} s h a v st k en (u, (result, gives), room, formals) (j1, (j2, (j3, (j4, (j5, (j6, (j7, z0))))))) =
-      let us : List ℤ = a ∷ v ∷ [] in
       let t : Sight = taking 2 s in
       let g1 : Ghost = set_what (f.base + (s.scope.free + 1)) (Keeps v) g in
       let g2 : Ghost = set_what (f.base + s.scope.free) (Keeps a) g1 in
@@ -168,12 +162,18 @@ module _ (limit : ℕ) (cuts : ℕ → ℕ → List ℕ) (program : Program) (c 
       let apart : (f.base + (s.scope.free + 1) ≡ f.base + s.scope.free → ⊥) = (λ e. omega (arith, e)) in
       let free0' : g1.what (f.base + s.scope.free) ≡ Free = what_other g (f.base + (s.scope.free + 1)) (f.base + s.scope.free) (Keeps v) apart ∙ free0 in
       let kept : g2.what (f.base + (s.scope.free + 1)) ≡ Keeps v = what_other g1 (f.base + s.scope.free) (f.base + (s.scope.free + 1)) (Keeps a) (λ e. apart (sym e)) ∙ what_same g (f.base + (s.scope.free + 1)) (Keeps v) in
-      let next : f.base + (s.scope.free + 1) ≡ f.base + s.scope.free + 1 = omega arith in
-      let alike : (b : ℕ) → g2.what b ≡ (keeping (f.base + s.scope.free) us g).what b = (λ b. ap (λ z. cond (nat_eq (f.base + s.scope.free) b) (Keeps a) (cond (nat_eq z b) (Keeps v) (g.what b))) next) in
-      let ps : List Sent = sent_in (Meaning.formal_at (Meaning.formals_of program.subs sub) 0) (a ∷ []) ∷ sent_in (Meaning.formal_at (Meaning.formals_of program.subs sub) 1) (v ∷ []) ∷ [] in
-      let suited : AreSuited (shapes program u.unit.formals) ps = subst (λ z. AreSuited z ps) (sym formals) (refl, refl, refl, tt, (refl, refl, refl, tt, tt)) in
+      let n : ℕ = f.base + s.scope.free in
+      let x0 : ℕ = Meaning.formal_at (Meaning.formals_of program.subs sub) 0 in
+      let x1 : ℕ = Meaning.formal_at (Meaning.formals_of program.subs sub) 1 in
+      let ps : List Sent = sent_in x0 0 (a ∷ []) ∷ sent_in x1 1 (v ∷ []) ∷ [] in
+      let next : f.base + (s.scope.free + 1) ≡ n + 1 = omega arith in
+      let alike : (b : ℕ) → g2.what b ≡ (scattering n (pieces ps) g).what b = (λ b. ap (λ m. cond (nat_eq n b) (Keeps a) (cond (nat_eq m b) (Keeps v) (g.what b))) next ∙ both_kept n a v g b) in
+      let suited : AreSuited (spots 0 (shapes program u.unit.formals)) ps = subst (λ z. AreSuited (spots 0 z) ps) (sym formals) (spot (ConstantOf x0) false 1 0, spot (ConstantOf x1) false 1 1 ∷ [], inl (refl, refl), suits_in x0 1 0 (a ∷ []) refl, (spot (ConstantOf x1) false 1 1, [], inl (refl, refl), suits_in x1 1 1 (v ∷ []) refl, refl)) in
+      let many : shapes_cells (shapes program u.unit.formals) ≡ 2 = ap (λ z. shapes_cells z) formals in
+      let have : HaveCells (shapes_cells (shapes program u.unit.formals)) ps = have_cells (shapes program u.unit.formals) ps suited in
+      let count : ℕ = shapes_cells (shapes program u.unit.formals) in
       let kt : Knows limit cuts g f t env = record { most = k.most; nested = k.nested; plan = k.plan; kept = k.kept; top = k.top; beyond = k.beyond; global = k.global; outside = k.outside; one = k.one; old = k.old; hidden = k.hidden; object = k.object; parameter = k.parameter; item = k.item; constant_item = k.constant_item; target = k.target; handled = k.handled; free = λ i le lt. k.free i (omega (arith, le)) lt } in
-      let free : (i : ℕ) → i < length us → g.what (f.base + s.scope.free + i) ≡ Free = (λ i lt. (let e : f.base + s.scope.free + i ≡ f.base + (s.scope.free + i) = omega arith in ap g.what e) ∙ k.free (s.scope.free + i) (omega arith) (omega (arith, lt, room))) in
+      let free : AreFree n count g.what = (λ i lt. (let e : f.base + s.scope.free + i ≡ f.base + (s.scope.free + i) = omega arith in ap g.what e) ∙ k.free (s.scope.free + i) (omega arith) (omega (arith, lt, room, many))) in
       let q : ℕ = from + 1 + 1 + 1 + 1 + 1 + 1 in
       does_keep limit c f x from (s.scope.free + 1) v (a ∷ st) (own_free _ free1) (at_entry en j1)
       (does_assoc limit c f x _ _ _
@@ -182,13 +182,13 @@ module _ (limit : ℕ) (cuts : ℕ → ℕ → List ℕ) (program : Program) (c 
       (does_by limit c f x (λ z d w. comes_kept limit cuts c f (s.scope.free + 1) v st d w kept j4)
       (does_seq limit c f x {g = g2} {h = g2} {j = g} (λ z d w. fit_unset (f.base + (s.scope.free + 1)) v free1 (fit_unset (f.base + s.scope.free) a free0' w)) (λ ts al. al) (does_check limit c f x RangeCheck at kind.low kind.high v (Values.is_in kind v) st refl (at_entry en j5)) (λ _ _.
       does_before limit c f x (λ d. comes_goes limit c f (v ∷ st) q st d j6 refl)
-      (does_first limit c f x (λ b y p e. inl (alike b ∙ e)) (λ z d w. (d, fit_alike (keeping (f.base + s.scope.free) us g).what alike w, comes_here limit c (on f q st d)))
-      (also_then limit c f x {h = record g { what = aheads (f.base + s.scope.free) ps g.what }} {j = g} {k = λ r. stored.ret r.value} (λ z d w. fit_unaheads (f.base + s.scope.free) ps g free w)
-      (called_plainly calls_do.called x t sub s.scope.free q st ps (record { unit = u.unit; is = u.is; outer = u.outer; main = u.main }) kt refl room suited free (at_entry en j7))
+      (does_first limit c f x (λ b y p e. inl (alike b ∙ e)) (λ z d w. (d, fit_alike (scattering n (pieces ps) g).what alike w, comes_here limit c (on f q st d)))
+      (also_then limit c f x {h = scattering n (aheads ps) g} {j = g} {k = λ r. stored.ret r.value} (λ z d w. fit_unscattered n count (aheads ps) g (aheads_in count ps have) free w)
+      (called_plainly calls_do.called x t sub s.scope.free q st ps (record { unit = u.unit; is = u.is; outer = u.outer; main = u.main }) kt (omega (arith, many)) room suited free (at_entry en j7))
       (λ r z d fit _. (
         g,
-        fit_unaheads (f.base + s.scope.free) ps g free fit,
-        (λ ts al. allows_fewer limit c f x (keeping (f.base + s.scope.free) us g) g ts (fewer_kept_back limit cuts program c f x calls globals mains epar calls_do (f.base + s.scope.free) us g free) al),
+        fit_unscattered n count (aheads ps) g (aheads_in count ps have) free fit,
+        (λ ts al. allows_fewer limit c f x (scattering n (pieces ps) g) g ts (fewer_scattered limit c f x n count (pieces ps) g (pieces_in count ps have) free) al),
         subst (λ p. Runs limit c f x g any (stored.ret r.value) (λ d. on f (q + 1) (given p r.value ++ st) d) (λ v d. on f to (v ∷ st) d)) (sym gives)
             (ends_ret limit cuts program c f x calls globals mains epar calls_do r.value (q + 1) to st z0),
       ))))))))))
@@ -207,7 +207,7 @@ module _ (limit : ℕ) (cuts : ℕ → ℕ → List ℕ) (program : Program) (c 
   -- the code of an association without a parameter
   abbrev given_code : Bool → Value → Sight → (h t : ℕ) → List Run → Emit
   given_code turns value s h t runs =
-      cond turns (Emission.turnings s.scope h t (pos 0) (Emission.component program (taking 3 s).scope h (s.scope.free + 1 + 1) value) runs)
+      cond turns (Emission.turnings s.scope h t (pos 0) (Emission.component program (taking 3 s).scope (Emission.turn_height runs h) (s.scope.free + 1 + 1) value) runs)
       (Emission.fillings s.scope h t (Emission.width program value) (Emission.is_plain value) (λ n. Emission.put_into program s.scope h (t + n) value) runs)
 
   given_entry : (it : Option Iterated) (s : Sight) → (given_sight it s).scope.entry ≡ s.scope.entry
@@ -217,12 +217,12 @@ module _ (limit : ℕ) (cuts : ℕ → ℕ → List ℕ) (program : Program) (c 
   -- values that take turns
   turned_into : (it : Option Iterated) (value : Value) → ComponentDone value → (B : Type 0) (g j : Ghost) (env : Env) (q : B → Type 0) (goal : B → Dyn → Step) (s : Sight) (h t n : ℕ) (st : List ℤ) → Room g j s env t n → s.scope.entry ≡ x.entry → s.scope.free + 1 + 1 < s.cells
       → (runs : List Run) (from to : ℕ) (cur : List ℤ) (then : List ℤ → Stored B) → length cur ≡ n → FittedRuns program globals mains n (Emission.width program value) runs → FittedComponent program globals mains epar (given_sight it s) value
-      → Stands c (Emission.turnings s.scope h t (Emission.turned_low it) (Emission.component program (given_sight it s).scope h (s.scope.free + 1 + 1) value) runs) from to → Then g j q goal t n to st then
+      → Stands c (Emission.turnings s.scope h t (Emission.turned_low it) (Emission.component program (given_sight it s).scope (Emission.turn_height runs h) (s.scope.free + 1 + 1) value) runs) from to → Then g j q goal t n to st then
       → Doing limit c f x (keeping (f.base + t) cur g) j q (stored.bind (Meaning.runs_values ops runs (turn_values limit cuts program c f x calls globals mains epar it value env) cur) then) (λ d. on f from st d) goal
   unfolding Rattle.ada_lower.specs.Emission.emit
   turned_into it value does B g j env q goal s h t n st room en some runs from to cur then len w we l go =
-      all_turnings limit cuts program c f x calls globals mains epar it value s h t n st (Emission.component program (given_sight it s).scope h (s.scope.free + 1 + 1) value)
-      (λ B g j q goal k first room kept from to then l go. component_does limit cuts program c f x calls globals mains epar value does B g j (turn_env limit cuts program c f x calls globals mains epar it k env) q goal (given_sight it s) h (s.scope.free + 1 + 1) (t + first) st room
+      all_turnings limit cuts program c f x calls globals mains epar it value s h t n st (Emission.component program (given_sight it s).scope (Emission.turn_height runs h) (s.scope.free + 1 + 1) value)
+      (λ st B g j q goal k first room kept from to then l go. component_does limit cuts program c f x calls globals mains epar value does B g j (turn_env limit cuts program c f x calls globals mains epar it k env) q goal (given_sight it s) (Emission.turn_height runs h) (s.scope.free + 1 + 1) (t + first) st room
       (given_entry it s ∙ en) (let e : (given_sight it s).scope.free ≡ s.scope.free + 3 = given_free it s in omega (arith, e)) kept from to then we l go)
       room en some runs from to cur then len w l go
 
@@ -333,15 +333,14 @@ module _ (limit : ℕ) (cuts : ℕ → ℕ → List ℕ) (program : Program) (c 
         let (m, l1, (j, z)) = stands_seq c from to (Emission.passed program t.scope h sub n actuals) (one s.scope h (i.CallAt (sub + 1) n)) l in
         let kt : Knows limit cuts g f t env = record { most = k.most; nested = k.nested; plan = k.plan; kept = k.kept; top = k.top; beyond = k.beyond; global = k.global; outside = k.outside; one = k.one; old = k.old; hidden = k.hidden; object = k.object; parameter = k.parameter; item = k.item; constant_item = k.constant_item; target = k.target; handled = k.handled; free = λ i le lt. k.free i (omega (arith, le)) lt } in
         let free : (i : ℕ) → i < count → g.what (f.base + n + i) ≡ Free = (λ i lt. (let e : f.base + n + i ≡ f.base + (n + i) = omega arith in ap g.what e) ∙ k.free (n + i) (omega arith) (omega (arith, lt, whole, room))) in
-        passed_does actuals from m (actuals_done B actuals) t h sub n 0 hs [] st [] _ kt en w (omega (arith, whole)) room (λ i lt. free i (omega (arith, lt))) refl l1 (λ ps suited.
-        let many : length (flat ps) ≡ count = suited_cells hs ps suited in
-        let loose : (i : ℕ) → i < length (flat ps) → g.what (f.base + n + i) ≡ Free = (λ i lt. free i (omega (arith, lt, many))) in
-        also_then limit c f x {h = record g { what = aheads (f.base + n) ps g.what }} {j = g} {k = λ r. stored.ret r.value} (λ t d w. fit_unaheads (f.base + n) ps g loose w)
-        (called_plainly calls_do.called x t sub n m st ps (record { unit = u.unit; is = u.is; outer = u.outer; main = u.main }) kt (omega (arith, whole, many)) room suited loose (at_entry en j))
+        passed_does actuals from m (actuals_done B actuals) t h sub n count (spots 0 hs) st [] _ (passing_none n hs (omega (arith, whole)) room free kt) en w l1 (λ ps suited.
+        let have : HaveCells count ps = have_cells hs ps suited in
+        also_then limit c f x {h = scattering (f.base + n) (aheads ps) g} {j = g} {k = λ r. stored.ret r.value} (λ t d w. fit_unscattered (f.base + n) count (aheads ps) g (aheads_in count ps have) free w)
+        (called_plainly calls_do.called x t sub n m st ps (record { unit = u.unit; is = u.is; outer = u.outer; main = u.main }) kt whole room suited free (at_entry en j))
         (λ r t d fit _. (
           g,
-          fit_unaheads (f.base + n) ps g loose fit,
-          (λ ts al. allows_fewer limit c f x (keeping (f.base + n) (flat ps) g) g ts (fewer_kept_back limit cuts program c f x calls globals mains epar calls_do (f.base + n) (flat ps) g loose) al),
+          fit_unscattered (f.base + n) count (aheads ps) g (aheads_in count ps have) free fit,
+          (λ ts al. allows_fewer limit c f x (scattering (f.base + n) (pieces ps) g) g ts (fewer_scattered limit c f x (f.base + n) count (pieces ps) g (pieces_in count ps have) free) al),
           subst (λ p. Runs limit c f x g any (stored.ret r.value) (λ d. on f (m + 1) (given p r.value ++ st) d) (λ v d. on f to (v ∷ st) d)) (sym gives)
               (ends_ret limit cuts program c f x calls globals mains epar calls_do r.value (m + 1) to st z),
         )))
@@ -488,7 +487,7 @@ module _ (limit : ℕ) (cuts : ℕ → ℕ → List ℕ) (program : Program) (c 
         (given_into turns value (component_done B value) (value_into value) B g j env q goal s h t n st room en (r ∷ rs) from m cur _ len w we l1 (λ cs clen.
         associations_into rest B g j env q goal s h t n st room en m to cs then clen wr l2 go))
     associations_into (Association runs (Some i') mentions value rest) B g j env q goal s h t n st room en from to cur then len (some, w, we, wr) l go =
-        let (m, l1, l2) = stands_seq c from to (Emission.turnings s.scope h t i'.first (Emission.component program (iterated_sight s i'.parameter).scope h (s.scope.free + 1 + 1) value) runs) (Emission.associated program s.scope h t rest) l in
+        let (m, l1, l2) = stands_seq c from to (Emission.turnings s.scope h t i'.first (Emission.component program (iterated_sight s i'.parameter).scope (Emission.turn_height runs h) (s.scope.free + 1 + 1) value) runs) (Emission.associated program s.scope h t rest) l in
         does_assoc limit c f x _ _ then
         (turned_into (Some i') value (component_done B value) B g j env q goal s h t n st room en some runs from m cur _ len w we l1 (λ cs clen.
         associations_into rest B g j env q goal s h t n st room en m to cs then clen wr l2 go))

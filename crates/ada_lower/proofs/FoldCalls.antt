@@ -1,5 +1,5 @@
 -- Accumulators of a parallel reduction, combined from the left by calls of a function.
-use Rattle.std.proofs.Common.{◌≡◌, ℕ, ◌+◌, ◌<◌, ◌≤◌, ℤ, pos, int_le, List, [], ◌∷◌, ◌++◌, length, nat_eq, Option, Some, None, Bool, true, false, ◌&&◌, cond, refl, sym, ap, ◌∙◌, subst, le_refl, arith, inl}
+use Rattle.std.proofs.Common.{◌≡◌, ℕ, ◌+◌, ℤ, pos, int_le, List, [], ◌∷◌, ◌++◌, nat_eq, Option, Some, None, Bool, true, false, ◌&&◌, cond, refl, sym, ap, ◌∙◌, subst, le_refl, arith, inl}
 use Rattle.std.specs.Int.{int_min}
 use Rattle.ada_base.specs.declared.reason.Reason.{Reason}
 use Rattle.behaviours.specs.Doings.{onto}
@@ -21,20 +21,19 @@ use Rattle.stack_code.specs.Machine.{Frame}
 use Rattle.ada_lower.specs.Driven.{At, Dyn, Fixed, on, passed_on, thrown}
 use Rattle.ada_lower.specs.Sights.{Emit, Named, Sight, Stands, one, taking, when_, ◌⨟◌}
 use Rattle.ada_lower.specs.Emission
-use Rattle.ada_lower.specs.Emission.{shapes}
+use Rattle.ada_lower.specs.Emission.{shapes, shapes_cells}
 use Rattle.ada_lower.specs.Fits.{Free, Keeps, Ghost, Ends, Fit, Knows}
-use Rattle.ada_lower.specs.Fitted.{FittedFold}
+use Rattle.ada_lower.specs.Fitted.{FittedFold, spot, spots}
 use Rattle.ada_lower.proofs.Framework.{any, To, comes_here, comes_on, comes_as, comes_goes, does_before, does_bind, does_ret}
 use Rattle.ada_lower.proofs.Memory.{set_what, own_free, what_same, what_other, fit_alike}
 use Rattle.ada_lower.proofs.Standing.{stands_seq, stands_when}
 use Rattle.ada_lower.proofs.Parts.{Runs, allows_fewer, does_first, does_keep}
-use Rattle.ada_lower.proofs.Declared.{keeping}
 use Rattle.ada_lower.proofs.Calls.{BothChecked, checked_call, given, with_kept}
 use Rattle.ada_lower.proofs.Inner.{InnerDo}
 use Rattle.ada_lower.proofs.Courses.{at_entry, comes_kept}
-use Rattle.ada_lower.proofs.Sent.{Sent, AreSuited, aheads, also_then, fit_unaheads}
+use Rattle.ada_lower.proofs.Scattered.{AreFree, scattering, fit_unscattered, fewer_scattered, both_kept}
+use Rattle.ada_lower.proofs.Sent.{Sent, HaveCells, AreSuited, sent_in, suits_in, pieces, aheads, pieces_in, aheads_in, have_cells, also_then}
 use Rattle.ada_lower.proofs.Names.{does_by}
-use Rattle.ada_lower.proofs.Operands.{fewer_kept_back}
 use Rattle.ada_lower.proofs.ForkInside.{LeftAs, does_inside}
 
 -- ---- what is checked
@@ -70,10 +69,6 @@ module _ (limit : ℕ) (cuts : ℕ → ℕ → List ℕ) (program : Program) (c 
   abbrev combining : ℤ → ℤ → Stored ℤ
   combining a b = Meaning.combine_call ops limit program calls by env.nested a b
 
-  -- the actual parameter for that formal
-  abbrev sent : ℕ → ℤ → Sent
-  sent number v = record { ahead = []; passed = record { formal = ConstantOf (Meaning.formal_at (Meaning.formals_of program.subs sub) number); cells = v ∷ []; back = None } }
-
   -- whether a number that is kept is in its subtype
   ranged_goes : {g' : Ghost} {t : stored.State} (fk : Fixed) (h from to n : ℕ) (v : ℤ) (subtype : Scalar) (st : List ℤ) (d : Dyn) → Fit g' t d → g'.what (fk.base + n) ≡ Keeps v → Stands c (Emission.ranged s.scope h n subtype) from to → To limit c (on fk from st d) (on fk to (bit (Values.is_in subtype v) ∷ st) d)
   ranged_goes fk h from to n v subtype st d fit is (j1, (j2, (j3, (j4, (j5, (j6, (j7, z))))))) =
@@ -94,7 +89,6 @@ module _ (limit : ℕ) (cuts : ℕ → ℕ → List ℕ) (program : Program) (c 
   step_does parts a b head from to stands =
       let (u, (result, gives), room, formals) = fitted in
       let fk : Fixed = with_kept parts f in
-      let us : List ℤ = a ∷ b ∷ [] in
       let t : Sight = taking 2 s in
       let g1 : Ghost = set_what (f.base + (s.scope.free + 1)) (Keeps b) g in
       let g2 : Ghost = set_what (f.base + s.scope.free) (Keeps a) g1 in
@@ -104,12 +98,18 @@ module _ (limit : ℕ) (cuts : ℕ → ℕ → List ℕ) (program : Program) (c 
       let free0' : g1.what (f.base + s.scope.free) ≡ Free = what_other g (f.base + (s.scope.free + 1)) (f.base + s.scope.free) (Keeps b) apart ∙ free0 in
       let kept0 : g2.what (f.base + s.scope.free) ≡ Keeps a = what_same g1 (f.base + s.scope.free) (Keeps a) in
       let kept1 : g2.what (f.base + (s.scope.free + 1)) ≡ Keeps b = what_other g1 (f.base + s.scope.free) (f.base + (s.scope.free + 1)) (Keeps a) (λ e. apart (sym e)) ∙ what_same g (f.base + (s.scope.free + 1)) (Keeps b) in
-      let next : f.base + (s.scope.free + 1) ≡ f.base + s.scope.free + 1 = omega arith in
-      let alike : (n : ℕ) → g2.what n ≡ (keeping (f.base + s.scope.free) us g).what n = (λ n. ap (λ z. cond (nat_eq (f.base + s.scope.free) n) (Keeps a) (cond (nat_eq z n) (Keeps b) (g.what n))) next) in
-      let ps : List Sent = sent 0 a ∷ sent 1 b ∷ [] in
-      let suited : AreSuited (shapes program u.unit.formals) ps = subst (λ z. AreSuited z ps) (sym formals) (refl, refl, refl, tt, (refl, refl, refl, tt, tt)) in
+      let o : ℕ = f.base + s.scope.free in
+      let next : f.base + (s.scope.free + 1) ≡ o + 1 = omega arith in
+      let x0 : ℕ = Meaning.formal_at (Meaning.formals_of program.subs sub) 0 in
+      let x1 : ℕ = Meaning.formal_at (Meaning.formals_of program.subs sub) 1 in
+      let ps : List Sent = sent_in x0 0 (a ∷ []) ∷ sent_in x1 1 (b ∷ []) ∷ [] in
+      let alike : (n : ℕ) → g2.what n ≡ (scattering o (pieces ps) g).what n = (λ n. ap (λ m. cond (nat_eq o n) (Keeps a) (cond (nat_eq m n) (Keeps b) (g.what n))) next ∙ both_kept o a b g n) in
+      let suited : AreSuited (spots 0 (shapes program u.unit.formals)) ps = subst (λ z. AreSuited (spots 0 z) ps) (sym formals) (spot (ConstantOf x0) false 1 0, spot (ConstantOf x1) false 1 1 ∷ [], inl (refl, refl), suits_in x0 1 0 (a ∷ []) refl, (spot (ConstantOf x1) false 1 1, [], inl (refl, refl), suits_in x1 1 1 (b ∷ []) refl, refl)) in
+      let count : ℕ = shapes_cells (shapes program u.unit.formals) in
+      let many : count ≡ 2 = ap (λ z. shapes_cells z) formals in
+      let have : HaveCells count ps = have_cells (shapes program u.unit.formals) ps suited in
       let kt : Knows limit cuts g f t env = record { most = kn.most; nested = kn.nested; plan = kn.plan; kept = kn.kept; top = kn.top; beyond = kn.beyond; global = kn.global; outside = kn.outside; one = kn.one; old = kn.old; hidden = kn.hidden; object = kn.object; parameter = kn.parameter; item = kn.item; constant_item = kn.constant_item; target = kn.target; handled = kn.handled; free = λ n le lt. kn.free n (omega (arith, le)) lt } in
-      let free : (n : ℕ) → n < length us → g.what (f.base + s.scope.free + n) ≡ Free = (λ n lt. (let e : f.base + s.scope.free + n ≡ f.base + (s.scope.free + n) = omega arith in ap g.what e) ∙ kn.free (s.scope.free + n) (omega arith) (omega (arith, lt, room))) in
+      let free : AreFree o count g.what = (λ n lt. (let e : f.base + s.scope.free + n ≡ f.base + (s.scope.free + n) = omega arith in ap g.what e) ∙ kn.free (s.scope.free + n) (omega arith) (omega (arith, lt, room, many))) in
       let first : Bool = Values.is_in accumulator a in
       let second : Bool = Values.is_in value b in
       let (q, (k1, (k2, lr)), (jc, zc)) = stands_seq c from to (Emission.reducing s.scope ht accumulator value) (one s.scope (ht + 1) (i.CallTo (sub + 1) s.scope.free head)) stands in
@@ -123,13 +123,13 @@ module _ (limit : ℕ) (cuts : ℕ → ℕ → List ℕ) (program : Program) (c 
       does_keep limit c fk x from (s.scope.free + 1) b (a ∷ st) (own_free _ free1) (at_entry en k1)
       (does_keep limit c fk x (from + 1) s.scope.free a st (own_free _ free0') (at_entry en k2)
       (does_by limit c fk x goes
-      (does_first limit c fk x (λ n y p e. inl (alike n ∙ e)) (λ z d w. (d, fit_alike (keeping (f.base + s.scope.free) us g).what alike w, comes_here limit c (on fk q (bit (first && second) ∷ st) d)))
-      (also_then limit c fk x {h = record g { what = aheads (f.base + s.scope.free) ps g.what }} {j = g} {k = λ r. stored.ret r.value} (λ z d w. fit_unaheads (f.base + s.scope.free) ps g free w)
-      (calls_do.called.by x t sub s.scope.free q head (bit (first && second) ∷ st) st parts (BothChecked token first second) ps (record { unit = u.unit; is = u.is; outer = u.outer; main = u.main }) kt refl room suited free (checked_call (first && second) st (at_entry en jc)))
+      (does_first limit c fk x (λ n y p e. inl (alike n ∙ e)) (λ z d w. (d, fit_alike (scattering o (pieces ps) g).what alike w, comes_here limit c (on fk q (bit (first && second) ∷ st) d)))
+      (also_then limit c fk x {h = scattering o (aheads ps) g} {j = g} {k = λ r. stored.ret r.value} (λ z d w. fit_unscattered o count (aheads ps) g (aheads_in count ps have) free w)
+      (calls_do.called.by x t sub s.scope.free q head (bit (first && second) ∷ st) st parts (BothChecked token first second) ps (record { unit = u.unit; is = u.is; outer = u.outer; main = u.main }) kt (omega (arith, many)) room suited free (checked_call (first && second) st (at_entry en jc)))
       (λ r z d fit _. (
         g,
-        fit_unaheads (f.base + s.scope.free) ps g free fit,
-        (λ ts al. allows_fewer limit c fk x (keeping (f.base + s.scope.free) us g) g ts (fewer_kept_back limit cuts program c f x calls globals mains epar calls_do (f.base + s.scope.free) us g free) al),
+        fit_unscattered o count (aheads ps) g (aheads_in count ps have) free fit,
+        (λ ts al. allows_fewer limit c fk x (scattering o (pieces ps) g) g ts (fewer_scattered limit c fk x o count (pieces ps) g (pieces_in count ps have) free) al),
         subst (λ p. Runs limit c fk x g any (stored.ret r.value) (λ d. on fk head (given p r.value ++ st) d) (λ v d. on fk head (v ∷ st) d)) (sym gives) (does_ret limit c fk x {to = λ v d. on fk head (v ∷ st) d} r.value tt),
       ))))))
 

@@ -24,7 +24,7 @@ use Rattle.stack_code.specs.Machine.{Done}
 use Rattle.ada_lower.specs.Driven.{on, off}
 use Rattle.ada_lower.specs.Sights.{Named, Own, Main, Placed, Sight, listed}
 use Rattle.ada_lower.specs.FittedForks.{FittedForks, FittedReductions, Within, unleased}
-use Rattle.lower_emission.specs.Bodies.{program_code}
+use Rattle.lower_emission.specs.Programs.{whole_code}
 use Rattle.lower_emission.specs.Tables.{instrs_from, unwinds_from}
 use Rattle.ada_lower.specs.ProgramCode.{main_names, IsCodeOf}
 use Rattle.ada_lower.specs.Bodies.{main_scope, MainFitted}
@@ -71,7 +71,7 @@ abbrev sight : Sight
 sight = main_scope program (main_names program text) none_main [] text frames 12
 
 abbrev placed : List Placed
-placed = listed (program_code program text) 0
+placed = listed (whole_code program text) 0
 
 abbrev instrs : List Instr
 instrs = instrs_from placed 0 placed

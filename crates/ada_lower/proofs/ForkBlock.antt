@@ -1,5 +1,5 @@
 -- Parallel blocks, whole.
-use Rattle.std.proofs.Common.{◌≡◌, ℕ, ◌+◌, ◌-◌, ◌<◌, ◌≤◌, min, ℤ, pos, ◌+ℤ◌, ◌-ℤ◌, nat_le, List, [], ◌∷◌, length, slice_get, Option, Some, Err, Bool, true, false, ◌&&◌, refl, sym, ap, ap₂, ◌∙◌, subst, le_refl, arith, le-leb, inl}
+use Rattle.std.proofs.Common.{◌≡◌, ℕ, ◌+◌, ◌-◌, ◌<◌, ◌≤◌, min, ℤ, pos, ◌+ℤ◌, ◌-ℤ◌, nat_le, List, [], ◌∷◌, length, slice_get, Option, None, Some, Err, Bool, true, false, ◌&&◌, refl, sym, ap, ap₂, ◌∙◌, subst, le_refl, arith, le-leb, inl}
 use Rattle.std.proofs.lemmas.Int.{ints}
 use Rattle.ada_base.specs.Cuts.{evens}
 use Rattle.behaviours.specs.Doings.{through}
@@ -48,10 +48,6 @@ use Rattle.ada_lower.specs.ForkViews.{view_ghost, no_free}
 use Rattle.ada_lower.proofs.ForkSights.{knows_view}
 use Rattle.behaviours.specs.Joins.{deal}
 
--- no loop has that number
-abbrev pub no_loop : ℕ
-no_loop = 4294967296
-
 many_arms : (n : ℕ) → 1 ≤ n → many (pos 0) (pos (n - 1)) ≡ n
 many_arms n le = ap Deeds.natural (let z : pos (n - 1) +ℤ pos 1 -ℤ pos 0 ≡ pos (n - 1 + 1) = omega (arith, ints) in z) ∙ (let z : n - 1 + 1 ≡ n = omega (arith, le) in z)
 
@@ -79,7 +75,7 @@ module _ (limit : ℕ) (cuts : ℕ → ℕ → List ℕ) (program : Program) (c 
   kn1 cl ch = knows_counts limit cuts c f s cl ch (omega (arith, room)) kn
 
   abbrev pub BlockLeaves : Leave → Type 0
-  BlockLeaves w = MayLeave no_loop loops w × (Meaning.exits no_loop w ≡ false)
+  BlockLeaves w = MayLeave None loops w
 
   abbrev dealt : ℕ → Stored (Unit {0})
   dealt most = stored.noted_loops limit cuts (Meaning.block_site site) (Sized (evens (length es) (min most (length es)))) (λ j i. acts i)
@@ -88,7 +84,7 @@ module _ (limit : ℕ) (cuts : ℕ → ℕ → List ℕ) (program : Program) (c 
   tb = arms_code program t.scope 0 es ⨟ one t.scope 0 i.End
 
   abbrev rest : Emit
-  rest = one r.scope 0 (i.Push (pos 0)) ⨟ one r.scope 1 (i.Push (pos (length es - 1))) ⨟ fork_code r.scope 0 2 (site_kind.Block (length es)) site s.scope.free (one r.scope 4 (i.Push (pos 0))) tb ⨟ one r.scope 2 i.Unnest ⨟ left_code (taking 2 s).scope no_loop all
+  rest = one r.scope 0 (i.Push (pos 0)) ⨟ one r.scope 1 (i.Push (pos (length es - 1))) ⨟ fork_code r.scope 0 2 (site_kind.Block (length es)) site s.scope.free (one r.scope 4 (i.Push (pos 0))) tb ⨟ one r.scope 2 i.Unnest ⨟ left_code (taking 2 s).scope None all
 
   module _ (arms : (f' : Fixed) (fc : Alike f' f) (top : ℕ) (is : f' ≡ threaded (nested_in f) top) (gi : Ghost) (k : ℕ) → Knows limit cuts gi f' t (inside env) → ArmDoes limit cuts program c f' calls globals mains epar (λ f'' e. calls_all f'' (e.0 ∙ fc.0, e.1 ∙ fc.1)) t refl gi (slice_get es k) (acts k))
       (leaves_so : (first size : ℕ) (w : stored.State) (l : Leave) → ((through stored.doings first size tt (λ k (_ : Unit {0}). acts k)).does w).end ≡ Err (stored.Left l) → BlockLeaves l)
@@ -99,7 +95,7 @@ module _ (limit : ℕ) (cuts : ℕ → ℕ → List ℕ) (program : Program) (c 
         let last : ℤ = pos (length es - 1) in
         let q : Asked = Deeds.asked site (pos 0) last (pos 1) ch (pos 0) in
         let gg : Ghost = g1 (pos 1) ch in
-        let (m4, (jd0, (jd1, (jp, (jf, lb)))), (ju, ll)) = stands_seq c (from + 1 + 1) to (fork_code r.scope 0 2 (site_kind.Block (length es)) site s.scope.free (one r.scope 4 (i.Push (pos 0))) tb) (one r.scope 2 i.Unnest ⨟ left_code (taking 2 s).scope no_loop all) r1 in
+        let (m4, (jd0, (jd1, (jp, (jf, lb)))), (ju, ll)) = stands_seq c (from + 1 + 1) to (fork_code r.scope 0 2 (site_kind.Block (length es)) site s.scope.free (one r.scope 4 (i.Push (pos 0))) tb) (one r.scope 2 i.Unnest ⨟ left_code (taking 2 s).scope None all) r1 in
         let (jj, bd) = stands_behind c (from + 1 + 1 + 1 + 1 + 1 + 1) m4 r.scope 2 tb lb in
         does_by limit c f x (λ w d z.
         comes_on limit c (comes_goes limit c fi [] (from + 1) (pos 0 ∷ []) d ja refl)
@@ -108,7 +104,7 @@ module _ (limit : ℕ) (cuts : ℕ → ℕ → List ℕ) (program : Program) (c 
         (comes_on limit c (comes_kept limit cuts c fi (s.scope.free + 1) ch (pos 1 ∷ last ∷ pos 0 ∷ []) d z (last_at limit cuts c f x s.scope.free (pos 1) ch g) jd1)
         (comes_goes limit c fi (ch ∷ pos 1 ∷ last ∷ pos 0 ∷ []) (from + 1 + 1 + 1 + 1 + 1) (pos 0 ∷ ch ∷ pos 1 ∷ last ∷ pos 0 ∷ []) d jp refl)))))
         (blocked_does limit cuts program c f calls globals mains epar calls_all x gg env (taking 2 s) (kn1 (pos 1) ch) (suits_as (taking 2 s) s refl refl refl refl refl (λ n. refl) su) (omega (arith, room)) kept all loops among exits_to
-        no_loop (from + 1 + 1 + 1 + 1 + 1) m4 to (at_entry su.entry jj) (at_entry su.entry ju) ll gg (λ a y z e. inl e) (λ w d z. z) BlockLeaves (λ w m. m.0)
+        None (from + 1 + 1 + 1 + 1 + 1) m4 to (at_entry su.entry jj) (at_entry su.entry ju) ll gg (λ a y z e. inl e) (λ w d z. z) BlockLeaves (λ w m. m)
         cs site (pos 0) last (pos 1) ch site_at (at_entry su.entry jf) (λ vs. ap (λ kd. answer_of c kd q (gave.Numbers vs)) kind) some few (Meaning.block_site site)
         (λ j i. acts i) (Sized (evens (length es) (min (many (pos 1) ch) (length es))))
         (sym (ap (λ kd. sizes_for gg.plan kd q) kind ∙ ap (λ n. evens n (min (many (pos 1) ch) n)) (many_arms (length es) some_arms)))
@@ -119,7 +115,7 @@ module _ (limit : ℕ) (cuts : ℕ → ℕ → List ℕ) (program : Program) (c 
         (subst (λ a. Stands c tb a m4) (sym (entry (from + 1 + 1 + 1 + 1 + 1) (itself refl jf))) bd) (λ gi k kk. arms (threaded fi gg.top) (alike f) gg.top refl gi k kk) (λ w l e. leaves_so j.first j.size w l e))
         (ap (λ n. nat_le n 4611686018427387904 && (nat_le 1 (many (pos 1) ch) && nat_le (many (pos 1) ch) most_threads)) (many_arms (length es) some_arms)
         ∙ ap₂ (λ a b. a && b) (le-leb (length es) 4611686018427387904 few_arms) (ap₂ (λ t u. t && u) some few))
-        (λ w m. m.1))
+        (λ w m. refl))
 
     left_as_back : LeftAs limit c f fi x
     left_as_back (Exits n) d = comes_here limit c (x.exits n d)

@@ -1,6 +1,5 @@
 -- What parallel loops and blocks do, in one another: the mutual theorem's cases.
 use Rattle.std.proofs.Common.{◌≡◌, ℕ, zero, suc, ◌-◌, ◌≤◌, pos, List, [], ◌∷◌, length, slice_get, Option, Some, None, Bool, true, false, refl, sym, ap, ◌∙◌, subst, ◌⊎◌, inr, ⊎_elim}
-use Rattle.std.proofs.lemmas.Bool.{ne_eqb}
 use Rattle.behaviours.specs.Paths.{Leave, Exits, Returns, Raises, Entity}
 use Rattle.typed_tree.specs.Syntax.{Optional, Range, Components, Chunk, NoChunk, Count, Each, Null, Assign, CallProcedure, Exit, Return, ReturnValue, Raise, Reraise, IfThen, Case, Loop, For, ParallelFor, Parallel, Block, Put, Get, Arms, NoArm, Arm, Program}
 use Rattle.ada_meaning.specs.Operations.{Operations}
@@ -32,7 +31,7 @@ use Rattle.ada_lower.proofs.ForkInside.{nested_in}
 use Rattle.ada_lower.proofs.ForkLeft.{In, MayLeave}
 use Rattle.ada_lower.proofs.ForkRange.{chunk_entry}
 use Rattle.ada_lower.proofs.ForkArms.{ArmDoes}
-use Rattle.ada_lower.proofs.ForkBlock.{no_loop, block_does, block_is}
+use Rattle.ada_lower.proofs.ForkBlock.{block_does, block_is}
 use Rattle.ada_lower.proofs.ForkItems.{component_sight}
 use Rattle.ada_lower.proofs.ForkOf.{parallel_of_does}
 use Rattle.ada_lower.proofs.ForkWhole.{parallel_loop_does}
@@ -46,7 +45,7 @@ known_of : (s : Sight) (ns : List ℕ) → AllKnown s ns → (n : ℕ) → In n 
 known_of s [] k n here = absurd here
 known_of s (m ∷ ns) k n here = ⊎_elim (λ e. subst (λ m. Known s m) (sym e) k.0) (λ h. known_of s ns k.1 n h) here
 
-may_leave : (number : ℕ) (loops : List ℕ) (l : Leave) → Out (λ m. (m ≡ number) ⊎ Amid m loops) l → MayLeave number loops l
+may_leave : (number : ℕ) (loops : List ℕ) (l : Leave) → Out (λ m. (m ≡ number) ⊎ Amid m loops) l → MayLeave (Some number) loops l
 may_leave number loops (Exits n) m = m
 may_leave number loops (Returns v) m = tt
 may_leave number loops (Raises r) m = tt
@@ -91,12 +90,12 @@ module _ (asked : Option Program) (lent : Bool → Sight → ℕ → CodeSite �
       let es = arm_codes program t arms in
       let r = scope.nested s.scope in
       one s.scope 0 i.Nest ⨟ chunk_code program r 0 (chunk_by program count) ⨟ one r 0 (i.Push (pos 0)) ⨟ one r 1 (i.Push (pos (many - 1)))
-      ⨟ fork_code r 0 2 (kind.Block many) site s.scope.free (one r 4 (i.Push (pos 0))) (arms_code program t 0 es ⨟ one t 0 i.End) ⨟ one r 2 i.Unnest ⨟ left_code (taking 2 s).scope no_loop (arm_exits arms)
+      ⨟ fork_code r 0 2 (kind.Block many) site s.scope.free (one r 4 (i.Push (pos 0))) (arms_code program t 0 es ⨟ one t 0 i.End) ⨟ one r 2 i.Unnest ⨟ left_code (taking 2 s).scope None (arm_exits arms)
 
-  block_leaves : (loops : List ℕ) → (Amid no_loop loops → ⊥) → (l : Leave) → Out (λ m. Amid m loops) l → MayLeave no_loop loops l × (Meaning.exits no_loop l ≡ false)
-  block_leaves loops off_list (Exits n) m = (inr m, ne_eqb no_loop n (λ e. off_list (subst (λ n. Amid n loops) (sym e) m)))
-  block_leaves loops off_list (Returns v) m = (tt, refl)
-  block_leaves loops off_list (Raises r) m = (tt, refl)
+  block_leaves : (loops : List ℕ) (l : Leave) → Out (λ m. Amid m loops) l → MayLeave None loops l
+  block_leaves loops (Exits n) m = inr m
+  block_leaves loops (Returns v) m = tt
+  block_leaves loops (Raises r) m = tt
 
   arms_each : (n : ℕ) (f : Fixed) (calls : ℕ → ℕ → Stored (Unit {0}) → List Passed → Stored Returned) (calls_only : (n s : ℕ) (before : Stored (Unit {0})) (passed : List Passed) → Closed Raised before → Closed Raised (calls n s before passed))
       (calls_all : (f' : Fixed) → Alike f' f → InnerDo limit cuts program globals mains (FittedReductions program globals mains lent c n) c f' calls) → ParDoes limit cuts program c f calls globals mains (FittedReductions program globals mains lent c n) (calls_all f (alike f)) (FittedForks program globals mains lent c n)
@@ -150,7 +149,7 @@ module _ (asked : Option Program) (lent : Bool → Sight → ℕ → CodeSite �
       (o_all limit cuts program calls (λ n s ps. calls_only n s (stored.ret tt) ps (c_ret Raised tt)) calls_only (λ m. (m ≡ number) ⊎ Amid m loops) stmts (envs i) outs)) first size tt).by st w e))
       (λ k cl ch q a told gg kk part. lending.items f fa s env site cs here chunk p constant a0 r0 selections count stride dimensions filter k cl ch q a told gg kk part)
       {e = e} wc is reach wsel from to l
-  forks_do (suc n) f fa calls calls_only calls_all (Parallel site count arms) from to g env x s k u (cs, (site_at, frame, four, entry), here, kind', room, some_arms, few_arms, wc, loops, among, known, off_list, outs, wa) l =
+  forks_do (suc n) f fa calls calls_only calls_all (Parallel site count arms) from to g env x s k u (cs, (site_at, frame, four, entry), here, kind', room, some_arms, few_arms, wc, loops, among, known, outs, wa) l =
       let all_in : (f' : Fixed) → Alike f' f → InnerDo limit cuts program globals mains (FittedReductions program globals mains lent c n) c f' calls = inner_all asked lent limit cuts lending within program c globals mains n f fa calls calls_only calls_all in
       let s2 : Sight = taking 2 s in
       let t : Sight = taking 2 (taking 2 (thread_sight site cs.frame s2)) in
@@ -162,7 +161,7 @@ module _ (asked : Option Program) (lent : Bool → Sight → ℕ → CodeSite �
       cs site site_at four entry count es (subst (λ m. 1 ≤ m) (sym many) some_arms) (subst (λ m. m ≤ 4611686018427387904) (sym many) few_arms) (kind' ∙ ap kind.Block (sym many)) (λ j. Meaning.exec_arm ops limit program calls arms j (inside env))
       (λ f' fc top is gi j kk. arms_each n f' calls calls_only (λ f'' e. all_in f'' (e.0 ∙ fc.0, e.1 ∙ fc.1)) (forks_do n f' (fc.1 ∙ fa) calls calls_only (λ f'' e. calls_all f'' (e.0 ∙ fc.0, e.1 ∙ fc.1))) (with_outside loops t) t refl arms (inside env) gi (knows_outside loops kk)
       (subst (λ y. Suits limit c y thread_ends (with_outside loops t)) (sym is) (thread_suits limit c (nested_in f) top (with_outside loops t) site refl refl u.texts refl (λ n. refl))) wa j)
-      (λ first size st w e. block_leaves loops off_list w
+      (λ first size st w e. block_leaves loops w
       ((c_through (Out (λ m. Amid m loops)) (λ j (a : Unit {0}). Meaning.exec_arm ops limit program calls arms j (inside env))
       (λ j a. o_arm limit cuts program calls (λ n s ps. calls_only n s (stored.ret tt) ps (c_ret Raised tt)) calls_only (λ m. Amid m loops) arms j (inside env) outs) first size tt).by st w e))
       (λ ch gg kk. lending.blocks f fa s env site cs here (length es) ch (kind' ∙ ap kind.Block (sym many)) gg kk)

@@ -140,9 +140,9 @@ module _ (limit : ℕ) (cuts : ℕ → ℕ → List ℕ) (f : Fixed) (calls : �
   turn_does f' fc g' env' a b e = does_returned limit code f' thread_ends (λ z. cond z (stored.ret (tt {0})) (stored.ret (tt {0}))) true
       (subst (λ q. Runs limit code f' thread_ends g' any (stored.ret (tt {0})) (λ d. on f' a [] d) (λ _ d. on f' q [] d)) (sym e) (does_ret limit code f' thread_ends {to = λ _ d. on f' a [] d} tt tt))
 
-  leaves_so : (first size : ℕ) (envs : ℕ → Env) (st : stored.State) (l : Leave) → ((through stored.doings first size (tt {0}) (λ i _. Meaning.iterate (stored.noted_operations limit cuts) (Meaning.holds (stored.noted_operations limit cuts) limit program calls Absent (envs i)) (stored.ret (tt {0})))).does st).end ≡ Err (stored.Left l) → MayLeave 0 [] l
-  leaves_so first size envs = only_through (MayLeave 0 []) (λ i _. Meaning.iterate (stored.noted_operations limit cuts) (Meaning.holds (stored.noted_operations limit cuts) limit program calls Absent (envs i)) (stored.ret (tt {0})))
-      (λ i a. only_iterate (MayLeave 0 []) limit cuts (stored.ret true) (stored.ret tt) (only_ret (MayLeave 0 []) true) (only_ret (MayLeave 0 []) (tt {0}))) first size tt
+  leaves_so : (first size : ℕ) (envs : ℕ → Env) (st : stored.State) (l : Leave) → ((through stored.doings first size (tt {0}) (λ i _. Meaning.iterate (stored.noted_operations limit cuts) (Meaning.holds (stored.noted_operations limit cuts) limit program calls Absent (envs i)) (stored.ret (tt {0})))).does st).end ≡ Err (stored.Left l) → MayLeave (Some 0) [] l
+  leaves_so first size envs = only_through (MayLeave (Some 0) []) (λ i _. Meaning.iterate (stored.noted_operations limit cuts) (Meaning.holds (stored.noted_operations limit cuts) limit program calls Absent (envs i)) (stored.ret (tt {0})))
+      (λ i a. only_iterate (MayLeave (Some 0) []) limit cuts (stored.ret true) (stored.ret tt) (only_ret (MayLeave (Some 0) []) true) (only_ret (MayLeave (Some 0) []) (tt {0}))) first size tt
 
   pub loop_does : Acts limit cuts program code f calls none_there none_main no_threads (calls_all f (alike f)) x g (Meaning.exec (stored.noted_operations limit cuts) limit program calls (ParallelFor 0 0 NoChunk it End) env) 0 (length (listed looping 0))
   unfolding Rattle.ada_lower.specs.Emission.emit

@@ -31,7 +31,7 @@ use Rattle.ada_lower.proofs.Statements.{Suits}
 use Rattle.ada_lower.proofs.ForkThreads.{AllDo}
 use Rattle.ada_lower.proofs.ForkSteps.{keeping, fork_ends, MayEnd, operands, comes_too_many, resumes, fork_lands}
 use Rattle.ada_lower.proofs.ForkInside.{nested_in, left_as_kept, left_as_nested, comes_unnest, Inside, does_caught, does_left}
-use Rattle.ada_lower.proofs.ForkLeft.{In, MayLeave, left_ended, left_own, left_away}
+use Rattle.ada_lower.proofs.ForkLeft.{In, MayLeave, left_ended, left_own, left_away, takes_exit, takes_own, takes_raise, takes_return}
 use Rattle.ada_lower.proofs.ForkFine.{Lends, views_of}
 use Rattle.ada_lower.specs.ForkViews.{view_ghost, Apart}
 use Rattle.ada_lower.specs.Lending.{Among}
@@ -71,7 +71,7 @@ module _ (limit : ℕ) (cuts : ℕ → ℕ → List ℕ) (program : Program) (c 
   ops = stored.noted_operations limit cuts
 
   -- behind a fork: its jump, its end, and where it is left to
-  module _ (number qf past to : ℕ) (jump : At c (qf + 1) (i.Jump past) x.entry) (unnest : At c past i.Unnest x.entry) (l : Stands c (left_code s.scope number all) (past + 1) to)
+  module _ (number : Option ℕ) (qf past to : ℕ) (jump : At c (qf + 1) (i.Jump past) x.entry) (unnest : At c past i.Unnest x.entry) (l : Stands c (left_code s.scope number all) (past + 1) to)
       (h : Ghost) (few : Fewer limit c f x h g) (back : (st : stored.State) (d : Dyn) → Fit h st d → Fit g st d)
       (may : Leave → Type 0) (may_is : (w : Leave) → may w → MayLeave number loops w) where
     behind : (st : List ℤ) (d : Dyn) → To limit c (on (keeping [] fi) (qf + 1) st d) (on f (past + 1) st d)
@@ -84,20 +84,20 @@ module _ (limit : ℕ) (cuts : ℕ → ℕ → List ℕ) (program : Program) (c 
     unfolding stored.leaves
     raise_left r = weaker (does_is limit c f x {to = λ _ d. on f to [] d} (Err (stored.Left (Raises r))) (λ st. refl) (λ d. left_as_kept limit c f x [] kept (Raises r) d))
 
-    own : (w : Leave) → Meaning.exits number w ≡ true → Doing limit c f x h g any (stored.ret (tt {0})) (λ d. left_by (keeping [] fi) (fork_ends fi qf [] x.entry) w d) (λ _ d. on f to [] d)
-    own (Exits n) e = subst (λ n. Doing limit c f x h g any (stored.ret (tt {0})) (λ d. left_by (keeping [] fi) (fork_ends fi qf [] x.entry) (Exits n) d) (λ _ d. on f to [] d)) (eqb-true number n e)
-        (does_before limit c f x (λ d. behind (pos (3 + number) ∷ pos 0 ∷ []) d) (weaker (left_own limit cuts program c f calls globals mains epar calls_all x g env s kn su room all loops within exits_to number (past + 1) to l)))
-    own (Returns v) e = absurd (true≢false (sym e))
-    own (Raises r) e = absurd (true≢false (sym e))
+    own : (w : Leave) → takes_exit number w ≡ true → Doing limit c f x h g any (stored.ret (tt {0})) (λ d. left_by (keeping [] fi) (fork_ends fi qf [] x.entry) w d) (λ _ d. on f to [] d)
+    own (Exits n) e =
+        does_before limit c f x (λ d. behind (pos (3 + n) ∷ pos 0 ∷ []) d) (weaker (left_own limit cuts program c f calls globals mains epar calls_all x g env s kn su room all loops within exits_to number (past + 1) to l n (takes_own number n ∙ e)))
+    own (Returns v) e = absurd (takes_return number v e)
+    own (Raises r) e = absurd (takes_raise number r e)
 
-    away : (w : Leave) → Meaning.exits number w ≡ false → MayLeave number loops w → Doing limit c f x h g any (stored.leaves {A = Unit {0}} w) (λ d. left_by (keeping [] fi) (fork_ends fi qf [] x.entry) w d) (λ _ d. on f to [] d)
+    away : (w : Leave) → takes_exit number w ≡ false → MayLeave number loops w → Doing limit c f x h g any (stored.leaves {A = Unit {0}} w) (λ d. left_by (keeping [] fi) (fork_ends fi qf [] x.entry) w d) (λ _ d. on f to [] d)
     away (Exits n) e ml = does_before limit c f x (λ d. behind (pos (3 + n) ∷ pos 0 ∷ []) d) (weaker (left_away limit cuts program c f calls globals mains epar calls_all x g env s kn su room all loops within exits_to number (past + 1) to l (Exits n) e ml (λ r z. let y : Exits n ≡ Raises r = z in cc)))
     away (Returns None) e ml = does_before limit c f x (λ d. behind (pos 1 ∷ pos 0 ∷ []) d) (weaker (left_away limit cuts program c f calls globals mains epar calls_all x g env s kn su room all loops within exits_to number (past + 1) to l (Returns None) e ml (λ r z. let y : Returns None ≡ Raises r = z in cc)))
     away (Returns (Some v)) e ml = does_before limit c f x (λ d. behind (pos 2 ∷ v ∷ []) d) (weaker (left_away limit cuts program c f calls globals mains epar calls_all x g env s kn su room all loops within exits_to number (past + 1) to l (Returns (Some v)) e ml (λ r z. let y : Returns (Some v) ≡ Raises r = z in cc)))
     away (Raises r) e ml = raise_left r
 
     pub caught : {m : Stored (Unit {0})} {from : Dyn → Step} → Inside limit c f x may (keeping [] fi) (fork_ends fi qf [] x.entry) h h any m from (λ _ d. on (keeping [] fi) (qf + 1) (pos 0 ∷ pos 0 ∷ []) d)
-        → Doing limit c f x h g any (stored.handles m (Meaning.exits number) (λ _. stored.ret (tt {0}))) from (λ _ d. on f to [] d)
+        → Doing limit c f x h g any (stored.handles m (takes_exit number) (λ _. stored.ret (tt {0}))) from (λ _ d. on f to [] d)
     caught inside =
         does_caught limit c f x may (keeping [] fi) (fork_ends fi qf [] x.entry) refl refl (λ ts al. al) back inside
         (λ a u. does_before limit c f x (λ d. behind (pos 0 ∷ pos 0 ∷ []) d) (weaker (left_ended limit cuts program c f calls globals mains epar calls_all x g env s kn su room all loops within exits_to number (past + 1) to l)))
@@ -150,20 +150,20 @@ module _ (limit : ℕ) (cuts : ℕ → ℕ → List ℕ) (program : Program) (c 
           after st d t (Err e) l = l
 
       -- with the test of their count
-      pub forked_does : Doing limit c f x h g any (stored.bind (Meaning.unless ops (nat_le (many first last) most_iterations) reason.StorageError) (λ _. stored.handles (stored.noted_loops limit cuts team cut body) (Meaning.exits number) (λ _. stored.ret (tt {0}))))
+      pub forked_does : Doing limit c f x h g any (stored.bind (Meaning.unless ops (nat_le (many first last) most_iterations) reason.StorageError) (λ _. stored.handles (stored.noted_loops limit cuts team cut body) (takes_exit number) (λ _. stored.ret (tt {0}))))
           from_fork (λ _ d. on f to [] d)
       unfolding stored.bind stored.ret stored.leaves
       forked_does = go (nat_le (many first last) most_iterations) refl
         where
           go : (b : Bool) → nat_le (many first last) most_iterations ≡ b
-              → Doing limit c f x h g any (stored.bind (Meaning.unless ops b reason.StorageError) (λ _. stored.handles (stored.noted_loops limit cuts team cut body) (Meaning.exits number) (λ _. stored.ret (tt {0})))) from_fork (λ _ d. on f to [] d)
-          go true e = does_returned limit c f x (λ _. stored.handles (stored.noted_loops limit cuts team cut body) (Meaning.exits number) (λ _. stored.ret (tt {0}))) (tt {0})
+              → Doing limit c f x h g any (stored.bind (Meaning.unless ops b reason.StorageError) (λ _. stored.handles (stored.noted_loops limit cuts team cut body) (takes_exit number) (λ _. stored.ret (tt {0})))) from_fork (λ _ d. on f to [] d)
+          go true e = does_returned limit c f x (λ _. stored.handles (stored.noted_loops limit cuts team cut body) (takes_exit number) (λ _. stored.ret (tt {0}))) (tt {0})
               (caught (inside_by (ap (λ t. t && (nat_le 1 (many chunk last_chunk) && nat_le (many chunk last_chunk) most_threads)) e ∙ ap₂ (λ t u. t && u) some few_threads)))
           go false e = weaker (does_is limit c f x {to = λ _ d. on f to [] d} (Err (stored.Left (Raises reason.StorageError))) (λ st. refl)
               (λ d. comes_on limit c (comes_too_many limit c fi first last chunk last_chunk (pos 0) [] d fork (ap (λ t. t && (nat_le 1 (many chunk last_chunk) && nat_le (many chunk last_chunk) most_threads)) e)) (left_as_nested limit c f x (Raises reason.StorageError) d)))
 
       -- where nothing is handled and the count is static
-      pub blocked_does : can_fork (many first last) (many chunk last_chunk) ≡ true → ((w : Leave) → may w → Meaning.exits number w ≡ false)
+      pub blocked_does : can_fork (many first last) (many chunk last_chunk) ≡ true → ((w : Leave) → may w → takes_exit number w ≡ false)
           → Doing limit c f x h g any (stored.noted_loops limit cuts team cut body) from_fork (λ _ d. on f to [] d)
       blocked_does can off = does_left limit c f x may (keeping [] fi) (fork_ends fi qf [] x.entry) refl refl back (inside_by can)
           (λ a u. does_before limit c f x (λ d. behind (pos 0 ∷ pos 0 ∷ []) d) (weaker (left_ended limit cuts program c f calls globals mains epar calls_all x g env s kn su room all loops within exits_to number (past + 1) to l)))

@@ -1,5 +1,5 @@
 -- What the code behind a fork does: the body goes on, or is left as its threads left the construct.
-use Rattle.std.proofs.Common.{◌≡◌, ℕ, suc, ◌+◌, ◌<◌, ℤ, pos, int_le, List, [], ◌∷◌, nat_eq, Option, Some, None, Err, Bool, true, false, cond, ◌&&◌, refl, sym, ap, ◌∙◌, subst, le_refl, arith, ◌⊎◌, ⊎_elim, eqb-true}
+use Rattle.std.proofs.Common.{◌≡◌, ℕ, suc, ◌+◌, ◌<◌, ℤ, pos, int_le, List, [], ◌∷◌, nat_eq, Option, Some, None, Err, Bool, true, false, cond, ◌&&◌, refl, sym, ap, ◌∙◌, subst, le_refl, arith, ◌⊎◌, ⊎_elim, eqb-true, true≢false}
 use Rattle.std.proofs.lemmas.Bool.{eqb-false}
 use Rattle.std.proofs.lemmas.Int.{ints}
 use Rattle.ada_base.specs.declared.reason.Reason.{Reason}
@@ -19,7 +19,7 @@ use Rattle.behaviours.specs.Paths.{Entity}
 use Rattle.ada_lower.specs.Driven.{Dyn, Fixed, on, At, Alike}
 use Rattle.ada_lower.specs.Sights.{Emit, Named, Sight, Stands, choose, none, one, when_, ◌⨟◌}
 use Rattle.ada_lower.specs.Emission
-use Rattle.ada_lower.specs.Emission.{returning, returning_value, exiting}
+use Rattle.ada_lower.specs.Emission.{is_own, returning, returning_value, exiting}
 use Rattle.ada_lower.specs.Fits.{What, Keeps, Ghost, Fit, Ends, Does, Knows}
 use Rattle.ada_lower.specs.Forks.{machine_leave}
 use Rattle.ada_lower.specs.Emission.{left_code, exits_code}
@@ -37,9 +37,35 @@ use Rattle.ada_lower.proofs.Courses.{fit_uncount, comes_kept}
 abbrev pub In : ℕ → List ℕ → Type 0
 In n ns = Rattle.ada_lower.specs.Sights.Amid n ns
 
+-- whether a loop is the construct itself
+abbrev pub IsOwn : Option ℕ → ℕ → Type 0
+IsOwn None n = ⊥
+IsOwn (Some number) n = n ≡ number
+
+not_own : (number : Option ℕ) (n : ℕ) → is_own number n ≡ false → IsOwn number n → ⊥
+not_own None n e h = h
+not_own (Some number) n e h = eqb-false number n e (sym h)
+
+-- whether a construct goes on behind what it was left by: a parallel loop does behind an exit of its own
+abbrev pub takes_exit : Option ℕ → Leave → Bool
+takes_exit None = λ w. false
+takes_exit (Some number) = Meaning.exits number
+
+pub takes_own : (number : Option ℕ) (n : ℕ) → is_own number n ≡ takes_exit number (Exits n)
+takes_own None n = refl
+takes_own (Some number) n = refl
+
+pub takes_return : (number : Option ℕ) (v : Option ℤ) → takes_exit number (Returns v) ≡ true → ⊥
+takes_return None v e = true≢false (sym e)
+takes_return (Some number) v e = true≢false (sym e)
+
+pub takes_raise : (number : Option ℕ) (r : Reason) → takes_exit number (Raises r) ≡ true → ⊥
+takes_raise None r e = true≢false (sym e)
+takes_raise (Some number) r e = true≢false (sym e)
+
 -- by what a construct may be left: raises, returns, and exits of its own loop or of those
-abbrev pub MayLeave : (number : ℕ) → List ℕ → Leave → Type 0
-MayLeave number loops (Exits n) = (n ≡ number) ⊎ In n loops
+abbrev pub MayLeave : (number : Option ℕ) → List ℕ → Leave → Type 0
+MayLeave number loops (Exits n) = IsOwn number n ⊎ In n loops
 MayLeave number loops (Returns v) = Unit {0}
 MayLeave number loops (Raises r) = Unit {0}
 
@@ -99,26 +125,26 @@ module _ (limit : ℕ) (cuts : ℕ → ℕ → List ℕ) (program : Program) (c 
   left_so : (second first : ℤ) (l : Leave) (from goal : ℕ) → ((d : Dyn) → To limit c (on f from [] d) (Rattle.ada_lower.specs.Fits.left_by f x l d)) → Then second first (stored.leaves l) from goal
   left_so second first l from goal k = does_weak limit c f x (λ st d w. back second first st d w) (does_is limit c f x {to = λ _ d. on f goal [] d} (Err (stored.Left l)) (λ st. leaves_is l st) k)
 
-  abbrev exits : ℕ → List ℕ → Emit
+  abbrev exits : Option ℕ → List ℕ → Emit
   exits number ks = exits_code s.scope s.scope.free number ks
 
   abbrev one_exit : Bool → ℕ → Emit
   one_exit own k = cond own none (test (k + 3) ⨟ when_ s.scope 0 (exiting s.scope k (s.scope.exits k)))
 
   -- the exits of loops around
-  exits_left : (number n : ℕ) (ks : List ℕ) (from to goal : ℕ) → nat_eq number n ≡ false → In n loops → In n ks → Stands c (exits number ks) from to → Then (pos (3 + n)) (pos 0) (stored.leaves (Exits n)) from goal
+  exits_left : (number : Option ℕ) (n : ℕ) (ks : List ℕ) (from to goal : ℕ) → is_own number n ≡ false → In n loops → In n ks → Stands c (exits number ks) from to → Then (pos (3 + n)) (pos 0) (stored.leaves (Exits n)) from goal
   exits_left number n [] from to goal ne among here l = absurd here
   exits_left number n (k ∷ ks) from to goal ne among here l =
       let (m, l1, l2) = stands_seq c from to (Emission.exit_code s.scope s.scope.free number k) (exits number ks) l in
-      go (exits_left number n ks) (nat_eq number k) refl m l1 l2
+      go (exits_left number n ks) (is_own number k) refl m l1 l2
     where
       apart : (n ≡ k → ⊥) → In n ks
       apart h = ⊎_elim (λ e. absurd (h e)) (λ z. z) here
 
-      go : ((from to goal : ℕ) → nat_eq number n ≡ false → In n loops → In n ks → Stands c (exits number ks) from to → Then (pos (3 + n)) (pos 0) (stored.leaves (Exits n)) from goal)
-          → (b : Bool) → nat_eq number k ≡ b → (m : ℕ) → Stands c (one_exit b k) from m → Stands c (exits number ks) m to
+      go : ((from to goal : ℕ) → is_own number n ≡ false → In n loops → In n ks → Stands c (exits number ks) from to → Then (pos (3 + n)) (pos 0) (stored.leaves (Exits n)) from goal)
+          → (b : Bool) → is_own number k ≡ b → (m : ℕ) → Stands c (one_exit b k) from m → Stands c (exits number ks) m to
           → Then (pos (3 + n)) (pos 0) (stored.leaves (Exits n)) from goal
-      go more true e m l1 l2 = more from to goal ne among (apart (λ h. eqb-false number n ne (eqb-true number k e ∙ sym h))) (subst (λ p. Stands c (exits number ks) p to) l1 l2)
+      go more true e m l1 l2 = more from to goal ne among (apart (λ h. true≢false (sym e ∙ (ap (λ m. is_own number m) (sym h) ∙ ne)))) (subst (λ p. Stands c (exits number ks) p to) l1 l2)
       go more false e m l1 l2 =
           let (mid, la, lb) = stands_seq c from m (test (k + 3)) (when_ s.scope 0 (exiting s.scope k (s.scope.exits k))) l1 in
           pick (3 + n) (k + 3) (pos 0) (stored.leaves (Exits n)) (exiting s.scope k (s.scope.exits k)) from mid m goal la lb
@@ -127,20 +153,21 @@ module _ (limit : ℕ) (cuts : ℕ → ℕ → List ℕ) (program : Program) (c 
           (λ other. more m to goal ne among (apart (λ h. eqb-false (3 + n) (k + 3) other (omega (arith, h)))) l2)
 
   -- that of its own loop goes on
-  exits_own : (number : ℕ) (ks : List ℕ) (from to : ℕ) → Stands c (exits number ks) from to → Then (pos (3 + number)) (pos 0) (stored.ret tt) from to
-  exits_own number [] from to l = subst (λ z. Then (pos (3 + number)) (pos 0) (stored.ret tt) from z) (sym l) (does_weak limit c f x (λ st d w. back (pos (3 + number)) (pos 0) st d w) (does_ret limit c f x {to = λ _ d. on f from [] d} tt tt))
-  exits_own number (k ∷ ks) from to l =
+  exits_own : (number : Option ℕ) (n : ℕ) → is_own number n ≡ true → (ks : List ℕ) (from to : ℕ) → Stands c (exits number ks) from to → Then (pos (3 + n)) (pos 0) (stored.ret tt) from to
+  exits_own number n is [] from to l = subst (λ z. Then (pos (3 + n)) (pos 0) (stored.ret tt) from z) (sym l) (does_weak limit c f x (λ st d w. back (pos (3 + n)) (pos 0) st d w) (does_ret limit c f x {to = λ _ d. on f from [] d} tt tt))
+  exits_own number n is (k ∷ ks) from to l =
       let (m, l1, l2) = stands_seq c from to (Emission.exit_code s.scope s.scope.free number k) (exits number ks) l in
-      go (exits_own number ks) (nat_eq number k) refl m l1 l2
+      go (exits_own number n is ks) (is_own number k) refl m l1 l2
     where
-      go : ((from to : ℕ) → Stands c (exits number ks) from to → Then (pos (3 + number)) (pos 0) (stored.ret tt) from to)
-          → (b : Bool) → nat_eq number k ≡ b → (m : ℕ) → Stands c (one_exit b k) from m → Stands c (exits number ks) m to
-          → Then (pos (3 + number)) (pos 0) (stored.ret tt) from to
+      go : ((from to : ℕ) → Stands c (exits number ks) from to → Then (pos (3 + n)) (pos 0) (stored.ret tt) from to)
+          → (b : Bool) → is_own number k ≡ b → (m : ℕ) → Stands c (one_exit b k) from m → Stands c (exits number ks) m to
+          → Then (pos (3 + n)) (pos 0) (stored.ret tt) from to
       go more true e m l1 l2 = more from to (subst (λ p. Stands c (exits number ks) p to) l1 l2)
       go more false e m l1 l2 =
           let (mid, la, lb) = stands_seq c from m (test (k + 3)) (when_ s.scope 0 (exiting s.scope k (s.scope.exits k))) l1 in
-          pick (3 + number) (k + 3) (pos 0) (stored.ret tt) (exiting s.scope k (s.scope.exits k)) from mid m to la lb
-          (λ same p q l. absurd (eqb-false number k e (let z : 3 + number ≡ k + 3 = eqb-true (3 + number) (k + 3) same in omega (arith, z))))
+          pick (3 + n) (k + 3) (pos 0) (stored.ret tt) (exiting s.scope k (s.scope.exits k)) from mid m to la lb
+          (λ same p q l. let h : n ≡ k = (let z : 3 + n ≡ k + 3 = eqb-true (3 + n) (k + 3) same in omega (arith, z)) in
+          absurd (true≢false (sym is ∙ (ap (λ m. is_own number m) h ∙ e))))
           (λ other. more m to l2)
 
   -- ---- the whole
@@ -158,11 +185,11 @@ module _ (limit : ℕ) (cuts : ℕ → ℕ → List ℕ) (program : Program) (c 
   abbrev gives_code : Emit
   gives_code = one s.scope 0 (i.LoadL (s.scope.free + 1)) ⨟ returning_value s.scope s.scope.leaving
 
-  abbrev dispatch : ℕ → Emit
+  abbrev dispatch : Option ℕ → Emit
   dispatch number = Emission.left_returns s.scope ⨟ exits number all
 
   -- the parts of what is behind the test
-  record Ways (number from to : ℕ) : Type 0 where
+  record Ways (number : Option ℕ) (from to : ℕ) : Type 0 where
     pub ret : ℕ
     pub val : ℕ
     pub more : ℕ
@@ -173,7 +200,7 @@ module _ (limit : ℕ) (cuts : ℕ → ℕ → List ℕ) (program : Program) (c 
     pub gives : Stands c (when_ s.scope 0 gives_code) more last
     pub leads : Stands c (exits number all) last to
 
-  ways : (number from to : ℕ) → Stands c (dispatch number) from to → Ways number from to
+  ways : (number : Option ℕ) (from to : ℕ) → Stands c (dispatch number) from to → Ways number from to
   ways number from to l =
       let (e1, lr, le) = stands_seq c from to (Emission.left_returns s.scope) (exits number all) l in
       let (a, la, r1) = stands_seq c from e1 (test 1) (when_ s.scope 0 returns_code ⨟ test 2 ⨟ when_ s.scope 0 gives_code) lr in
@@ -181,7 +208,7 @@ module _ (limit : ℕ) (cuts : ℕ → ℕ → List ℕ) (program : Program) (c 
       let (d, ld, lg) = stands_seq c b e1 (test 2) (when_ s.scope 0 gives_code) r2 in
       record { ret = a; val = b; more = d; last = e1; is_ret = la; rets = lb; is_val = ld; gives = lg; leads = le }
 
-  module _ (number from to : ℕ) (l : Stands c (left_code s.scope number all) from to) where
+  module _ (number : Option ℕ) (from to : ℕ) (l : Stands c (left_code s.scope number all) from to) where
     tested : (second first : ℤ) (b : Bool) → Deeds.truth second ≡ b → (m : Stored (Unit {0})) → ((p : ℕ) → Stands c (dispatch number) p to → Then second first m (cond b p to) to) → Runs limit c f x g any m (λ d. on f from (second ∷ first ∷ []) d) (λ _ d. on f to [] d)
     tested second first b e m k =
         let (j1, (j2, (j3, r))) = l in
@@ -201,17 +228,17 @@ module _ (limit : ℕ) (cuts : ℕ → ℕ → List ℕ) (program : Program) (c 
         (λ other. pick (3 + n) 2 (pos 0) m gives_code w.val w.more w.last to w.is_val w.gives (λ same p q l. absurd (let z : 3 + n ≡ 2 = eqb-true (3 + n) 2 same in omega (arith, z)))
         (λ other. k w.last w.leads))
 
-    pub left_own : Runs limit c f x g any (stored.ret (tt {0})) (λ d. on f from (pos (3 + number) ∷ pos 0 ∷ []) d) (λ _ d. on f to [] d)
-    left_own = tested (pos (3 + number)) (pos 0) true (truth_more number) (stored.ret (tt {0})) (λ p l. exits_at number p (stored.ret (tt {0})) l (λ q l. exits_own number all q to l))
+    pub left_own : (n : ℕ) → is_own number n ≡ true → Runs limit c f x g any (stored.ret (tt {0})) (λ d. on f from (pos (3 + n) ∷ pos 0 ∷ []) d) (λ _ d. on f to [] d)
+    left_own n is = tested (pos (3 + n)) (pos 0) true (truth_more n) (stored.ret (tt {0})) (λ p l. exits_at n p (stored.ret (tt {0})) l (λ q l. exits_own number n is all q to l))
       where
         truth_more : (n : ℕ) → Deeds.truth (pos (3 + n)) ≡ true
         truth_more n = ap (λ m. Deeds.truth (pos m)) (let z : 3 + n ≡ suc (2 + n) = omega arith in z)
 
-    pub left_away : (w : Leave) → Meaning.exits number w ≡ false → MayLeave number loops w → ((r : Reason) → w ≡ Raises r → ⊥)
+    pub left_away : (w : Leave) → takes_exit number w ≡ false → MayLeave number loops w → ((r : Reason) → w ≡ Raises r → ⊥)
         → Runs limit c f x g any (stored.leaves {A = Unit {0}} w) (λ d. on f from (left_as (machine_leave w) []) d) (λ _ d. on f to [] d)
     left_away (Exits n) ne may nr =
         tested (pos (3 + n)) (pos 0) true (ap (λ m. Deeds.truth (pos m)) (let z : 3 + n ≡ suc (2 + n) = omega arith in z)) (stored.leaves (Exits n))
-        (λ p l. exits_at n p (stored.leaves (Exits n)) l (λ q l. let here : In n loops = ⊎_elim (λ h. absurd (eqb-false number n ne (sym h))) (λ h. h) may in exits_left number n all q to to ne here (within n here) l))
+        (λ p l. exits_at n p (stored.leaves (Exits n)) l (λ q l. let other : is_own number n ≡ false = takes_own number n ∙ ne in let here : In n loops = ⊎_elim (λ h. absurd (not_own number n other h)) (λ h. h) may in exits_left number n all q to to other here (within n here) l))
     left_away (Returns None) ne may nr =
         tested (pos 1) (pos 0) true refl (stored.leaves (Returns None))
         (λ p l. let w = ways number p to l in pick 1 1 (pos 0) (stored.leaves (Returns None)) returns_code p w.ret w.val to w.is_ret w.rets

@@ -160,14 +160,14 @@ module _ (limit : ℕ) (cuts : ℕ → ℕ → List ℕ) (within : Within cuts) 
 
     module _ (step : (f' : Fixed) (fc : Alike f' f) (top : ℕ) (is : f' ≡ threaded (nested_in f) top) (g' : Ghost) (env' : Env) (a b : ℕ) → Knows limit cuts g' f' turn env' → Stands c (filtered program turn.scope 0 filter (body turn.scope)) a b
         → Acts limit cuts program c f' calls globals mains epar (calls_all f' fc) thread_ends g' (stored.bind (tests env') (λ z. cond z (does env') (stored.ret tt))) a b)
-        (leaves_so : (first size : ℕ) (envs : ℕ → Env) (st : stored.State) (l : Leave) → ((through stored.doings first size tt (λ i (_ : Unit {0}). Meaning.iterate oper (tests (envs i)) (does (envs i)))).does st).end ≡ Err (stored.Left l) → MayLeave number loops l)
+        (leaves_so : (first size : ℕ) (envs : ℕ → Env) (st : stored.State) (l : Leave) → ((through stored.doings first size tt (λ i (_ : Unit {0}). Meaning.iterate oper (tests (envs i)) (does (envs i)))).does st).end ≡ Err (stored.Left l) → MayLeave (Some number) loops l)
         (lends : (k : Chunking) (cl ch : ℤ) (q : ObjectPart) (a0 : ℕ) → Chunks chunk cl ch k → (gg : Ghost) → Knows limit cuts gg (nested_in f) (taking 2 (taking 2 s)) (inside env) → Spread gg (named_entity constant q.object) q.offset (count * stride) a0
         → Lends (nested_in f) gg cs (Deeds.asked site (pos 1) (pos count) cl ch (pos 0)) (team_of k q) (deal 0 0 (sizes_for gg.plan cs.kind (Deeds.asked site (pos 1) (pos count) cl ch (pos 0))))) where
       -- from the array on
       ranged : (k : Chunking) (cl ch : ℤ) (q : ObjectPart) (a0 : ℕ) → Spread (g2 cl ch a0) (named_entity constant q.object) q.offset (count * stride) a0 → Chunks chunk cl ch k → nat_le 1 (many cl ch) ≡ true → nat_le (many cl ch) most_threads ≡ true → (m2 to : ℕ)
           → Stands c (ends_code (taking 2 r).scope 0 it ⨟ fork_code r.scope 0 2 (loop_kind chunk) site s.scope.free (one r.scope 4 (i.Push (pos 0)))
           (let t = thread_sight site cs.frame (taking 2 (taking 2 s)) in Emission.threaded program t.scope 0 chunk (s.scope.free + 1 + 1) it body ⨟ one (chunk_sight chunk (taking 2 t)).scope 0 i.End)
-          ⨟ one r.scope 2 i.Unnest ⨟ left_code (taking 2 (taking 2 s)).scope number all) m2 to
+          ⨟ one r.scope 2 i.Unnest ⨟ left_code (taking 2 (taking 2 s)).scope (Some number) all) m2 to
           → Doing limit c f x (g2 cl ch a0) (g2 cl ch a0) any (after_course k (course_with q)) (λ d. on fi m2 [] d) (λ _ d. on f to [] d)
       unfolding Rattle.ada_lower.specs.Emission.emit Rattle.ada_lower.specs.Emission.stmt
       ranged k cl ch q a0 part told some few m2 to st =
@@ -175,8 +175,8 @@ module _ (limit : ℕ) (cuts : ℕ → ℕ → List ℕ) (within : Within cuts) 
           let t : Sight = thread_sight site cs.frame s4 in
           let tb : Emit = Emission.threaded program t.scope 0 chunk (s.scope.free + 1 + 1) it body ⨟ one (chunk_sight chunk (taking 2 t)).scope 0 i.End in
           let fc : Emit = fork_code r.scope 0 2 (loop_kind chunk) site s.scope.free (one r.scope 4 (i.Push (pos 0))) tb in
-          let (m3, (je1, (je2, ze)), r3) = stands_seq c m2 to (ends_code (taking 2 r).scope 0 it) (fc ⨟ one r.scope 2 i.Unnest ⨟ left_code s4.scope number all) st in
-          let (m4, (jd0, (jd1, (jp, (jf, lb)))), (ju, ll)) = stands_seq c m3 to fc (one r.scope 2 i.Unnest ⨟ left_code s4.scope number all) r3 in
+          let (m3, (je1, (je2, ze)), r3) = stands_seq c m2 to (ends_code (taking 2 r).scope 0 it) (fc ⨟ one r.scope 2 i.Unnest ⨟ left_code s4.scope (Some number) all) st in
+          let (m4, (jd0, (jd1, (jp, (jf, lb)))), (ju, ll)) = stands_seq c m3 to fc (one r.scope 2 i.Unnest ⨟ left_code s4.scope (Some number) all) r3 in
           let (jj, bd) = stands_behind c (m3 + 1 + 1 + 1 + 1) m4 r.scope 2 tb lb in
           let goal : Unit {0} → Dyn → Step = λ _ d. on f to [] d in
           let l : ℤ = pos 1 in
@@ -195,7 +195,7 @@ module _ (limit : ℕ) (cuts : ℕ → ℕ → List ℕ) (within : Within cuts) 
           (λ _. stored.handles (stored.noted_loops limit cuts (team_of k q) (cut_of k count) (λ j i. Meaning.iterate oper (tests ((course_with q).bound i (k.bound j (inside env)))) (does ((course_with q).bound i (k.bound j (inside env)))))) (Meaning.exits number) (λ _. stored.ret tt)))
           (λ d. on fi (m3 + 1 + 1 + 1) (pos 0 ∷ ch ∷ cl ∷ u ∷ l ∷ []) d) goal) (many_is count)
           (forked_does limit cuts program c f calls globals mains epar calls_all x gg env s4 (kn2 cl ch a0) (suits_as s4 s refl refl refl refl refl (λ n. refl) su) (omega (arith, room)) kept all loops among exits_to
-          number (m3 + 1 + 1 + 1) m4 to (at_entry su.entry jj) (at_entry su.entry ju) ll gg (λ a y z e. inl e) (λ stt d w. w) (MayLeave number loops) (λ w m. m)
+          (Some number) (m3 + 1 + 1 + 1) m4 to (at_entry su.entry jj) (at_entry su.entry ju) ll gg (λ a y z e. inl e) (λ stt d w. w) (MayLeave (Some number) loops) (λ w m. m)
           cs site l u cl ch site_at (at_entry su.entry jf)
           (λ vs. ap (λ kd. answer_of c kd asking (gave.Numbers vs)) kind ∙ plain_kind c chunk asking vs) some few (team_of k q)
           (λ j i. Meaning.iterate oper (tests ((course_with q).bound i (k.bound j (inside env)))) (does ((course_with q).bound i (k.bound j (inside env)))))
@@ -203,13 +203,13 @@ module _ (limit : ℕ) (cuts : ℕ → ℕ → List ℕ) (within : Within cuts) 
           (sizes_same limit cuts chunk cl ch count k site told ∙ ap₂ (λ pl kd. sizes_for pl kd asking) (sym plan) (sym kind))
           (λ j. j.first + j.size ≤ asking.count) (loop_shares cuts gg.plan within plan chunk asking cs.kind kind)
           (λ j inn. items_thread limit cuts program c fi calls globals mains epar calls_all gg s4 (inside env) (knows_forked (kn2 cl ch a0)) site cs four five count stride cl ch (pos 0) j (let z = many_is count in omega (arith, inn, z)) (s.scope.free + 1 + 1) a0
-          (inl (ap (λ n. gg.what (f.base + n)) same_cell ∙ what_same (g1 cl ch) (f.base + (s.scope.free + 2)) (Keeps (pos a0)))) (omega (arith, room)) p constant q part chunk k told (chunk_of (cut_of k count) j.number) (numbered chunk cl ch k count j.number told) (MayLeave number loops) tests does
+          (inl (ap (λ n. gg.what (f.base + n)) same_cell ∙ what_same (g1 cl ch) (f.base + (s.scope.free + 2)) (Keeps (pos a0)))) (omega (arith, room)) p constant q part chunk k told (chunk_of (cut_of k count) j.number) (numbered chunk cl ch k count j.number told) (MayLeave (Some number) loops) tests does
           (filtered program turn.scope 0 filter (body turn.scope)) m4 (subst (λ z. Stands c tb z m4) (sym (entry (m3 + 1 + 1 + 1) (itself refl jf))) bd)
           (λ g' env' a b kk ss. step (threaded fi gg.top) (alike f) gg.top refl g' env' a b kk ss)
           (λ stt w e. leaves_so j.first j.size _ stt w e))
           (knows_forked (kn2 cl ch a0)) (lends k cl ch q a0 told gg (knows_forked (kn2 cl ch a0)) part)
           (λ owner apart j inn. items_thread limit cuts program c fi calls globals mains epar calls_all (view_ghost owner j.number gg) (no_free s4) (inside env) (knows_view owner j.number (knows_forked (kn2 cl ch a0)) apart) site cs four five count stride cl ch (pos 0) j (let z = many_is count in omega (arith, inn, z)) (s.scope.free + 1 + 1) a0
-          (number_view owner j.number (knows_forked (kn2 cl ch a0)) apart (f.base + (s.scope.free + 1 + 1)) (pos a0) (inl (ap (λ n. gg.what (f.base + n)) same_cell ∙ what_same (g1 cl ch) (f.base + (s.scope.free + 2)) (Keeps (pos a0))))) (omega (arith, room)) p constant q (spread_view owner j.number (knows_forked (kn2 cl ch a0)) apart (named_entity constant q.object) q.offset (count * stride) a0 part) chunk k told (chunk_of (cut_of k count) j.number) (numbered chunk cl ch k count j.number told) (MayLeave number loops) tests does
+          (number_view owner j.number (knows_forked (kn2 cl ch a0)) apart (f.base + (s.scope.free + 1 + 1)) (pos a0) (inl (ap (λ n. gg.what (f.base + n)) same_cell ∙ what_same (g1 cl ch) (f.base + (s.scope.free + 2)) (Keeps (pos a0))))) (omega (arith, room)) p constant q (spread_view owner j.number (knows_forked (kn2 cl ch a0)) apart (named_entity constant q.object) q.offset (count * stride) a0 part) chunk k told (chunk_of (cut_of k count) j.number) (numbered chunk cl ch k count j.number told) (MayLeave (Some number) loops) tests does
           (filtered program turn.scope 0 filter (body turn.scope)) m4 (subst (λ z. Stands c tb z m4) (sym (entry (m3 + 1 + 1 + 1) (itself refl jf))) bd)
           (λ g' env' a b kk ss. step (threaded fi gg.top) (alike f) gg.top refl g' env' a b kk ss)
           (λ stt w e. leaves_so j.first j.size _ stt w e))))
@@ -225,7 +225,7 @@ module _ (limit : ℕ) (cuts : ℕ → ℕ → List ℕ) (within : Within cuts) 
           let s4 : Sight = taking 2 (taking 2 s) in
           let t : Sight = thread_sight site cs.frame s4 in
           let tb : Emit = Emission.threaded program t.scope 0 chunk (s.scope.free + 1 + 1) it body ⨟ one (chunk_sight chunk (taking 2 t)).scope 0 i.End in
-          let rest : Emit = ends_code (taking 2 r).scope 0 it ⨟ fork_code r.scope 0 2 (loop_kind chunk) site s.scope.free (one r.scope 4 (i.Push (pos 0))) tb ⨟ one r.scope 2 i.Unnest ⨟ left_code s4.scope number all in
+          let rest : Emit = ends_code (taking 2 r).scope 0 it ⨟ fork_code r.scope 0 2 (loop_kind chunk) site s.scope.free (one r.scope 4 (i.Push (pos 0))) tb ⨟ one r.scope 2 i.Unnest ⨟ left_code s4.scope (Some number) all in
           let goal : Unit {0} → Dyn → Step = λ _ d. on f to [] d in
           let (m1, lc, r1) = stands_seq c (from + 1) to (chunk_code program r.scope 0 chunk) (course_code program (taking 2 r).scope 0 it ⨟ rest) st in
           let (m2, lr, r2) = stands_seq c m1 to (course_code program (taking 2 r).scope 0 it) rest r1 in

@@ -241,14 +241,14 @@ module _ (limit : ℕ) (cuts : ℕ → ℕ → List ℕ) (program : Program) (c 
 
     module _ (step : (f' : Fixed) (fc : Alike f' f) (top : ℕ) (is : f' ≡ threaded (nested_in f) top) (g' : Ghost) (env' : Env) (a b : ℕ) → Knows limit cuts g' f' turn env' → Stands c (filtered program turn.scope 0 filter (body turn.scope)) a b
         → Acts limit cuts program c f' calls globals mains epar (calls_all f' fc) thread_ends g' (stored.bind (tests env') (λ z. cond z (does env') (stored.ret tt))) a b)
-        (leaves_so : (first size : ℕ) (envs : ℕ → Env) (st : stored.State) (l : Leave) → ((through stored.doings first size tt (λ i (_ : Unit {0}). Meaning.iterate oper (tests (envs i)) (does (envs i)))).does st).end ≡ Err (stored.Left l) → MayLeave number loops l)
+        (leaves_so : (first size : ℕ) (envs : ℕ → Env) (st : stored.State) (l : Leave) → ((through stored.doings first size tt (λ i (_ : Unit {0}). Meaning.iterate oper (tests (envs i)) (does (envs i)))).does st).end ≡ Err (stored.Left l) → MayLeave (Some number) loops l)
         (lends : (k : Chunking) (cl ch l u : ℤ) → Chunks chunk cl ch k → (gg : Ghost) → Knows limit cuts gg (nested_in f) (taking 2 (taking 2 s)) (inside env)
         → Lends (nested_in f) gg cs (Rattle.stack_code.specs.Deeds.asked site l u cl ch (pos 0)) (team_of k l u) (deal 0 0 (sizes_for gg.plan cs.kind (Rattle.stack_code.specs.Deeds.asked site l u cl ch (pos 0))))) where
       -- from the two ranges on
       ranged : (k : Chunking) (cl ch l u : ℤ) → Chunks chunk cl ch k → nat_le 1 (many cl ch) ≡ true → nat_le (many cl ch) most_threads ≡ true → (m2 to : ℕ)
           → Stands c (ends_code (taking 2 r).scope 0 it ⨟ fork_code r.scope 0 2 (loop_kind chunk) site s.scope.free (one r.scope 4 (i.Push (pos 0)))
           (let t = thread_sight site cs.frame (taking 2 (taking 2 s)) in Emission.threaded program t.scope 0 chunk (s.scope.free + 1 + 1) it body ⨟ one (chunk_sight chunk (taking 2 t)).scope 0 i.End)
-          ⨟ one r.scope 2 i.Unnest ⨟ left_code (taking 2 (taking 2 s)).scope number all) m2 to
+          ⨟ one r.scope 2 i.Unnest ⨟ left_code (taking 2 (taking 2 s)).scope (Some number) all) m2 to
           → Doing limit c f x (g2 cl ch l u) (g2 cl ch l u) any (after_course k (record { count = Values.count l u; bound = λ i. Meaning.with_parameter p (cond false (u -ℤ pos i) (l +ℤ pos i)) })) (λ d. on fi m2 [] d) (λ _ d. on f to [] d)
       unfolding Rattle.ada_lower.specs.Emission.emit Rattle.ada_lower.specs.Emission.stmt
       ranged k cl ch l u told some few m2 to st =
@@ -256,8 +256,8 @@ module _ (limit : ℕ) (cuts : ℕ → ℕ → List ℕ) (program : Program) (c 
           let t : Sight = thread_sight site cs.frame s4 in
           let tb : Emit = Emission.threaded program t.scope 0 chunk (s.scope.free + 1 + 1) it body ⨟ one (chunk_sight chunk (taking 2 t)).scope 0 i.End in
           let fc : Emit = fork_code r.scope 0 2 (loop_kind chunk) site s.scope.free (one r.scope 4 (i.Push (pos 0))) tb in
-          let (m3, (je1, (je2, ze)), r3) = stands_seq c m2 to (ends_code (taking 2 r).scope 0 it) (fc ⨟ one r.scope 2 i.Unnest ⨟ left_code s4.scope number all) st in
-          let (m4, (jd0, (jd1, (jp, (jf, lb)))), (ju, ll)) = stands_seq c m3 to fc (one r.scope 2 i.Unnest ⨟ left_code s4.scope number all) r3 in
+          let (m3, (je1, (je2, ze)), r3) = stands_seq c m2 to (ends_code (taking 2 r).scope 0 it) (fc ⨟ one r.scope 2 i.Unnest ⨟ left_code s4.scope (Some number) all) st in
+          let (m4, (jd0, (jd1, (jp, (jf, lb)))), (ju, ll)) = stands_seq c m3 to fc (one r.scope 2 i.Unnest ⨟ left_code s4.scope (Some number) all) r3 in
           let (jj, bd) = stands_behind c (m3 + 1 + 1 + 1 + 1) m4 r.scope 2 tb lb in
           let goal : Unit {0} → Dyn → Step = λ _ d. on f to [] d in
           let q : Asked = Rattle.stack_code.specs.Deeds.asked site l u cl ch (pos 0) in
@@ -273,18 +273,18 @@ module _ (limit : ℕ) (cuts : ℕ → ℕ → List ℕ) (program : Program) (c 
           (λ _. stored.handles (stored.noted_loops limit cuts (team_of k l u) (cut_of k (Values.count l u)) (λ j i. Meaning.iterate oper (tests (Meaning.with_parameter p (l +ℤ pos i) (k.bound j (inside env)))) (does (Meaning.with_parameter p (l +ℤ pos i) (k.bound j (inside env)))))) (Meaning.exits number) (λ _. stored.ret tt)))
           (λ d. on fi (m3 + 1 + 1 + 1) (pos 0 ∷ ch ∷ cl ∷ u ∷ l ∷ []) d) goal) (to_nat_same (u +ℤ pos 1 -ℤ l))
           (forked_does limit cuts program c f calls globals mains epar calls_all x gg env s4 (kn2 cl ch l u) (suits_as s4 s refl refl refl refl refl (λ n. refl) su) (omega (arith, room)) kept all loops within exits_to
-          number (m3 + 1 + 1 + 1) m4 to (at_entry su.entry jj) (at_entry su.entry ju) ll gg (λ a y z e. inl e) (λ stt d w. w) (MayLeave number loops) (λ w m. m)
+          (Some number) (m3 + 1 + 1 + 1) m4 to (at_entry su.entry jj) (at_entry su.entry ju) ll gg (λ a y z e. inl e) (λ stt d w. w) (MayLeave (Some number) loops) (λ w m. m)
           cs site l u cl ch site_at (at_entry su.entry jf)
           (λ vs. ap (λ kd. answer_of c kd q (gave.Numbers vs)) kind ∙ plain_kind c chunk q vs) some few (team_of k l u)
           (λ j i. Meaning.iterate oper (tests (Meaning.with_parameter p (l +ℤ pos i) (k.bound j (inside env)))) (does (Meaning.with_parameter p (l +ℤ pos i) (k.bound j (inside env)))))
           (cut_of k (Values.count l u))
           (sizes_same limit cuts chunk cl ch l u k site told ∙ ap₂ (λ pl kd. sizes_for pl kd q) (sym plan) (sym kind))
-          (λ j. Unit {0}) (every_one _) (λ j _. range_thread limit cuts program c fi calls globals mains epar calls_all gg s4 (inside env) (knows_forked ((kn2 cl ch l u))) site cs four p l u cl ch (pos 0) chunk k told (chunk_of (cut_of k (Values.count l u)) j.number) j (numbered chunk cl ch k (Values.count l u) j.number told) (MayLeave number loops) tests does
+          (λ j. Unit {0}) (every_one _) (λ j _. range_thread limit cuts program c fi calls globals mains epar calls_all gg s4 (inside env) (knows_forked ((kn2 cl ch l u))) site cs four p l u cl ch (pos 0) chunk k told (chunk_of (cut_of k (Values.count l u)) j.number) j (numbered chunk cl ch k (Values.count l u) j.number told) (MayLeave (Some number) loops) tests does
           (filtered program turn.scope 0 filter (body turn.scope)) m4 (subst (λ z. Stands c tb z m4) (sym (entry (m3 + 1 + 1 + 1) (itself refl jf))) bd)
           (λ g' env' a b kk ss. step (threaded fi gg.top) (alike f) gg.top refl g' env' a b kk ss)
           (λ stt w e. leaves_so j.first j.size _ stt w e))
           (knows_forked (kn2 cl ch l u)) (lends k cl ch l u told gg (knows_forked (kn2 cl ch l u)))
-          (λ owner apart j _. range_thread limit cuts program c fi calls globals mains epar calls_all (view_ghost owner j.number gg) (no_free s4) (inside env) (knows_view owner j.number (knows_forked (kn2 cl ch l u)) apart) site cs four p l u cl ch (pos 0) chunk k told (chunk_of (cut_of k (Values.count l u)) j.number) j (numbered chunk cl ch k (Values.count l u) j.number told) (MayLeave number loops) tests does
+          (λ owner apart j _. range_thread limit cuts program c fi calls globals mains epar calls_all (view_ghost owner j.number gg) (no_free s4) (inside env) (knows_view owner j.number (knows_forked (kn2 cl ch l u)) apart) site cs four p l u cl ch (pos 0) chunk k told (chunk_of (cut_of k (Values.count l u)) j.number) j (numbered chunk cl ch k (Values.count l u) j.number told) (MayLeave (Some number) loops) tests does
           (filtered program turn.scope 0 filter (body turn.scope)) m4 (subst (λ z. Stands c tb z m4) (sym (entry (m3 + 1 + 1 + 1) (itself refl jf))) bd)
           (λ g' env' a b kk ss. step (threaded fi gg.top) (alike f) gg.top refl g' env' a b kk ss)
           (λ stt w e. leaves_so j.first j.size _ stt w e))))
@@ -306,7 +306,7 @@ module _ (limit : ℕ) (cuts : ℕ → ℕ → List ℕ) (program : Program) (c 
           let s4 : Sight = taking 2 (taking 2 s) in
           let t : Sight = thread_sight site cs.frame s4 in
           let tb : Emit = Emission.threaded program t.scope 0 chunk (s.scope.free + 1 + 1) it body ⨟ one (chunk_sight chunk (taking 2 t)).scope 0 i.End in
-          let rest : Emit = ends_code (taking 2 r).scope 0 it ⨟ fork_code r.scope 0 2 (loop_kind chunk) site s.scope.free (one r.scope 4 (i.Push (pos 0))) tb ⨟ one r.scope 2 i.Unnest ⨟ left_code s4.scope number all in
+          let rest : Emit = ends_code (taking 2 r).scope 0 it ⨟ fork_code r.scope 0 2 (loop_kind chunk) site s.scope.free (one r.scope 4 (i.Push (pos 0))) tb ⨟ one r.scope 2 i.Unnest ⨟ left_code s4.scope (Some number) all in
           let goal : Unit {0} → Dyn → Step = λ _ d. on f to [] d in
           let (m1, lc, r1) = stands_seq c (from + 1) to (chunk_code program r.scope 0 chunk) (course_code program (taking 2 r).scope 0 it ⨟ rest) st in
           let (m2, lr, r2) = stands_seq c m1 to (course_code program (taking 2 r).scope 0 it) rest r1 in

@@ -40,7 +40,7 @@ pub parallel_loop_does : (limit : ℕ) (cuts : ℕ → ℕ → List ℕ) (progra
     (step : let u = turn limit cuts program c f calls globals mains epar calls_all x g env s kn su kept nested plan room number all loops within exits_to chunk cs site site_at kind four entry p low high check filter does body in
     (f' : Fixed) (fc : Alike f' f) (top : ℕ) (is : f' ≡ threaded (nested_in f) top) (g' : Ghost) (env' : Env) (a b : ℕ) → Knows limit cuts g' f' u env' → Stands c (filtered program u.scope 0 filter (body u.scope)) a b
     → Acts limit cuts program c f' calls globals mains epar (calls_all f' fc) thread_ends g' (stored.bind (Meaning.holds (stored.noted_operations limit cuts) limit program calls filter env') (λ z. cond z (does env') (stored.ret (tt {0})))) a b)
-    (leaves_so : (first size : ℕ) (envs : ℕ → Env) (st : stored.State) (l : Leave) → ((through stored.doings first size (tt {0}) (λ i _. Meaning.iterate (stored.noted_operations limit cuts) (Meaning.holds (stored.noted_operations limit cuts) limit program calls filter (envs i)) (does (envs i)))).does st).end ≡ Err (stored.Left l) → MayLeave number loops l)
+    (leaves_so : (first size : ℕ) (envs : ℕ → Env) (st : stored.State) (l : Leave) → ((through stored.doings first size (tt {0}) (λ i _. Meaning.iterate (stored.noted_operations limit cuts) (Meaning.holds (stored.noted_operations limit cuts) limit program calls filter (envs i)) (does (envs i)))).does st).end ≡ Err (stored.Left l) → MayLeave (Some number) loops l)
     (lends : (k : Chunking) (cl ch l u : ℤ) → Chunks chunk cl ch k → (gg : Ghost) → Knows limit cuts gg (nested_in f) (taking 2 (taking 2 s)) (inside env)
     → Lends (nested_in f) gg cs (Rattle.stack_code.specs.Deeds.asked site l u cl ch (pos 0))
     (Meaning.site_at site chunk (Range p false low high check filter) (cut_of k (Rattle.ada_meaning.specs.Values.count l u)) k (record { count = Rattle.ada_meaning.specs.Values.count l u; bound = λ i. Meaning.with_parameter p (cond false (u -ℤ pos i) (l +ℤ pos i)) }) (inside env))

@@ -1,5 +1,6 @@
 -- The code of statements, handlers, bodies and of a program is put together forward: so a program's code is forward.
-use Rattle.std.proofs.Common.{◌≡◌, ℕ, zero, suc, ◌+◌, nat_eq, List, [], ◌∷◌, length, slice_get, Option, Some, None, Bool, true, false, not, ◌&&◌, refl, sym, ap, ◌∙◌, inl, inr}
+use Rattle.std.proofs.Common.{◌≡◌, ℕ, zero, suc, ◌+◌, nat_eq, List, [], ◌∷◌, length, slice_get, Option, Some, None, Bool, true, false, not, ◌&&◌, refl, sym, ap, ◌∙◌, inl, inr, cond}
+use Rattle.std.proofs.lemmas.Option.{none-some}
 use Rattle.ada_meaning.proofs.Cells.{some_same}
 use Rattle.ada_base.specs.declared.reason.Reason.{Reason}
 use Rattle.typed_tree.specs.declared.scalars.Class.{Class}
@@ -8,6 +9,7 @@ use Rattle.typed_tree.specs.declared.scalars.Scalar.{Scalar}
 use Rattle.typed_tree.specs.declared.statements.Span.{Span}
 use Rattle.typed_tree.specs.declared.program.Field.{Field}
 use Rattle.behaviours.specs.Paths.{VariableOf, ConstantOf}
+use Rattle.typed_tree.specs.declared.program.Site.{Site}
 use Rattle.typed_tree.specs.Syntax.{Optional, Absent, Present, Actuals, NoActual, In, InOut, Out, CompositeInOut, CompositeOut, Number, Cells, Pieces, NoPiece, Text, Image, Padded, Decls, NoDecl, DeclareDefault, DeclareVariable, DeclareConstant, Mentions, Iteration, Chunk, Stmt, Null, Assign, CallProcedure, Exit, Return, ReturnValue, Raise, Reraise, IfThen, Case, Loop, For, ParallelFor, Parallel, Block, Put, Get, Stmts, End, Then, Alternatives, NoAlternative, Alternative, Handled, Others, Reasons, Handlers, NoHandler, Handler, Arms, NoArm, Arm, Sub, Subtype, OfScalar, Array, Record, Program}
 use Rattle.ada_meaning.specs.Values.{components}
 use Rattle.ada_meaning.specs.Meaning.{object_layout, arms_of}
@@ -16,11 +18,13 @@ use Rattle.stack_code.specs.declared.code.Around.TheVariants as body
 use Rattle.stack_code.specs.declared.code.Code.{Code}
 use Rattle.stack_code.specs.declared.instr.Instr.TheVariants as i
 use Rattle.stack_code.specs.Stands.{IsForward}
-use Rattle.lower_emission.specs.Emits.{Emit}
+use Rattle.lower_emission.specs.declared.types.Placed.{Placed}
+use Rattle.lower_emission.specs.Emits.{Emit, listed}
 use Rattle.lower_emission.specs.Scope.{Scope, own, taking, with_exit, with_entry, with_target, with_handled, nested, thread_scope, store_at, none, one, root_of}
 use Rattle.lower_emission.specs.Bodies as code
 use Rattle.ada_lower.specs.Sights.{Level, Own, Around, Main, Where, Named, Leaving, ByEnd, ByReturn, ByValue, ByLeave}
-use Rattle.ada_lower.specs.Emission.{emit, selected, passed, put_into, composed, filtered, iterated, chunk_code, course_code, threaded, lost, checked, address, is_whole, chunk_scope, ends_code, cells_of, passing, composite_width, width, no_handler, is_end, assigned, in_span, chosen, has_reason, handled_by, returning, returning_value, exiting, away, handled_target, image_instr, send_instr, piece_texts, field_defaults, default_of, defaults_within, defaulted, subtype_or_none, object_here, exits_of, arm_exits, left_by, exit_code, exits_code, left_returns, left_code, no_loop, declared, back_one, back_cells, parallel_for, in_share, arms_code, chunk_by, arm_scope, parallel_block, back_code, piece_values, stmt, all, cases, handling, arm_codes, Shape, shapes}
+use Rattle.ada_lower.specs.Emission.{emit, selected, passed, put_into, composed, filtered, iterated, chunk_code, course_code, threaded, lost, checked, address, is_whole, chunk_scope, ends_code, cells_of, passing, composite_width, width, no_handler, is_end, assigned, in_span, chosen, has_reason, handled_by, returning, returning_value, exiting, away, handled_target, image_instr, send_instr, piece_texts, field_defaults, default_of, defaults_within, defaulted, subtype_or_none, object_here, exits_of, arm_exits, left_by, exit_code, exits_code, left_returns, is_own, left_code, declared, back_one, back_cells, parallel_for, in_share, arms_code, chunk_by, arm_scope, parallel_block, back_code, piece_values, stmt, all, cases, handling, arm_codes, Shape, shapes}
+use Rattle.lower_emission.specs.Programs.{has_fork, idle_fork, idle_forks, whole_code}
 use Rattle.ada_lower.specs.ProgramCode.{IsCodeOf}
 use Rattle.ada_lower.proofs.Forward.{Also, Fore}
 use Rattle.ada_lower.proofs.ForwardCode.{Nowhere, forward_code}
@@ -92,11 +96,11 @@ module _ (l t : ℕ → Type 0) (s : Scope) (k : Known l s) where
   fore_left_by : (d way : ℕ) → Fore l t (left_by s d way)
   fore_left_by d way = (((λ n z. absurd z), k.0), (((λ n z. absurd z), k.0), ((λ n z. absurd z), k.0)))
 
-  fore_exits : (d number : ℕ) (ns : List ℕ) → Fore l t (exits_code s d number ns)
+  fore_exits : (d : ℕ) (number : Option ℕ) (ns : List ℕ) → Fore l t (exits_code s d number ns)
   fore_exits d number [] = tt
-  fore_exits d number (n ∷ ns) = (fore_cond l t s k (nat_eq number n) none _ tt (fore_left_by d (n + 3), (k.0, fore_exiting n (s.exits n) refl)), fore_exits d number ns)
+  fore_exits d number (n ∷ ns) = (fore_cond l t s k (is_own number n) none _ tt (fore_left_by d (n + 3), (k.0, fore_exiting n (s.exits n) refl)), fore_exits d number ns)
 
-  fore_left : (number : ℕ) (loops : List ℕ) → Fore l t (left_code s number loops)
+  fore_left : (number : Option ℕ) (loops : List ℕ) → Fore l t (left_code s number loops)
   fore_left number loops = (
     ((λ n z. absurd z), k.0),
     (
@@ -171,7 +175,7 @@ module _ (program : Program) where
 
   fore_parallel_for : (l t : ℕ → Type 0) (s : Scope) (number site : ℕ) (chunk : Chunk) (it : Iteration) (loops : List ℕ) (body : Scope → Emit) → Known l s → ForeTurns l t body → Fore l t (parallel_for program s number site chunk it loops body)
   fore_parallel_for l t s number site chunk it loops body k f =
-      (((λ n z. absurd z), k.0), (fore_chunk program l t (nested s) 0 chunk k, (fore_course program l t (taking 2 (nested s)) 0 it k, (fore_ends l t (taking 2 (nested s)) k 0 it, ((((λ n z. absurd z), k.0), (((λ n z. absurd z), k.0), (((λ n z. absurd z), k.0), (((λ n z. absurd z), k.0), (k.0, (fore_threaded program l t (thread_scope site s) 0 chunk (s.free + 1 + 1) it body refl (λ n. refl) f, ((λ n z. absurd z), (known_chunk l chunk (taking 2 (thread_scope site s)) refl (λ n. refl)).0))))))), (((λ n z. absurd z), k.0), fore_left l t (taking 2 (taking 2 s)) k number loops))))))
+      (((λ n z. absurd z), k.0), (fore_chunk program l t (nested s) 0 chunk k, (fore_course program l t (taking 2 (nested s)) 0 it k, (fore_ends l t (taking 2 (nested s)) k 0 it, ((((λ n z. absurd z), k.0), (((λ n z. absurd z), k.0), (((λ n z. absurd z), k.0), (((λ n z. absurd z), k.0), (k.0, (fore_threaded program l t (thread_scope site s) 0 chunk (s.free + 1 + 1) it body refl (λ n. refl) f, ((λ n z. absurd z), (known_chunk l chunk (taking 2 (thread_scope site s)) refl (λ n. refl)).0))))))), (((λ n z. absurd z), k.0), fore_left l t (taking 2 (taking 2 s)) k (Some number) loops))))))
 
   -- the scope of a block's threads knows no handler and no exit
   known_arm : (l : ℕ → Type 0) (s : Scope) (site : ℕ) → Known l (arm_scope program s site)
@@ -179,7 +183,7 @@ module _ (program : Program) where
 
   fore_parallel_block : (l t : ℕ → Type 0) (s : Scope) (site : ℕ) (threads : Optional) (count : ℕ) (loops : List ℕ) (arms : Emit) → Known l s → Fore l t arms → Fore l t (parallel_block program s site threads count loops arms)
   fore_parallel_block l t s site threads count loops arms k f =
-      (((λ n z. absurd z), k.0), (fore_chunk program l t (nested s) 0 (chunk_by program threads) k, (((λ n z. absurd z), k.0), (((λ n z. absurd z), k.0), ((((λ n z. absurd z), k.0), (((λ n z. absurd z), k.0), (((λ n z. absurd z), k.0), (((λ n z. absurd z), k.0), (k.0, (f, ((λ n z. absurd z), (known_arm l s site).0))))))), (((λ n z. absurd z), k.0), fore_left l t (taking 2 s) k no_loop loops))))))
+      (((λ n z. absurd z), k.0), (fore_chunk program l t (nested s) 0 (chunk_by program threads) k, (((λ n z. absurd z), k.0), (((λ n z. absurd z), k.0), ((((λ n z. absurd z), k.0), (((λ n z. absurd z), k.0), (((λ n z. absurd z), k.0), (((λ n z. absurd z), k.0), (k.0, (f, ((λ n z. absurd z), (known_arm l s site).0))))))), (((λ n z. absurd z), k.0), fore_left l t (taking 2 s) k None loops))))))
 
   mutual
     unfolding Rattle.ada_lower.specs.Emission.stmt
@@ -275,6 +279,22 @@ module _ (program : Program) where
   fore_main l t s (DeclareConstant x initial more) k = (fore_into program l t (taking (width program initial) s) 0 s.free initial k, fore_main l t (code.main_object s (ConstantOf x) (width program initial)) more k)
   fore_main l t s (Mentions es more) k = fore_main l t s more k
 
+  -- ---- what no run comes to
+
+  fore_idle : (l t : ℕ → Type 0) (text : List ℕ → ℕ) (ps : List Placed) (n : ℕ) (sites : List Site) → Fore l t (idle_forks (code.main_scope text) ps n sites)
+  fore_idle l t text ps n [] = tt
+  fore_idle l t text ps n (x ∷ more) = (go (has_fork n ps), fore_idle l t text ps (n + 1) more)
+    where
+      none_holds : (e : ℕ) → None ≡ Some e → l e
+      none_holds e z = absurd (none-some e z)
+
+      go : (b : Bool) → Fore l t (cond b none (idle_fork (code.main_scope text) n))
+      go true = tt
+      go false = (((λ n z. absurd z), none_holds), ((none_holds, ((λ n z. absurd z), none_holds)), ((λ n z. absurd z), none_holds)))
+
   -- the code of every program is forward
   pub program_forward : (text : List ℕ → ℕ) (c : Code) → IsCodeOf program text c → IsForward c
-  program_forward text c is = forward_code c (code.program_code program text) is.lists (fore_main Nowhere Nowhere (code.main_scope text) program.body.decls (known_nothing Nowhere (code.main_scope text) refl (λ n. refl)))
+  program_forward text c is = forward_code c (whole_code program text) is.lists (
+    fore_main Nowhere Nowhere (code.main_scope text) program.body.decls (known_nothing Nowhere (code.main_scope text) refl (λ n. refl)),
+    fore_idle Nowhere Nowhere text (listed (code.program_code program text) 0) 0 program.sites,
+  )

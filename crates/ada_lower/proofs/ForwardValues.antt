@@ -21,7 +21,7 @@ use Rattle.stack_code.specs.Stands.{IsTarget}
 use Rattle.lower_emission.specs.Emits.{Emit}
 use Rattle.lower_emission.specs.Scope.{Scope, own, taking, with_exit, with_parameter, with_item, nested, thread_scope, load_at, address_at, load_of, address_of, none, one, ◌⨟◌, root_of, constant_root_of}
 use Rattle.ada_lower.specs.Sights.{Level, Own, Around, Main, Where, Named}
-use Rattle.ada_lower.specs.Emission.{emit, selected, passed, put_into, composed, associated, component, filtered, iterated, chunk_code, course_code, threaded, lost, checked, load_by, load, load_named, load_where, address, is_whole, part_of, unary_instr, binary_instr, compare_instr, falsity, truth, within, negated_code, leaving_by, first_parameter, range_scope, item_scope, counting, bounds_code, ascending, stepping, folding, ranged, combined, doubled, filling, fillings, is_plain, takes_turns, iterated_scope, turning, turnings, width, composite_width, array_root_of, chunk_scope, raise_above, raise_beyond, ends_code, fork_code, turns_code, items_code, turn_range, turn_component, cells_of, formal_of, passing}
+use Rattle.ada_lower.specs.Emission.{emit, selected, passed, put_into, composed, associated, component, filtered, iterated, chunk_code, course_code, threaded, lost, checked, load_by, load, load_named, load_where, address, is_whole, part_of, unary_instr, binary_instr, compare_instr, falsity, truth, within, negated_code, leaving_by, first_parameter, range_scope, item_scope, counting, bounds_code, ascending, stepping, folding, ranged, combined, doubled, filling, fillings, is_plain, takes_turns, iterated_scope, turning, turnings, entering, entering_next, run_steps, run_turnings, turn_height, width, composite_width, array_root_of, chunk_scope, raise_above, raise_beyond, ends_code, fork_code, turns_code, items_code, turn_range, turn_component, cells_of, formal_of, passing}
 use Rattle.ada_lower.proofs.Forward.{BeginsTurn, Also, Fore}
 
 -- the handler and the exits that are known where code is emitted are landmarks
@@ -215,9 +215,27 @@ module _ (l t : ℕ → Type 0) (s : Scope) (k : Known l s) where
     ),
   )
 
-  pub fore_turnings : (h n : ℕ) (low : ℤ) (component : Emit) (rs : List Run) → ForeComponent component → Fore l t (turnings s h n low component rs)
+  fore_entering : (h n : ℕ) (low : ℤ) (count first : ℕ) → Fore l t (entering s h n low count first)
+  fore_entering h n low count first = (((λ n z. absurd z), k.0), (((λ n z. absurd z), k.0), (((λ n z. absurd z), k.0), (((λ n z. absurd z), k.0), (((λ n z. absurd z), k.0), ((λ n z. absurd z), k.0))))))
+
+module _ (l t : ℕ → Type 0) (s : Scope) (k : Known l s) where
+  fore_next : (h n : ℕ) (low : ℤ) (head m : ℕ) (rs : List Run) → Fore l (λ y. Also t head y) (entering_next s h n low head m rs)
+  fore_next h n low head m [] = tt
+  fore_next h n low head m (r ∷ rs) = fore_cond l (λ y. Also t head y) s k (nat_eq r.count 0) _ _ (fore_next h n low head (m + 1) rs) (((λ n z. absurd z), k.0), (((λ n z. absurd z), k.0), (fore_entering l (λ y. Also t head y) s k (h + 1) n low r.count r.first, ((λ n z. inl (inr z)), k.0))))
+
+  fore_steps : (h n : ℕ) (low : ℤ) (head m : ℕ) (rs : List Run) → Fore l (λ y. Also t head y) (run_steps s h n low head m rs)
+  fore_steps h n low head m [] = tt
+  fore_steps h n low head m (r ∷ rs) = ((((λ n z. absurd z), k.0), (((λ n z. absurd z), k.0), (((λ n z. absurd z), k.0), (k.0, (fore_stepping l t s k (h + 1) (s.free + 1 + 1) r.stride s.free head, fore_next h n low head (m + 1) rs))))), fore_steps h n low head (m + 1) rs)
+
+  fore_runs : (h n : ℕ) (low : ℤ) (component : Emit) (m : ℕ) (rs : List Run) → ForeComponent l t s k component → Fore l t (run_turnings s h n low component m rs)
+  fore_runs h n low component m [] f = tt
+  fore_runs h n low component m (r ∷ rs) f = fore_cond l t s k (nat_eq r.count 0) _ _ (fore_runs h n low component (m + 1) rs f)
+      (((λ n z. absurd z), k.0), (fore_entering l t s k (h + 1) n low r.count r.first, ((k.0, (begins s (h + 1) (λ x. component), ((λ x. (((λ n z. absurd z), (known_more l s x k).0), f (λ y. Also l x y) (λ n is. inl is))), (λ x. fore_steps h n low x m (r ∷ rs))))), ((λ n z. absurd z), k.0))))
+
+  pub fore_turnings : (h n : ℕ) (low : ℤ) (component : Emit) (rs : List Run) → ForeComponent l t s k component → Fore l t (turnings s h n low component rs)
   fore_turnings h n low component [] f = tt
-  fore_turnings h n low component (r ∷ rs) f = (fore_cond l t s k (nat_eq r.count 0) none _ tt (fore_turning h n low component r.count r.first r.stride f), fore_turnings h n low component rs f)
+  fore_turnings h n low component (r ∷ []) f = fore_cond l t s k (nat_eq r.count 0) none _ tt (fore_turning l t s k h n low component r.count r.first r.stride f)
+  fore_turnings h n low component (r ∷ p ∷ rs) f = fore_runs h n low component 0 (r ∷ p ∷ rs) f
 
 -- what is done in turns, in a scope whose handler and exits are known
 abbrev pub ForeTurns : (ℕ → Type 0) → (ℕ → Type 0) → (Scope → Emit) → Type 1
@@ -323,12 +341,12 @@ module _ (program : Program) where
     pub fore_associated : (l t : ℕ → Type 0) (s : Scope) (h n : ℕ) (x : Associations) → Known l s → Fore l t (associated program s h n x)
     fore_associated l t s h n NoAssociation k = tt
     fore_associated l t s h n (Association runs None mentions value rest) k = (
-      fore_cond l t s k (takes_turns runs None value) _ _ (fore_turnings l t s k h n (pos 0) _ runs (λ l' up. fore_component l' t (taking 3 s) h (s.free + 1 + 1) value ((λ e is. up e (k.0 e is)), (λ j e is. up e (k.1 j e is)))))
+      fore_cond l t s k (takes_turns runs None value) _ _ (fore_turnings l t s k h n (pos 0) _ runs (λ l' up. fore_component l' t (taking 3 s) (turn_height runs h) (s.free + 1 + 1) value ((λ e is. up e (k.0 e is)), (λ j e is. up e (k.1 j e is)))))
           (fore_fillings l t s k h n (width program value) (is_plain value) _ runs (λ m. fore_into l t s h (n + m) value k)),
       fore_associated l t s h n rest k,
     )
     fore_associated l t s h n (Association runs (Some x) mentions value rest) k =
-        (fore_turnings l t s k h n x.first _ runs (λ l' up. fore_component l' t (iterated_scope s x.parameter) h (s.free + 1 + 1) value ((λ e is. up e (k.0 e is)), (λ j e is. up e (k.1 j e is)))), fore_associated l t s h n rest k)
+        (fore_turnings l t s k h n x.first _ runs (λ l' up. fore_component l' t (iterated_scope s x.parameter) (turn_height runs h) (s.free + 1 + 1) value ((λ e is. up e (k.0 e is)), (λ j e is. up e (k.1 j e is)))), fore_associated l t s h n rest k)
 
     pub fore_component : (l t : ℕ → Type 0) (s : Scope) (h at : ℕ) (x : Value) → Known l s → Fore l t (component program s h at x)
     fore_component l t s h at (Number check e) k = (((λ n z. absurd z), k.0), (fore_emit l t s (h + 1) e k, (((λ n z. absurd z), k.0), ((λ n z. absurd z), k.0))))

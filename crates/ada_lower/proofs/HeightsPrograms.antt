@@ -27,7 +27,7 @@ use Rattle.lower_emission.specs.Scope.{Scope, own, taking, with_object}
 use Rattle.lower_emission.specs.Emission.{Shape, lead, shapes, shapes_cells, put_into, width}
 use Rattle.lower_emission.specs.Statements.{stmt, defaulted}
 use Rattle.lower_emission.specs.Bodies.{placed, leaving_of, ending, main_named, main_scope, sub_scope, sub_code, subs_code, main_declared, behind_main, program_code}
-use Rattle.lower_emission.specs.Programs.{has_result, behind, main_halts, main_end, sub_place, sub_entry}
+use Rattle.lower_emission.specs.Programs.{has_result, behind, main_halts, main_end, sub_place, sub_entry, whole_code}
 use Rattle.ada_lower.specs.Defaults.{Filled}
 use Rattle.ada_lower.specs.ProgramCode.{IsCodeOf}
 use Rattle.ada_lower.specs.Ready.{Calls, ReadyBody, ReadySubs, IsReady}
@@ -37,6 +37,7 @@ use Rattle.ada_lower.proofs.Heights.{Place, Here, Nowhere, forks, In, Told, Kept
 use Rattle.ada_lower.proofs.HeightsTables.{as_long, spots_fit, handlers_fit, guards_fit, spot_lands}
 use Rattle.ada_lower.proofs.HeightsScopes.{at, LevelFits, Known, in_le, known_object, firm_raise}
 use Rattle.ada_lower.proofs.HeightsValues.{Same, at_same, firm_into}
+use Rattle.ada_lower.proofs.HeightsIdle.{idle_at, firm_idle}
 use Rattle.ada_lower.proofs.HeightsStatements.{LeavingFits, Knows, knows_as, firm_stmt, firm_defaulted}
 
 -- ---- lists
@@ -123,10 +124,10 @@ module _ (c : Code) (program : Program) (text : List ℕ → ℕ) (filled : (x :
           firm_ending u unit.result ku.names (subst (λ b. LeavingFits c b (leaving_of unit.result)) (sym same.0) leaving) Q,
         )
 
-    -- where subprograms begin, from a number on
-    abbrev start : ℕ → List Sub → Place
-    start k [] = Nowhere
-    start k (unit ∷ more) = Here (body.Sub (k + 1)) 0 0
+    -- where subprograms begin, from a number on, and what is behind them
+    abbrev start : Place → ℕ → List Sub → Place
+    start E k [] = E
+    start E k (unit ∷ more) = Here (body.Sub (k + 1)) 0 0
 
     abbrev From : ℕ → List Sub → Type 0
     From k us = (j : ℕ) (unit : Sub) → sub_at us j ≡ Some unit → sub_at program.subs (k + j) ≡ Some unit
@@ -137,9 +138,9 @@ module _ (c : Code) (program : Program) (text : List ℕ → ℕ) (filled : (x :
     from_next : (k : ℕ) (unit : Sub) (more : List Sub) → From k (unit ∷ more) → From (k + 1) more
     from_next k unit more f j u e = let z : k + suc j ≡ k + 1 + j = omega arith in subst (λ k. sub_at program.subs k ≡ Some u) z (f (suc j) u e)
 
-    firm_subs : (k : ℕ) (us : List Sub) → From k us → ReadySubs program us → Kept c (subs_code program t k us) → Firm c nowhere (subs_code program t k us) (start k us) Nowhere
-    firm_subs k [] f w r = refl
-    firm_subs k (unit ∷ more) f w (r, r') = (start (k + 1) more, firm_sub k unit (from_first k unit more f) w.0 r (start (k + 1) more), firm_subs (k + 1) more (from_next k unit more f) w.1 r')
+    firm_subs : (E : Place) (k : ℕ) (us : List Sub) → From k us → ReadySubs program us → Kept c (subs_code program t k us) → Firm c nowhere (subs_code program t k us) (start E k us) E
+    firm_subs E k [] f w r = refl
+    firm_subs E k (unit ∷ more) f w (r, r') = (start E (k + 1) more, firm_sub k unit (from_first k unit more f) w.0 r (start E (k + 1) more), firm_subs E (k + 1) more (from_next k unit more f) w.1 r')
 
     module _ (ps : List Placed) (house : (q : ℕ) (p : Placed) → slice_get ps q ≡ Some p → In c p.body p.cells × Told c p.body p.kind p.instr) where
       subs_begin : (k : ℕ) (us : List Sub) (j q : ℕ) (unit : Sub) → From k us → ReadySubs program us → sub_at us j ≡ Some unit → There c ps q (listed (subs_code program t k us) q) → Stood c ps (body.Sub (k + j + 1)) 0 0 (sub_place program t k us j q)
@@ -184,32 +185,32 @@ module _ (c : Code) (program : Program) (text : List ℕ → ℕ) (filled : (x :
     all_from : From (λ x. None) 0 (λ x n e. absurd (none-some n e)) 0 program.subs
     all_from j unit e = let z : j ≡ 0 + j = omega arith in subst (λ j. sub_at program.subs j ≡ Some unit) z e
 
-    firm_main : (decls : Decls) (o : Entity → Option Named) (n : ℕ) → ObjectsFit o → ReadyBody program (record (program.body) { decls = decls }) → Kept c (main_code o n decls) → Firm c nowhere (main_code o n decls) (Here (body.Sub 0) 0 0) Nowhere
-    firm_main NoDecl o n f w ((r1, r2), r3) =
+    firm_main : (E : Place) (decls : Decls) (o : Entity → Option Named) (n : ℕ) → ObjectsFit o → ReadyBody program (record (program.body) { decls = decls }) → Kept c (main_code o n decls) → Firm c nowhere (main_code o n decls) (Here (body.Sub 0) 0 0) E
+    firm_main E NoDecl o n f w ((r1, r2), r3) =
         let k : Knows c nowhere (main_at o n) = knows_outer o n ByEnd 0 f refl in (
-          start o n f 0 program.subs,
+          start o n f E 0 program.subs,
           (at (main_at o n) 0, firm_stmt c program filled called nowhere (main_at o n) (Block NoDecl program.body.stmts program.body.handlers) w k r1, record { here = refl; marked = k.names.entry; base = 0; operands = refl; begun = omega arith; ways = tt; belongs = λ q. refl }),
-          firm_subs o n f 0 program.subs all_from ready r3,
+          firm_subs o n f E 0 program.subs all_from ready r3,
         )
-    firm_main (DeclareDefault x more) o n f w (r, r') =
+    firm_main E (DeclareDefault x more) o n f w (r, r') =
         let cells : ℕ = length (object_layout program x) in (
           Here (body.Sub 0) 0 0,
           firm_defaulted c program filled nowhere (main_at o n) x (known_outer o n ByEnd (body.Sub 0) f) r,
-          firm_main more (λ y. more_objects o n (VariableOf x) cells y) (n + cells) (more_fit o n (VariableOf x) cells (main_room more (λ y. more_objects o n (VariableOf x) cells y) (n + cells) r') f) w r',
+          firm_main E more (λ y. more_objects o n (VariableOf x) cells y) (n + cells) (more_fit o n (VariableOf x) cells (main_room more (λ y. more_objects o n (VariableOf x) cells y) (n + cells) r') f) w r',
         )
-    firm_main (DeclareVariable x initial more) o n f w (r, r') =
+    firm_main E (DeclareVariable x initial more) o n f w (r, r') =
         let cells : ℕ = width program initial in (
           Here (body.Sub 0) 0 0,
           firm_into c program called nowhere (taking cells (main_at o n)) 0 n cells initial w.0.0 (known_outer o (n + cells) ByEnd (body.Sub 0) f) (omega arith) r,
-          firm_main more (λ y. more_objects o n (VariableOf x) cells y) (n + cells) (more_fit o n (VariableOf x) cells (main_room more (λ y. more_objects o n (VariableOf x) cells y) (n + cells) r') f) (w.0.1, w.1, w.2) r',
+          firm_main E more (λ y. more_objects o n (VariableOf x) cells y) (n + cells) (more_fit o n (VariableOf x) cells (main_room more (λ y. more_objects o n (VariableOf x) cells y) (n + cells) r') f) (w.0.1, w.1, w.2) r',
         )
-    firm_main (DeclareConstant x initial more) o n f w (r, r') =
+    firm_main E (DeclareConstant x initial more) o n f w (r, r') =
         let cells : ℕ = width program initial in (
           Here (body.Sub 0) 0 0,
           firm_into c program called nowhere (taking cells (main_at o n)) 0 n cells initial w.0.0 (known_outer o (n + cells) ByEnd (body.Sub 0) f) (omega arith) r,
-          firm_main more (λ y. more_objects o n (ConstantOf x) cells y) (n + cells) (more_fit o n (ConstantOf x) cells (main_room more (λ y. more_objects o n (ConstantOf x) cells y) (n + cells) r') f) (w.0.1, w.1, w.2) r',
+          firm_main E more (λ y. more_objects o n (ConstantOf x) cells y) (n + cells) (more_fit o n (ConstantOf x) cells (main_room more (λ y. more_objects o n (ConstantOf x) cells y) (n + cells) r') f) (w.0.1, w.1, w.2) r',
         )
-    firm_main (Mentions es more) o n f w r = firm_main more o n f w r
+    firm_main E (Mentions es more) o n f w r = firm_main E more o n f w r
 
     module _ (ps : List Placed) (house : (q : ℕ) (p : Placed) → slice_get ps q ≡ Some p → In c p.body p.cells × Told c p.body p.kind p.instr) where
       main_begin : (decls : Decls) (o : Entity → Option Named) (n q : ℕ) → ObjectsFit o → There c ps q (listed (main_code o n decls) q) → (k : ℕ) (unit : Sub) → sub_at program.subs k ≡ Some unit
@@ -237,7 +238,11 @@ module _ (c : Code) (program : Program) (text : List ℕ → ℕ) (filled : (x :
 
 module _ (program : Program) (text : List ℕ → ℕ) (c : Code) (is : IsCodeOf program text c) (tables : HasTables program text c) (ready : IsReady program) (filled : (x : ℕ) → Filled program x) where
   abbrev ps : List Placed
-  ps = listed (program_code program text) 0
+  ps = listed (whole_code program text) 0
+
+  -- the listing of bodies
+  abbrev bodies : List Placed
+  bodies = listed (program_code program text) 0
 
   told : (q : ℕ) (p : Placed) → slice_get ps q ≡ Some p → (j : Instr) → p.instr ≡ j → Told c p.body p.kind j
   told q p e (i.Words k) is = tables.texts q k p e is
@@ -254,13 +259,18 @@ module _ (program : Program) (text : List ℕ → ℕ) (c : Code) (is : IsCodeOf
   none_fit : (x : Entity) (n : Named) → None ≡ Some n → (n.place.level ≡ Main) × In c (body.Sub 0) n.place.cell
   none_fit x n e = absurd (none-some n e)
 
-  firm_program : Firm c nowhere (program_code program text) (Here (body.Sub 0) 0 0) Nowhere
-  firm_program = firm_main c program text filled tables.main tables.subs ready.1 program.body.decls (λ x. None) 0 none_fit ready.0 (kept c ps house (program_code program text) 0 all_there)
+  all_kept : Kept c (whole_code program text)
+  all_kept = kept c ps house (whole_code program text) 0 all_there
+
+  firm_program : Firm c nowhere (whole_code program text) (Here (body.Sub 0) 0 0) Nowhere
+  firm_program =
+      let idle : Place = idle_at bodies 0 program.sites in
+      (idle, firm_main c program text filled tables.main tables.subs ready.1 idle program.body.decls (λ x. None) 0 none_fit ready.0 all_kept.0, firm_idle c text bodies 0 program.sites all_kept.1)
 
   fit : (q : ℕ) (p : Placed) → slice_get ps q ≡ Some p → Fit c ps q p
   fit q p e =
       let z : 0 + q ≡ q = omega arith in
-      subst (λ n. Fit c ps n p) z (fit_at c ps 0 ps q p (firm_fits c ps house nowhere (program_code program text) (Here (body.Sub 0) 0 0) Nowhere 0 firm_program all_there (λ n P z. absurd z) tt) e)
+      subst (λ n. Fit c ps n p) z (fit_at c ps 0 ps q p (firm_fits c ps house nowhere (whole_code program text) (Here (body.Sub 0) 0 0) Nowhere 0 firm_program all_there (λ n P z. absurd z) tt) e)
 
   lands_at : (b : Body) (h n q : ℕ) → Stood c ps b h n q → Lands c b h n q
   lands_at b h n q w = spot_lands c ps is.lists.instrs tables.spots is.lists.unwind tables.heights fit b h n q w
@@ -268,7 +278,7 @@ module _ (program : Program) (text : List ℕ → ℕ) (c : Code) (is : IsCodeOf
   sub_fits : (k : ℕ) (s : CodeSub) → slice_get c.subs k ≡ Some s → SubFits c k s
   sub_fits zero s e =
       let f = has_fact (slice_get c.subs 0) (λ s. (s.entry ≡ 0) × (s.takes ≡ 0)) s tables.main e in
-      let there : Stood c ps (body.Sub 0) 0 0 0 = lands c ps house nowhere (program_code program text) (Here (body.Sub 0) 0 0) Nowhere 0 firm_program all_there tt in
+      let there : Stood c ps (body.Sub 0) 0 0 0 = lands c ps house nowhere (whole_code program text) (Here (body.Sub 0) 0 0) Nowhere 0 firm_program all_there tt in
       subst (λ n. Lands c (body.Sub 0) n 0 s.entry) (sym f.1) (subst (λ q. Lands c (body.Sub 0) 0 0 q) (sym f.0) (lands_at (body.Sub 0) 0 0 0 there))
   sub_fits (suc k) s e =
       let z : suc k ≡ k + 1 = omega arith in
@@ -277,7 +287,7 @@ module _ (program : Program) (text : List ℕ → ℕ) (c : Code) (is : IsCodeOf
       let (u, there, entry, cells) = is.subs k unit eo in
       let same : u ≡ s = some_same u s (sym there ∙ e') in
       let takes : s.takes ≡ 0 = (has_fact (slice_get c.subs (k + 1)) (λ s. (s.takes ≡ 0) × (s.gives ≡ has_result unit.result)) s (tables.subs k unit eo) e').0 in
-      let begins : Stood c ps (body.Sub (k + 1)) 0 0 (sub_entry program text k) = main_begin c program text filled tables.main tables.subs ready.1 ps house program.body.decls (λ x. None) 0 0 none_fit all_there k unit eo in
+      let begins : Stood c ps (body.Sub (k + 1)) 0 0 (sub_entry program text k) = main_begin c program text filled tables.main tables.subs ready.1 ps house program.body.decls (λ x. None) 0 0 none_fit (there_split c ps 0 bodies _ all_there).0 k unit eo in
       subst (λ n. SubFits c n s) (sym z)
       (subst (λ n. Lands c (body.Sub (k + 1)) n 0 s.entry) (sym takes) (subst (λ q. Lands c (body.Sub (k + 1)) 0 0 q) (sym entry ∙ ap (λ u. u.entry) same) (lands_at (body.Sub (k + 1)) 0 0 (sub_entry program text k) begins)))
 

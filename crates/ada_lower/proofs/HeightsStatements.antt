@@ -29,7 +29,7 @@ use Rattle.lower_emission.specs.Emits.{Emit}
 use Rattle.lower_emission.specs.Scope.{Scope, own, taking, nested, thread_scope, with_object, with_target, with_handled, with_exit, with_entry, root_of, none, one, ◌⨟◌, choose, when_}
 use Rattle.lower_emission.specs.Emission.{is_whole, chunk_scope, loop_kind, shapes, shapes_cells, formals_in, formal_of, cells_of, passing, composite_width, width, checked}
 unfoldable use Rattle.lower_emission.specs.Emission.{emit, selected, passed, put_into, composed, chunk_code, course_code, threaded}
-use Rattle.lower_emission.specs.Statements.{no_handler, is_end, assigned, in_span, chosen, has_reason, handled_by, returning, returning_value, away, exiting, handled_target, image_instr, send_instr, width_of, piece_texts, object_here, exits_of, arm_exits, left_by, exits_code, left_code, no_loop, field_defaults, default_of, defaults_within, subtype_or_none, defaulted, declared, back_one, back_cells, parallel_for, in_share, arms_code, chunk_by, arm_scope, parallel_block}
+use Rattle.lower_emission.specs.Statements.{no_handler, is_end, assigned, in_span, chosen, has_reason, handled_by, returning, returning_value, away, exiting, handled_target, image_instr, send_instr, width_of, piece_texts, object_here, exits_of, arm_exits, left_by, exits_code, is_own, left_code, field_defaults, default_of, defaults_within, subtype_or_none, defaulted, declared, back_one, back_cells, parallel_for, in_share, arms_code, chunk_by, arm_scope, parallel_block}
 unfoldable use Rattle.lower_emission.specs.Statements.{back_code, piece_values, stmt, all, cases, handling, arm_codes}
 use Rattle.ada_lower.specs.Defaults.{EachFilled, FilledOf, FilledWithin, Filled}
 use Rattle.ada_lower.specs.Ready.{Calls, ReadyOptional, ReadyIteration, ReadyChunk, ReadyPieces, ReadyDecls, ReadyStmt, ReadyAll, ReadyAlternatives, ReadyArms, ReadyHandlers}
@@ -181,15 +181,15 @@ module _ (c : Code) where
     firm_left_by : (d way : ℕ) → In c s.body d → Firm c l (left_by s d way) (at s 0) (at s 1)
     firm_left_by d way cell = (at s 1, firm_own c l s k.names 0 d cell, (at s 2, plain c l s k.names 1 (i.Push (pos way)) tt, plain c l s k.names 0 i.Eq tt))
 
-    firm_exits : (d number : ℕ) (ns : List ℕ) → In c s.body d → Firm c l (exits_code s d number ns) (at s 0) (at s 0)
+    firm_exits : (d : ℕ) (number : Option ℕ) (ns : List ℕ) → In c s.body d → Firm c l (exits_code s d number ns) (at s 0) (at s 0)
     firm_exits d number [] cell = refl
-    firm_exits d number (n ∷ ns) cell = (at s 0, go (nat_eq number n), firm_exits d number ns cell)
+    firm_exits d number (n ∷ ns) cell = (at s 0, go (is_own number n), firm_exits d number ns cell)
       where
         go : (b : Bool) → Firm c l (cond b none (left_by s d (n + 3) ⨟ when_ s 0 (exiting s n (s.exits n)))) (at s 0) (at s 0)
         go true = refl
         go false = (at s 1, firm_left_by d (n + 3) cell, (refl, k.names.entry, refl, firm_exiting n (s.exits n) refl (at s 0)))
 
-    firm_left : (number : ℕ) (loops : List ℕ) → Kept c (left_code s number loops) → Firm c l (left_code s number loops) (at s 2) (at s 0)
+    firm_left : (number : Option ℕ) (loops : List ℕ) → Kept c (left_code s number loops) → Firm c l (left_code s number loops) (at s 2) (at s 0)
     firm_left number loops (r1, (r2, (r3, r4))) =
         let all : In c s.body (s.free + 1 + 1) = kept_next c l s k.names (s.free + 1) r2.0 in
         let c0 : In c s.body s.free = in_le c s.body s.free (s.free + 1 + 1) (omega arith) all in
@@ -397,7 +397,7 @@ module _ (c : Code) (program : Program) (filled : (x : ℕ) → Filled program x
                           (λ x y sm ky r. f x (at cs 0) y (sym (at_same cs y 0 sm)) (knows_as c l (Also l x (at cs 0)) cs y ky sm (λ n P z. inl z) kc) r) b1,
                       firm_end l cs kc (subst (λ b. IsThread c b false) (sym same.0) thread) (at v 2),
                     )) told,
-                (at s 2, firm_unnest c l s k.names 2, firm_left c l (taking 2 (taking 2 s)) (knows_taking c l (taking 2 s) 2 (knows_taking c l s 2 k)) number loops r7),
+                (at s 2, firm_unnest c l s k.names 2, firm_left c l (taking 2 (taking 2 s)) (knows_taking c l (taking 2 s) 2 (knows_taking c l s 2 k)) (Some number) loops r7),
               ),
             ),
           ),
@@ -444,7 +444,7 @@ module _ (c : Code) (program : Program) (filled : (x : ℕ) → Filled program x
                 at v 2,
                 firm_fork c l v kv 0 2 (kind.Block count) site s.free (one v (1 + 1 + 1 + 1) (i.Push (pos 0))) (arms ⨟ one (arm_scope program s site) 0 i.End) (in_le c s.body s.free (s.free + 1 + 1) (omega arith) two) (in_le c s.body (s.free + 1) (s.free + 1 + 1) (omega arith) two) (omega arith) refl (plain c l v kv 4 (i.Push (pos 0)) tt)
                     (Here (Site site) 0 0, f ka (told_cells c site s.body (kind.Block count) told) b1, firm_end l (arm_scope program s site) ka thread (at v 2)) told,
-                (at s 2, firm_unnest c l s k.names 2, firm_left c l (taking 2 s) (knows_taking c l s 2 k) no_loop loops r7),
+                (at s 2, firm_unnest c l s k.names 2, firm_left c l (taking 2 s) (knows_taking c l s 2 k) None loops r7),
               ),
             ),
           ),

@@ -1,5 +1,5 @@
 -- The code of expressions, values, aggregates, actual parameters and iterations: its heights fit.
-use Rattle.std.proofs.Common.{◌≡◌, ℕ, zero, suc, ◌+◌, ◌-◌, ◌*◌, ◌<◌, ◌≤◌, min, ℤ, pos, ◌&&◌, List, [], ◌∷◌, slice_get, nat_eq, nat_lt, Option, Some, None, Bool, true, false, cond, refl, sym, ap, ap₂, ◌∙◌, subst, arith, suc-mul, zero-mul, eqb-true, ltb-true}
+use Rattle.std.proofs.Common.{◌≡◌, ℕ, zero, suc, ◌+◌, ◌-◌, ◌*◌, ◌<◌, ◌≤◌, min, ℤ, pos, ◌&&◌, List, [], ◌∷◌, slice_get, nat_eq, nat_lt, Option, Some, None, Bool, true, false, cond, refl, sym, ap, ap₂, ◌∙◌, subst, arith, suc-mul, zero-mul, eqb-true, ltb-true, inr}
 use Rattle.std.specs.Prelude.{IsSomeAnd}
 use Rattle.std.proofs.lemmas.Bool.{eqb-false}
 use Rattle.behaviours.specs.Paths.{Entity, VariableOf, ConstantOf, entity_eq}
@@ -19,8 +19,8 @@ use Rattle.stack_code.specs.Valid.{Has, IsThread, outward, around_of}
 use Rattle.stack_code.proofs.Standing.{has_one}
 use Rattle.stack_code.proofs.Slacks.{has_map}
 use Rattle.lower_emission.specs.Emits.{Emit}
-use Rattle.lower_emission.specs.Scope.{Scope, own, taking, nested, thread_scope, with_parameter, with_item, root_of, constant_root_of, array_root_of, none, one, keep, ◌⨟◌}
-use Rattle.lower_emission.specs.Emission.{is_plain, takes_turns, Shape, lead, shapes, shapes_cells, formal_cell, address, folding, ranged, reducing, combined, leaving_by, first_parameter, range_scope, item_scope, doubled, filling, fillings, iterated_scope, turning, turnings, is_whole, chunk_scope, ends_code, reduction_kind, fork_code, turn_range, turn_component, cells_of, formals_in, formal_of, passing, composite_width, width}
+use Rattle.lower_emission.specs.Scope.{Scope, own, taking, nested, thread_scope, with_parameter, with_item, root_of, constant_root_of, array_root_of, none, one, keep, looped, ◌⨟◌}
+use Rattle.lower_emission.specs.Emission.{is_plain, takes_turns, Shape, lead, shapes, shapes_cells, formal_cell, address, folding, ranged, reducing, combined, leaving_by, first_parameter, range_scope, item_scope, doubled, filling, fillings, iterated_scope, turning, turnings, entering, entering_next, run_steps, run_turnings, turn_height, is_whole, chunk_scope, ends_code, reduction_kind, fork_code, turn_range, turn_component, cells_of, formals_in, formal_of, passing, composite_width, width}
 unfoldable use Rattle.lower_emission.specs.Emission.{emit, selected, passed, put_into, composed, associated, component, filtered, iterated, chunk_code, course_code, threaded}
 use Rattle.ada_lower.specs.Ready.{RunsIn, Calls, ReadyReducer, ReadyExpr, ReadyOptional, ReadySelections, ReadyActuals, ReadyValue, ReadyComposite, ReadyAssociations, ReadyIteration, ReadyChunk}
 use Rattle.ada_lower.proofs.Heights.{Place, Here, Behind, up, Also, In, Told, Kept, Firm}
@@ -171,21 +171,90 @@ module _ (c : Code) where
         let c2 : In c s.body (s.free + 1 + 1) = in_le c s.body (s.free + 1 + 1) (s.free + 1 + 1 + 1) (omega arith) all in
         (at s (h + 1), plain c l s k h (i.Push _) tt, (at s h, firm_keep c l s k h s.free r2, (at s (h + 1), plain c l s k h (i.Push _) tt, (at s h, firm_keep c l s k h (s.free + 1) r4, (at s (h + 1), firm_local c l s k h (t + first) (in_le c s.body (t + first) s.free inside room), (at s h, firm_keep c l s k h (s.free + 1 + 1) r6, (refl, k.entry, refl, (λ x kx. (at s h, plain c (Also l x (at s h)) s (known_more c l s x (at s h) k) h i.Turn tt, f x c2 kx.1)), (λ x kx. firm_stepping c l s k h (s.free + 1 + 1) stride s.free x c2 c0 c1 kx))))))))
 
-    pub firm_turnings : (h t n size : ℕ) (low : ℤ) (part : Emit) (rs : List Run) → t + n ≤ s.free → RunsIn n size rs → ((x : ℕ) → In c s.body (s.free + 1 + 1) → Kept c part → Firm c (Also l x (at s h)) part (at s h) (at s h))
+    firm_entering : (h t : ℕ) (low : ℤ) (count first : ℕ) → t + first ≤ s.free → Kept c (entering s h t low count first) → Firm c l (entering s h t low count first) (at s h) (at s h)
+    firm_entering h t low count first inside (r1, (r2, (r3, (r4, (r5, r6))))) =
+        (at s (h + 1), plain c l s k h (i.Push _) tt, (at s h, firm_keep c l s k h s.free r2, (at s (h + 1), plain c l s k h (i.Push _) tt, (at s h, firm_keep c l s k h (s.free + 1) r4, (at s (h + 1), firm_local c l s k h (t + first) (in_le c s.body (t + first) s.free inside room), firm_keep c l s k h (s.free + 1 + 1) r6)))))
+
+    run_first : (t n size : ℕ) (q : Run) → t + n ≤ s.free → ((j : ℕ) → j < q.count → q.first + j * q.stride + size ≤ n) → nat_eq q.count 0 ≡ false → t + q.first ≤ s.free
+    run_first t n size q inside run e =
+        let here = run 0 (above q.count (eqb-false q.count 0 e)) in omega (arith, here, inside, zero-mul q.stride)
+      where
+        above : (n : ℕ) → (n ≡ 0 → ⊥) → 0 < n
+        above zero apart = absurd (apart refl)
+        above (suc n) apart = omega arith
+
+    firm_next : (h t n size : ℕ) (low : ℤ) (head m : ℕ) (rs : List Run) → t + n ≤ s.free → RunsIn n size rs → l head (at s (h + 1)) → Kept c (entering_next s h t low head m rs) → Firm c l (entering_next s h t low head m rs) (at s (h + 1)) (at s (h + 1))
+    firm_next h t n size low head m [] inside runs to r = refl
+    firm_next h t n size low head m (q ∷ rs) inside (run, runs) to r = go (nat_eq q.count 0) refl r (λ r. firm_next h t n size low head (m + 1) rs inside runs to r)
+      where
+        go : (b : Bool) → nat_eq q.count 0 ≡ b → Kept c (cond b (entering_next s h t low head (m + 1) rs) (one s (h + 1) i.Pop ⨟ one s h (i.Push (pos m)) ⨟ entering s (h + 1) t low q.count q.first ⨟ one s (h + 1) (i.Jump head)))
+            → (Kept c (entering_next s h t low head (m + 1) rs) → Firm c l (entering_next s h t low head (m + 1) rs) (at s (h + 1)) (at s (h + 1)))
+            → Firm c l (cond b (entering_next s h t low head (m + 1) rs) (one s (h + 1) i.Pop ⨟ one s h (i.Push (pos m)) ⨟ entering s (h + 1) t low q.count q.first ⨟ one s (h + 1) (i.Jump head))) (at s (h + 1)) (at s (h + 1))
+        go true e r skips = skips r
+        go false e (r1, (r2, (r3, r4))) skips =
+            (at s h, plain c l s k h i.Pop tt, (at s (h + 1), plain c l s k h (i.Push (pos m)) tt, (at s (h + 1), firm_entering (h + 1) t low q.count q.first (run_first t n size q inside run e) r3, record { here = refl; marked = k.entry; base = h + 1; operands = refl; begun = omega arith; ways = to; belongs = λ q. tt })))
+
+  module _ (l : ℕ → Place → Type 0) (s : Scope) (k : Known c l s) (room : In c s.body s.free) where
+    firm_steps : (h t n size : ℕ) (low : ℤ) (head m : ℕ) (rs : List Run) → t + n ≤ s.free → RunsIn n size rs → In c s.body s.free → In c s.body (s.free + 1) → In c s.body (s.free + 1 + 1) → Kept c (run_steps s h t low head m rs)
+        → Firm c (Also l head (at s (h + 1))) (run_steps s h t low head m rs) (at s (h + 1)) (at s (h + 1))
+    firm_steps h t n size low head m [] inside runs c0 c1 c2 r = refl
+    firm_steps h t n size low head m (q ∷ rs) inside (run, runs) c0 c1 c2 ((r1, (r2, (r3, (r4, (r5, r6))))), r7) =
+        let l' : (ℕ → Place → Type 0) = Also l head (at s (h + 1)) in
+        let k' : Known c l' s = known_more c l s head (at s (h + 1)) k in (
+          at s (h + 1),
+          (
+            at s (h + 1 + 1),
+            plain c l' s k' h i.Dup tt,
+            (
+              at s (h + 1 + 1 + 1),
+              plain c l' s k' (h + 1 + 1) (i.Push (pos m)) tt,
+              (
+                at s (h + 1 + 1),
+                plain c l' s k' (h + 1) i.Eq tt,
+                (refl, k'.entry, refl, (at s (h + 1), firm_stepping c l s k (h + 1) (s.free + 1 + 1) q.stride s.free head c2 c0 c1 r5, firm_next l' s k' room h t n size low head (m + 1) rs inside runs (inr (refl, refl)) r6)),
+              ),
+            ),
+          ),
+          firm_steps h t n size low head (m + 1) rs inside runs c0 c1 c2 r7,
+        )
+
+    firm_runs : (h t n size : ℕ) (low : ℤ) (part : Emit) (m : ℕ) (rs : List Run) → t + n ≤ s.free → RunsIn n size rs → ((x : ℕ) → In c s.body (s.free + 1 + 1) → Kept c part → Firm c (Also l x (at s (h + 1))) part (at s (h + 1)) (at s (h + 1)))
+        → Kept c (run_turnings s h t low part m rs) → Firm c l (run_turnings s h t low part m rs) (at s h) (at s h)
+    firm_runs h t n size low part m [] inside runs f r = refl
+    firm_runs h t n size low part m (q ∷ rs) inside (run, runs) f r = go (nat_eq q.count 0) refl r (λ r. firm_runs h t n size low part (m + 1) rs inside runs f r)
+      where
+        whole : Emit
+        whole = one s h (i.Push (pos m)) ⨟ entering s (h + 1) t low q.count q.first ⨟ looped s (h + 1) true (λ exit. one s (h + 1) i.Turn ⨟ part) (λ head. run_steps s h t low head m (q ∷ rs)) ⨟ one s (h + 1) i.Pop
+
+        go : (b : Bool) → nat_eq q.count 0 ≡ b → Kept c (cond b (run_turnings s h t low part (m + 1) rs) whole) → (Kept c (run_turnings s h t low part (m + 1) rs) → Firm c l (run_turnings s h t low part (m + 1) rs) (at s h) (at s h)) → Firm c l (cond b (run_turnings s h t low part (m + 1) rs) whole) (at s h) (at s h)
+        go true e r skips = skips r
+        go false e (r1, ((e1, (e2, (e3, (e4, (e5, e6))))), (r3, r4))) skips =
+            let all : In c s.body (s.free + 1 + 1 + 1) = kept_next c l s k (s.free + 1 + 1) e6.0 in
+            let c0 : In c s.body s.free = in_le c s.body s.free (s.free + 1 + 1 + 1) (omega arith) all in
+            let c1 : In c s.body (s.free + 1) = in_le c s.body (s.free + 1) (s.free + 1 + 1 + 1) (omega arith) all in
+            let c2 : In c s.body (s.free + 1 + 1) = in_le c s.body (s.free + 1 + 1) (s.free + 1 + 1 + 1) (omega arith) all in (
+              at s (h + 1),
+              plain c l s k h (i.Push (pos m)) tt,
+              (
+                at s (h + 1),
+                firm_entering l s k room (h + 1) t low q.count q.first (run_first l s k room t n size q inside run e) (e1, (e2, (e3, (e4, (e5, e6))))),
+                (
+                  at s (h + 1),
+                  (refl, k.entry, refl, (λ x kx. (at s (h + 1), plain c (Also l x (at s (h + 1))) s (known_more c l s x (at s (h + 1)) k) (h + 1) i.Turn tt, f x c2 kx.1)), (λ x kx. firm_steps h t n size low x m (q ∷ rs) inside (run, runs) c0 c1 c2 kx)),
+                  plain c l s k h i.Pop tt,
+                ),
+              ),
+            )
+
+    pub firm_turnings : (h t n size : ℕ) (low : ℤ) (part : Emit) (rs : List Run) → t + n ≤ s.free → RunsIn n size rs → ((x : ℕ) → In c s.body (s.free + 1 + 1) → Kept c part → Firm c (Also l x (at s (turn_height rs h))) part (at s (turn_height rs h)) (at s (turn_height rs h)))
         → Kept c (turnings s h t low part rs) → Firm c l (turnings s h t low part rs) (at s h) (at s h)
     firm_turnings h t n size low part [] inside runs f r = refl
-    firm_turnings h t n size low part (q ∷ rs) inside (run, runs) f (r, r') = (at s h, go (nat_eq q.count 0) refl r, firm_turnings h t n size low part rs inside runs f r')
+    firm_turnings h t n size low part (q ∷ []) inside (run, runs) f r = go (nat_eq q.count 0) refl r
       where
         go : (b : Bool) → nat_eq q.count 0 ≡ b → Kept c (cond b none (turning s h t low part q.count q.first q.stride)) → Firm c l (cond b none (turning s h t low part q.count q.first q.stride)) (at s h) (at s h)
         go true e r = refl
-        go false e r =
-            let some : 0 < q.count = above q.count (eqb-false q.count 0 e) in
-            let here = run 0 some in
-            firm_turning h t low part q.count q.first q.stride (omega (arith, here, inside, zero-mul q.stride)) f r
-          where
-            above : (n : ℕ) → (n ≡ 0 → ⊥) → 0 < n
-            above zero apart = absurd (apart refl)
-            above (suc n) apart = omega arith
+        go false e r = firm_turning l s k room h t low part q.count q.first q.stride (run_first l s k room t n size q inside run e) f r
+    firm_turnings h t n size low part (q ∷ p ∷ rs) inside runs f r = firm_runs h t n size low part 0 (q ∷ p ∷ rs) inside runs f r
 
 -- what is done in turns, in a scope that differs in names
 abbrev pub FirmTurns : Code → (ℕ → Place → Type 0) → Scope → Option ℕ → Place → (Scope → Emit) → Type 0
@@ -279,7 +348,7 @@ module _ (c : Code) (program : Program) (subs : (sub : ℕ) (gives : Bool) → C
 
   -- the values of an association without a parameter, which take turns or don't
   firm_given : (turns : Bool) (l : ℕ → Place → Type 0) (s : Scope) (h t n size : ℕ) (runs : List Run) (part : Emit) (flat : Bool) (value : ℕ → Emit) → RunsIn n size runs → Known c l s → t + n ≤ s.free → In c s.body s.free
-      → ((y : ℕ) → In c s.body (s.free + 1 + 1) → Kept c part → Firm c (Also l y (at s h)) part (at s h) (at s h))
+      → ((y : ℕ) → In c s.body (s.free + 1 + 1) → Kept c part → Firm c (Also l y (at s (turn_height runs h))) part (at s (turn_height runs h)) (at s (turn_height runs h)))
       → ((m : ℕ) → m + size ≤ n → Kept c (value m) → Firm c l (value m) (at s h) (at s h))
       → Kept c (cond turns (turnings s h t (pos 0) part runs) (fillings s h t size flat value runs)) → Firm c l (cond turns (turnings s h t (pos 0) part runs) (fillings s h t size flat value runs)) (at s h) (at s h)
   firm_given true l s h t n size runs part flat value lie k le room fc fi r = firm_turnings c l s k room h t n size (pos 0) part runs le lie fc r
@@ -412,15 +481,15 @@ module _ (c : Code) (program : Program) (subs : (sub : ℕ) (gives : Bool) → C
     firm_associated l s h t n NoAssociation w k le room r = refl
     firm_associated l s h t n (Association runs None mentions value rest) w k le room (r1, r2) = (
       at s h,
-      firm_given (takes_turns runs None value) l s h t n (width program value) runs (component program (taking 3 s) h (s.free + 1 + 1) value) (is_plain value) (λ m. put_into program s h (t + m) value) w.0 k le room
-          (λ y c2 r. firm_component (Also l y (at s h)) (taking 3 s) h (s.free + 1 + 1) value w.1 (known_taking c (Also l y (at s h)) s 3 (known_more c l s y (at s h) k)) c2 r)
+      firm_given (takes_turns runs None value) l s h t n (width program value) runs (component program (taking 3 s) (turn_height runs h) (s.free + 1 + 1) value) (is_plain value) (λ m. put_into program s h (t + m) value) w.0 k le room
+          (λ y c2 r. firm_component (Also l y (at s (turn_height runs h))) (taking 3 s) (turn_height runs h) (s.free + 1 + 1) value w.1 (known_taking c (Also l y (at s (turn_height runs h))) s 3 (known_more c l s y (at s (turn_height runs h)) k)) c2 r)
           (λ m inside r. firm_into l s h (t + m) (width program value) value w.1 k (omega (arith, inside, le)) r) r1,
       firm_associated l s h t n rest w.2 k le room r2,
     )
     firm_associated l s h t n (Association runs (Some x) mentions value rest) w k le room (r1, r2) = (
       at s h,
-      firm_turnings c l s k room h t n (width program value) x.first (component program (iterated_scope s x.parameter) h (s.free + 1 + 1) value) runs le w.0
-          (λ y c2 r. firm_component (Also l y (at s h)) (iterated_scope s x.parameter) h (s.free + 1 + 1) value w.1 (known_parameter c (Also l y (at s h)) (taking 3 s) x.parameter (own s.free) (omega arith) (known_taking c (Also l y (at s h)) s 3 (known_more c l s y (at s h) k))) c2 r) r1,
+      firm_turnings c l s k room h t n (width program value) x.first (component program (iterated_scope s x.parameter) (turn_height runs h) (s.free + 1 + 1) value) runs le w.0
+          (λ y c2 r. firm_component (Also l y (at s (turn_height runs h))) (iterated_scope s x.parameter) (turn_height runs h) (s.free + 1 + 1) value w.1 (known_parameter c (Also l y (at s (turn_height runs h))) (taking 3 s) x.parameter (own s.free) (omega arith) (known_taking c (Also l y (at s (turn_height runs h))) s 3 (known_more c l s y (at s (turn_height runs h)) k))) c2 r) r1,
       firm_associated l s h t n rest w.2 k le room r2,
     )
 

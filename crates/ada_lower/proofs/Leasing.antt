@@ -1,35 +1,36 @@
 -- What the threads of a construct touch stays within what its leases lend them, where it goes through a range or is a block.
-use Rattle.std.proofs.Common.{◌≡◌, ℕ, ◌+◌, ◌*◌, ◌<◌, ℤ, pos, ◌+ℤ◌, nat_eq, List, [], ◌∷◌, slice_get, Option, Some, None, inl, inr, Bool, true, false, refl, sym, ap, ◌∙◌, subst, arith, true≢false, eqb-true}
+use Rattle.std.proofs.Common.{◌≡◌, ℕ, ◌+◌, ◌*◌, ◌<◌, ◌≤◌, ℤ, pos, ◌+ℤ◌, nat_eq, List, [], ◌∷◌, slice_get, ◌⊎◌, Option, Some, None, inl, inr, Bool, true, false, refl, sym, ap, ◌∙◌, subst, arith, true≢false, eqb-true}
 use Rattle.std.proofs.lemmas.Bool.{eqb-false}
+use Rattle.std.proofs.lemmas.Int.{ints}
 use Rattle.std.proofs.lemmas.Option.{slice_get_within}
 use Rattle.behaviours.specs.Paths.{Entity, VariableOf, ConstantOf}
-use Rattle.behaviours.specs.Joins.{Share, Site}
+use Rattle.behaviours.specs.Joins.{Now, Share, Site}
 use Rattle.typed_tree.specs.Syntax.{Program}
 use Rattle.ada_meaning.specs.Stored.{Address, Kept, Stacked, Touch, Thread, Team, cell_at, slot_at, within, key}
 use Rattle.ada_meaning.specs.Touched.{Before, IsAmong}
 use Rattle.ada_meaning.specs.Meaning.{Env}
+use Rattle.ada_meaning.specs.Shapes.{object_shape, size}
 use Rattle.ada_meaning.proofs.Cells.{some_same}
-use Rattle.check_effects.specs.Effects.{Access, Construct, Holds}
-use Rattle.check_effects.specs.Conflicts.{InProgram, LiesUnder, IsClean}
-use Rattle.check_effects.specs.Covered.{site_of, AreDistinct, Under, IsTouched, AreApart}
+use Rattle.check_effects.specs.Effects.{Access, Construct, LoopOf, BlockOf, ReductionOf, Holds}
+use Rattle.check_effects.specs.Conflicts.{EffectPath, InProgram, IsThreadEffect, LiesUnder, LoopsDiffer, SomeDiffer, IsClean, Compared, path, path_of}
+use Rattle.check_effects.specs.Covered.{arm_of, site_of, AreDistinct, Under, IsTouched, AreApart}
 use Rattle.check_effects.specs.Touching.{LiesAt, AllTouchesCovered, AllThreadsCovered}
-use Rattle.check_effects.proofs.Races.{shares_apart}
+use Rattle.check_effects.proofs.Coordinates.{HasLoop, LeadsIn, Loose, converts, unlike}
 use Rattle.stack_code.specs.declared.code.CodeSite.{CodeSite}
 use Rattle.stack_code.specs.declared.code.Step as code_step
 use Rattle.stack_code.specs.declared.code.Lease as code
 use Rattle.stack_code.specs.declared.path.Asked.{Asked}
 use Rattle.stack_code.specs.Machine.{outward_of}
-use Rattle.lower_emission.specs.Leases.{All, Loop, ByChunk, InPlaces, InLease, frame_of, step_of, steps_of}
-use Rattle.lower_emission.specs.Leases as leases
+use Rattle.lower_leased.specs.Leases.{frame_of}
 use Rattle.ada_lower.specs.Driven.{Dyn, Fixed}
 use Rattle.ada_lower.specs.Sights.{Around, Level, Main, Named, Own, Sight}
 use Rattle.ada_lower.specs.Fits.{What, Keeps, Shows, Access as Right, Ghost, Fit, Knows, IsAt, Refers, place_in, Stands as StandsFor}
 use Rattle.ada_lower.specs.Lending.{Among, StepsTo, frame_at, chunk_at, LiesIn, IsLent, Owns}
-use Rattle.ada_lower.specs.Leased.{IsLease, AreLeased}
+use Rattle.ada_lower.specs.Leased.{IsLease, AreLeased, LiesUnderPath, MayBe}
 use Rattle.ada_lower.specs.Teams.{IsSound, OnePlace}
 use Rattle.ada_lower.specs.ForkViews.{TouchFits, TouchesFit, Apart}
 use Rattle.ada_lower.proofs.ForkFine.{Lends}
-use Rattle.ada_lower.proofs.LeaseGeometry.{leads_in, in_leads}
+use Rattle.ada_lower.proofs.LeaseGeometry.{lies_by, by_lies, lies_within}
 use Rattle.ada_lower.proofs.Memory.{place_fits}
 
 -- ---- steps
@@ -49,17 +50,14 @@ steps_down v ch (code_step.TheVariants.Loop low count size ∷ ss) b n o (i, lt,
 steps_down v ch (code_step.TheVariants.Chunk low count size ∷ ss) b n o (i, lt, q, h) =
     let (p, k, e) = steps_down v ch ss b (n + i * size) o (subst (λ m. StepsTo v ch ss m o) (let z : b + n + i * size ≡ b + (n + i * size) = omega arith in z) h) in (p, (i, lt, q, k), e)
 
-places_steps : (v ch : ℤ) (ps : List leases.Place) (n o : ℕ) → InPlaces v ch ps n o → StepsTo v ch (steps_of ps) n o
-places_steps v ch [] n o h = h
-places_steps v ch (All count size ∷ ps) n o (i, lt, h) = (i, lt, places_steps v ch ps (n + i * size) o h)
-places_steps v ch (Loop low count size ∷ ps) n o (i, lt, e, h) = (i, lt, e, places_steps v ch ps (n + i * size) o h)
-places_steps v ch (ByChunk low count size ∷ ps) n o (i, lt, e, h) = (i, lt, e, places_steps v ch ps (n + i * size) o h)
+some_none : {x : ℤ} → ◌≡◌ {A = Option ℤ} (Some x) None → ⊥
+some_none e = cc
 
-steps_places : (v ch : ℤ) (ps : List leases.Place) (n o : ℕ) → StepsTo v ch (steps_of ps) n o → InPlaces v ch ps n o
-steps_places v ch [] n o h = h
-steps_places v ch (All count size ∷ ps) n o (i, lt, h) = (i, lt, steps_places v ch ps (n + i * size) o h)
-steps_places v ch (Loop low count size ∷ ps) n o (i, lt, e, h) = (i, lt, e, steps_places v ch ps (n + i * size) o h)
-steps_places v ch (ByChunk low count size ∷ ps) n o (i, lt, e, h) = (i, lt, e, steps_places v ch ps (n + i * size) o h)
+no_place : {a : Address} → ◌≡◌ {A = Option Address} None (Some a) → ⊥
+no_place e = cc
+
+same_start : (x y c v w : ℤ) → v ≡ x +ℤ c → w ≡ y +ℤ c → v ≡ w → x ≡ y
+same_start x y c v w f g e = omega (arith, ints, f, g, e)
 
 -- where a cell at a level is
 framed : (f : Fixed) (l : Level) (n a : ℕ) → IsAt f l n a → (b : ℕ) × (frame_at (f.base ∷ outward_of f.waiting f.outward) (frame_of l) ≡ Some b) × (a ≡ b + n)
@@ -69,7 +67,7 @@ framed f Main n a e = (0, refl, (let z : n ≡ 0 + n = omega arith in e ∙ z))
 
 -- ---- cells that are lent
 
-module _ {limit : ℕ} {cuts : ℕ → ℕ → List ℕ} {f : Fixed} {g : Ghost} {s : Sight} {env : Env} (kn : Knows limit cuts g f s env) (program : Program) (site : ℕ) (cs : CodeSite) (are : AreLeased program s.scope.object s.global s.main site cs) (q : Asked) where
+module _ {limit : ℕ} {cuts : ℕ → ℕ → List ℕ} {f : Fixed} {g : Ghost} {s : Sight} {env : Env} (kn : Knows limit cuts g f s env) (program : Program) (site : ℕ) (cs : CodeSite) (are : AreLeased program s.scope.object s.global s.main s.seen false site cs) (q : Asked) where
   abbrev frames : List ℕ
   frames = f.base ∷ outward_of f.waiting f.outward
 
@@ -79,15 +77,24 @@ module _ {limit : ℕ} {cuts : ℕ → ℕ → List ℕ} {f : Fixed} {g : Ghost}
       let r = kn.object x m e in
       (r.address, subst (λ t. Rattle.ada_lower.specs.Fits.Leads t g f m.place r.address) direct r.leads, λ i lt. let (pl, y, p, w) = r.spread.cell i lt in (pl, y, (let z : i ≡ 0 + i = omega arith in ap (λ j. place_in g x j) z ∙ p), w))
 
+  abbrev Lease' : EffectPath → code.Lease → Type 0
+  Lease' p l = IsLease program s.scope.object s.global s.main s.seen false p l
+
+  -- a cell of a path is one of the object
+  small_of : (p : EffectPath) (l : code.Lease) (z : Lease' p l) (v ch : ℤ) (n : ℕ) → LiesUnderPath program false v ch p n → n < z.named.cells
+  small_of p l z v ch n h = let lt = lies_within v ch (object_shape program p.object) p.selectors n h in let le = z.enough in omega (arith, lt, le)
+
   -- a cell that is lent is of an object
   lent_stands : (l : code.Lease) → Among l cs.leases → (j i a : ℕ) → LiesIn cs q frames l j i a → (pl : Address) × (y : Right) × (g.what a ≡ StandsFor y pl)
   lent_stands l amid j i a (base, at_, (o, r, h, lt, e)) =
-      let (x, m, here, direct, frame, in_) = are.inside l amid in
-      let (address, is, cell) = addressed (VariableOf x) m here direct in
+      let (path, z) = are.inside l amid in
+      let m = z.named in
+      let (address, is, cell) = addressed (VariableOf path.object) m z.here z.direct in
       let (b, at', e') = framed f m.place.level m.place.cell address is in
-      let same : base ≡ b = some_same base b (sym at_ ∙ ap (λ k. frame_at frames k) frame ∙ at') in
+      let same : base ≡ b = some_same base b (sym at_ ∙ ap (λ k. frame_at frames k) z.frame ∙ at') in
       let (o', h', e'') = steps_down (q.first +ℤ pos i) (chunk_at cs.kind q j) l.steps base l.base o h in
-      let (n, here', small) = in_ (q.first +ℤ pos i) (chunk_at cs.kind q j) o' r h' lt in
+      let (n, here', under) = z.under (q.first +ℤ pos i) (chunk_at cs.kind q j) (o' + r) (o', r, h', lt, refl) in
+      let small = small_of path l z (q.first +ℤ pos i) (chunk_at cs.kind q j) n under in
       let (pl, y, p, w) = cell n small in
       let at_cell : address + n ≡ a = omega (arith, e, e', e'', here', same) in
       (pl, y, ap g.what (sym at_cell) ∙ w)
@@ -127,62 +134,134 @@ module _ {limit : ℕ} {cuts : ℕ → ℕ → List ℕ} {f : Fixed} {g : Ghost}
         pub everywhere : (slot_at g.everywhere (key (VariableOf x))).frame ≡ 1 → within Kept (slot_at g.everywhere (key (VariableOf x))) n ≡ Some place
         pub stands : g.what a ≡ StandsFor right place
 
-      cell_at_of : (a : Access) (l : code.Lease) (z : IsLease program s.scope.object s.global s.main a l) (address : ℕ) → IsAt f z.named.place.level z.named.place.cell address → (n : ℕ) → n < z.named.cells
-          → ((i : ℕ) → i < z.named.cells → (pl : Address) × (y : Right) × (place_in g (VariableOf a.object) i ≡ Some pl) × (g.what (address + i) ≡ StandsFor y pl)) → CellAt a.object n (address + n)
-      cell_at_of a l z address is n small cell = let (pl, y, p, w) = cell n small in record { place = pl; right = y; here = p; everywhere = λ e. at_main pl y w (s.main (VariableOf a.object)) refl e; stands = w }
+      cell_at_of : (x : ℕ) (p : EffectPath) (l : code.Lease) (z : Lease' p l) → p.object ≡ x → (address : ℕ) → IsAt f z.named.place.level z.named.place.cell address → (n : ℕ) → n < z.named.cells
+          → ((i : ℕ) → i < z.named.cells → (pl : Address) × (y : Right) × (place_in g (VariableOf x) i ≡ Some pl) × (g.what (address + i) ≡ StandsFor y pl)) → CellAt x n (address + n)
+      cell_at_of x p l z of address is n small cell = let (pl, y, p', w) = cell n small in record { place = pl; right = y; here = p'; everywhere = λ e. at_main pl y w (s.main (VariableOf x)) refl e; stands = w }
         where
-          at_main : (pl : Address) (y : Right) → g.what (address + n) ≡ StandsFor y pl → (b : Bool) → s.main (VariableOf a.object) ≡ b → (slot_at g.everywhere (key (VariableOf a.object))).frame ≡ 1 → within Kept (slot_at g.everywhere (key (VariableOf a.object))) n ≡ Some pl
-          at_main pl y w false e f1 = absurd (kn.outside (VariableOf a.object) e f1)
+          at_main : (pl : Address) (y : Right) → g.what (address + n) ≡ StandsFor y pl → (b : Bool) → s.main (VariableOf x) ≡ b → (slot_at g.everywhere (key (VariableOf x))).frame ≡ 1 → within Kept (slot_at g.everywhere (key (VariableOf x))) n ≡ Some pl
+          at_main pl y w false e f1 = absurd (kn.outside (VariableOf x) e f1)
           at_main pl y w true e f1 =
-              let (m, as_main, there, cells) = kn.global (VariableOf a.object) z.named (z.everywhere e) in
+              let (m, as_main, there, cells) = kn.global (VariableOf x) z.named (subst (λ x. s.main (VariableOf x) ≡ true → s.global (VariableOf x) ≡ Some z.named) of z.everywhere e) in
               let (pl', y', p', w') = cells n small in
               let at_m : address ≡ m = subst (λ (v : Named). IsAt f v.place.level v.place.cell address) as_main is in
               let same : StandsFor y' pl' ≡ StandsFor y pl = sym w' ∙ ap (λ z. g.what (z + n)) (sym at_m) ∙ w in
               p' ∙ ap Some (let h : pl' ≡ pl = (let h' : StandsFor y' pl' ≡ StandsFor y pl = same in cc) in h)
 
       -- what is accessed in an iteration is lent to its thread
-      lease_cell : (j i : ℕ) (a : Access) (l : code.Lease) (z : IsLease program s.scope.object s.global s.main a l) (n : ℕ) → LiesUnder (t.site.now j i) a n → (c : ℕ) × LiesIn cs q frames l j i c × CellAt a.object n c
-      lease_cell j i a l z n (o, r, leads, lt, e) =
-          let (address, is, cell) = addressed (VariableOf a.object) z.named z.here z.direct in
+      lease_cell : (j i : ℕ) (x : ℕ) (l : code.Lease) (p : EffectPath) (z : Lease' p l) → p.object ≡ x → (n : ℕ) → LiesUnderPath program false (value i) (chunk j) p n → (c : ℕ) × LiesIn cs q frames l j i c × CellAt x n c
+      lease_cell j i x l p z of n lies =
+          let (address, is, cell) = addressed (VariableOf x) z.named (subst (λ x. s.scope.object (VariableOf x) ≡ Some z.named) of z.here) z.direct in
           let (b, at', e') = framed f z.named.place.level z.named.place.cell address is in
-          let led : InLease (value i) (chunk j) (Some z.way) o = subst (λ w. InLease (value i) (chunk j) w o) z.is (leads_in (t.site.now j i) (value i) (chunk j) true (tells j i) a.steps z.plain 0 o leads) in
-          let up : StepsTo (value i) (chunk j) l.steps (b + z.named.place.cell + z.way.base) (b + z.named.place.cell + o) = subst (λ ss. StepsTo (value i) (chunk j) ss (b + z.named.place.cell + z.way.base) (b + z.named.place.cell + o)) (sym z.steps) (steps_up (value i) (chunk j) (steps_of z.way.places) (b + z.named.place.cell) z.way.base o (places_steps (value i) (chunk j) z.way.places z.way.base o led)) in
-          let from : b + z.named.place.cell + z.way.base ≡ b + l.base = (let w = z.base in omega (arith, w)) in (
+          let (o, r, up, lt, e) = z.all (value i) (chunk j) n lies in (
             address + n,
-            (b, ap (λ k. frame_at frames k) z.frame ∙ at', (b + z.named.place.cell + o, r, subst (λ m. StepsTo (value i) (chunk j) l.steps m (b + z.named.place.cell + o)) from up, (let w = z.run in omega (arith, lt, w)), omega (arith, e, e'))),
-            cell_at_of a l z address is n (z.within (t.site.now j i) n (o, r, leads, lt, e)) cell,
+            (b, ap (λ k. frame_at frames k) z.frame ∙ at', (b + o, r, steps_up (value i) (chunk j) l.steps b l.base o up, lt, omega (arith, e, e'))),
+            cell_at_of x p l z of address is n (small_of p l z (value i) (chunk j) n lies) cell,
           )
 
-      -- and what is lent to a thread is accessed in an iteration of its own
-      lent_under : (c : Share) (a : ℕ) → IsLent cs q frames c a → (x : ℕ) × (n : ℕ) × Under program k t.site.now c true x n × CellAt x n a
+      -- a cell of a path that a thread may write, in an iteration of its own
+      record Part (c : Share) (x n : ℕ) : Type 0 where
+        pub iteration : ℕ
+        pub from : c.first ≤ iteration
+        pub to : iteration < c.first + c.size
+        pub at : ℕ
+        pub access : Access
+        pub effect : IsThreadEffect program k (arm_of k c.number iteration) at access
+        pub writes : access.writes ≡ true
+        pub of : access.object ≡ x
+        pub under : LeadsIn (t.site.now c.number iteration) (object_shape program access.object) (path access.steps) n
+
+      -- and what is lent to a thread is of such a path
+      lent_under : (c : Share) (a : ℕ) → IsLent cs q frames c a → (x : ℕ) × (n : ℕ) × Part c x n × CellAt x n a
       lent_under c a (i, lo, hi, (l, amid, arm, (base, at_, (o, r, h, lt, e)))) =
-          let (x, z, effects) = are.leased k held num l amid in
-          let (at, effect, writes) = effects c.number i arm in
+          let (at, x, effect, writes, z) = are.leased k held num l amid c.number i arm in
           let (address, is, cell) = addressed (VariableOf x.object) z.named z.here z.direct in
           let (b, at', e') = framed f z.named.place.level z.named.place.cell address is in
           let same : base ≡ b = some_same base b (sym at_ ∙ ap (λ k. frame_at frames k) z.frame ∙ at') in
           let (o1, h1, e1) = steps_down (value i) (chunk c.number) l.steps base l.base o h in
-          let (o2, h2, e2) = steps_down (value i) (chunk c.number) l.steps z.named.place.cell z.way.base o1 (subst (λ m. StepsTo (value i) (chunk c.number) l.steps m o1) z.base h1) in
-          let led : InLease (value i) (chunk c.number) (Some z.way) o2 = steps_places (value i) (chunk c.number) z.way.places z.way.base o2 (subst (λ ss. StepsTo (value i) (chunk c.number) ss z.way.base o2) z.steps h2) in
-          let leads = in_leads (t.site.now c.number i) (value i) (chunk c.number) true (tells c.number i) x.steps z.plain 0 o2 (subst (λ w. InLease (value i) (chunk c.number) w o2) (sym z.is) led) in
-          let under : LiesUnder (t.site.now c.number i) x (o2 + r) = (o2, r, leads, (let w = z.run in omega (arith, lt, w)), refl) in
-          let here : address + (o2 + r) ≡ a = omega (arith, e, e', e1, e2, same) in
-          (x.object, o2 + r, (i, lo, hi, (at, x, effect, writes, refl, under)), subst (λ a. CellAt x.object (o2 + r) a) here (cell_at_of x l z address is (o2 + r) (z.within (t.site.now c.number i) (o2 + r) under) cell))
+          let (n, e2, lies) = z.under (value i) (chunk c.number) (o1 + r) (o1, r, h1, lt, refl) in
+          let here : address + n ≡ a = omega (arith, e, e', e1, e2, same) in (
+            x.object,
+            n,
+            record {
+              iteration = i;
+              from = lo;
+              to = hi;
+              at = at;
+              access = x;
+              effect = effect;
+              writes = writes;
+              of = refl;
+              under = by_lies (t.site.now c.number i) (value i) (chunk c.number) (tells c.number i).0 (tells c.number i).1 (object_shape program x.object) (path x.steps) n lies;
+            },
+            subst (λ a. CellAt x.object n a) here (cell_at_of x.object (path_of x) l z refl address is n (small_of (path_of x) l z (value i) (chunk c.number) n lies) cell),
+          )
+
+      -- where a cell lies under an access
+      coordinates : (b j : ℕ) (y : Access) (x n : ℕ) → IsThreadEffect program k (arm_of k b j) x y → LiesUnder (t.site.now b j) y n → LeadsIn (t.site.now b j) (object_shape program y.object) (path y.steps) n
+      coordinates b j y x n effect (o, m, leads, lt, e) =
+          let (r, e', h) = converts (t.site.now b j) (object_shape program y.object) y.steps y.cells 0 o m (clean.laid (arm_of k b j) x y effect) leads lt in
+          let same : r ≡ n = omega (arith, e, e') in subst (λ z. LeadsIn (t.site.now b j) (object_shape program y.object) (path y.steps) z) same h
+
+      -- no other thread touches it
+      parts_apart : (c b : Share) → (c.number ≡ b.number → ⊥) → AreApart c b → (writes : Bool) (x n : ℕ) → Part c x n → Under program k t.site.now b writes x n → ⊥
+      parts_apart c b other apart writes x n part (i, lo, hi, (at, y, effect, w, of, under)) = split (clean.disjoint (arm_of k c.number part.iteration) (arm_of k b.number i) (compared k) part.at at part.access y part.effect effect part.writes)
+        where
+          differ : part.iteration ≡ i → ⊥
+          differ same = apart part.iteration part.from part.to (subst (λ z. b.first ≤ z) (sym same) lo) (subst (λ z. z < b.first + b.size) (sym same) hi)
+
+          compared : (k : Construct) → Compared program k (arm_of k c.number part.iteration) (arm_of k b.number i)
+          compared (LoopOf site r chunk iteration stmts) = tt
+          compared (BlockOf site r most arms) = differ
+          compared (ReductionOf site r by chunk iteration value) = tt
+
+          now : Now
+          now = t.site.now c.number part.iteration
+
+          then : Now
+          then = t.site.now b.number i
+
+          mine : ℤ
+          mine = value part.iteration
+
+          theirs : ℤ
+          theirs = value i
+
+          their_loop : then.loop ≡ Some theirs
+          their_loop = (tells b.number i).0
+
+          my_loop : now.loop ≡ Some mine
+          my_loop = (tells c.number part.iteration).0
+
+          unlike_values : mine ≡ theirs → ⊥
+          unlike_values = subst (λ o. LoopsDiffer now then (Some mine) o) their_loop (subst (λ o. LoopsDiffer now then o then.loop) my_loop (distinct c.number b.number part.iteration i other differ).loops)
+
+          loops : (d v w : ℤ) → Loose now.loop d v → Loose then.loop d w → v ≡ w → (now.loop ≡ None) × (then.loop ≡ None)
+          loops d v w f g e = absurd (unlike_values (same_start mine theirs d v w (subst (λ o. Loose o d v) my_loop f) (subst (λ o. Loose o d w) their_loop g) e))
+
+          at_same : part.access.object ≡ y.object
+          at_same = part.of ∙ sym of
+
+          split : (part.access.object ≡ y.object → ⊥) ⊎ SomeDiffer (path part.access.steps) (path y.steps) → ⊥
+          split (inl ne) = ne at_same
+          split (inr some) =
+              unlike now then (distinct c.number b.number part.iteration i other differ).chunk loops (path part.access.steps) (path y.steps) (object_shape program part.access.object) n part.under
+              (subst (λ z. LeadsIn then (object_shape program z) (path y.steps) n) (sym at_same) (coordinates b.number i y at n effect under)) some
+              (λ none none' h g. some_none (sym my_loop ∙ none))
 
       -- who has a cell that a thread touches is that thread
       only_own : (b : Share) → Among b shares → (writes : Bool) (x : Entity) (n : ℕ) (pl : Address) (a : ℕ) (y : Right) → g.what a ≡ StandsFor y pl → LiesAt t.begun x n pl → IsTouched program k t.site.now b writes x n → (m : ℕ) → owner a ≡ Some m → m ≡ b.number
       only_own b among_b writes x n pl a y e lies touched m own =
           let (c, among_c, is_c, lent) = owns.lent a m own in
-          let (x', n', under, z) = lent_under c a lent in
+          let (x', n', part, z) = lent_under c a lent in
           let same : z.place ≡ pl = (let h : StandsFor z.right z.place ≡ StandsFor y pl = sym z.stands ∙ e in cc) in
           let (is, at) = one (VariableOf x') x n' n pl (inl (place_fits (VariableOf x') n' fit ∙ z.here ∙ ap Some same)) lies in
-          sym is_c ∙ go x touched c among_c (λ v w. subst (λ n. Under program k t.site.now c true v n) at (subst (λ v. Under program k t.site.now c true v n') w under)) is (nat_eq c.number b.number) refl
+          sym is_c ∙ go x touched c among_c (λ v w. subst (λ n. Part c v n) at (subst (λ v. Part c v n') w part)) is (nat_eq c.number b.number) refl
         where
-          go : (x : Entity) → IsTouched program k t.site.now b writes x n → (c : Share) → Among c shares → {x' : ℕ} → ((v : ℕ) → x' ≡ v → Under program k t.site.now c true v n) → VariableOf x' ≡ x → (z : Bool) → nat_eq c.number b.number ≡ z → c.number ≡ b.number
+          go : (x : Entity) → IsTouched program k t.site.now b writes x n → (c : Share) → Among c shares → {x' : ℕ} → ((v : ℕ) → x' ≡ v → Part c v n) → VariableOf x' ≡ x → (z : Bool) → nat_eq c.number b.number ≡ z → c.number ≡ b.number
           go x touched c among_c under is true e = eqb-true c.number b.number e
           go (VariableOf v) touched c among_c {x'} under is false e =
               let off_ : c.number ≡ b.number → ⊥ = eqb-false c.number b.number e in
-              absurd (shares_apart program k clean t.site.now distinct c b off_ (parted c b among_c among_b off_) writes v n (under v (let h : ◌≡◌ {A = Entity} (VariableOf x') (VariableOf v) = is in cc)) touched)
+              absurd (parts_apart c b off_ (parted c b among_c among_b off_) writes v n (under v (let h : ◌≡◌ {A = Entity} (VariableOf x') (VariableOf v) = is in cc)) touched)
           go (ConstantOf v) touched c among_c {x'} under is false e = absurd (let h : ◌≡◌ {A = Entity} (VariableOf x') (ConstantOf v) = is in cc)
 
       before : (pl : Address) (v : ℤ) → cell_at t.begun pl ≡ Some v → Before t.begun pl
@@ -192,11 +271,26 @@ module _ {limit : ℕ} {cuts : ℕ → ℕ → List ℕ} {f : Fixed} {g : Ghost}
       there : (a : ℕ) (y : Right) (pl : Address) → g.what a ≡ StandsFor y pl → Before t.begun pl
       there a y pl e = let (v, cell, bears) = subst (λ w. Rattle.ada_lower.specs.Fits.Right w t.begun (slice_get d.cells a)) e (fit.cells a) in before pl v cell
 
+      -- an object that has a place may be there
+      may_be : (x n : ℕ) (pl : Address) → LiesAt t.begun (VariableOf x) n pl → MayBe program s.scope.object s.global s.main s.seen false x
+      may_be x n pl (inl h) = go (s.seen (VariableOf x)) refl
+        where
+          go : (z : Bool) → s.seen (VariableOf x) ≡ z → MayBe program s.scope.object s.global s.main s.seen false x
+          go true e = inl e
+          go false e = absurd (no_place (sym (kn.hidden (VariableOf x) n e) ∙ sym (place_fits (VariableOf x) n fit) ∙ h))
+      may_be x n pl (inr h) = go (s.main (VariableOf x)) refl
+        where
+          go : (z : Bool) → s.main (VariableOf x) ≡ z → MayBe program s.scope.object s.global s.main s.seen false x
+          go true e = inr e
+          go false e = absurd (kn.outside (VariableOf x) e (subst (λ es. (slot_at es (key (VariableOf x))).frame ≡ 1) fit.everywhere h.0))
+
       -- a write is of an own cell
       own_write : (b : Share) → Among b shares → (x n : ℕ) (pl : Address) (a : ℕ) (y : Right) → g.what a ≡ StandsFor y pl → LiesAt t.begun (VariableOf x) n pl → Under program k t.site.now b true x n → owner a ≡ Some b.number
       own_write b among_b x n pl a y e lies (i, lo, hi, (at, u, effect, writes, obj, under)) =
-          let (l, amid, arm, z) = are.granted k held num b.number i at u effect writes in
-          let (c, lies_in, cell) = lease_cell b.number i u l z n under in
+          let led = lies_by (t.site.now b.number i) (value i) (chunk b.number) (tells b.number i).0 (tells b.number i).1 (object_shape program u.object) (path u.steps) n (coordinates b.number i u at n effect under) in
+          let may : MayBe program s.scope.object s.global s.main s.seen false u.object = subst (λ x. MayBe program s.scope.object s.global s.main s.seen false x) (sym obj) (may_be x n pl lies) in
+          let (l, amid, arm, z) = are.granted k held num b.number i at u effect writes may (value i) (chunk b.number) n led in
+          let (c, lies_in, cell) = lease_cell b.number i u.object l (path_of u) z refl n led in
           let place_is : cell.place ≡ pl = ends (subst (λ v. LiesAt t.begun (VariableOf v) n pl) (sym obj) lies) cell in
           let same : c ≡ a = kn.one c a cell.right y pl (cell.stands ∙ ap (λ p. StandsFor cell.right p) place_is) e in
           let lent : IsLent cs q frames b a = (i, lo, hi, (l, amid, arm, subst (λ a. LiesIn cs q frames l b.number i a) same lies_in)) in
@@ -230,7 +324,7 @@ module _ {limit : ℕ} {cuts : ℕ → ℕ → List ℕ} {f : Fixed} {g : Ghost}
       thread_fits (e ∷ bs) c b (inr amid) among_b = thread_fits bs c.1 b amid among_b
 
 -- the threads of a construct touch no cell that another one is lent
-pub lends_by : {limit : ℕ} {cuts : ℕ → ℕ → List ℕ} {f : Fixed} {g : Ghost} {s : Sight} {env : Env} → Knows limit cuts g f s env → (program : Program) → f.asked ≡ Some program → (site : ℕ) (cs : CodeSite) → AreLeased program s.scope.object s.global s.main site cs → (q : Asked) (team : Site) → team.number ≡ site
+pub lends_by : {limit : ℕ} {cuts : ℕ → ℕ → List ℕ} {f : Fixed} {g : Ghost} {s : Sight} {env : Env} → Knows limit cuts g f s env → (program : Program) → f.asked ≡ Some program → (site : ℕ) (cs : CodeSite) → AreLeased program s.scope.object s.global s.main s.seen false site cs → (q : Asked) (team : Site) → team.number ≡ site
     → ((j i : ℕ) → ((team.now j i).loop ≡ Some (q.first +ℤ pos i)) × ((team.now j i).chunk ≡ chunk_at cs.kind q j)) → (shares : List Share) → ((c b : Share) → Among c shares → Among b shares → (c.number ≡ b.number → ⊥) → AreApart c b)
     → Lends f g cs q team shares
 lends_by {f = f} {g = g} kn program fa site cs are q team num tells shares parted = λ owner owns p is s d fit. (

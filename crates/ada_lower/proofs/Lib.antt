@@ -7,12 +7,15 @@ mod Leaving
 mod Declared
 mod Blocks
 mod Mains
-mod Calls
 mod Asked
 mod Copies
 mod Courses
 mod Items
+mod Scattered
+mod Spots
 mod Sent
+mod Passing
+mod Calls
 mod Operands
 mod Doubled
 mod Plain
@@ -57,6 +60,7 @@ mod ForkArms
 mod ForkBlock
 mod LeaseGeometry
 mod LeaseOwners
+mod Formals
 mod Bodies
 mod Main
 mod Listed
@@ -70,9 +74,13 @@ mod HeightsTables
 mod HeightsScopes
 mod HeightsValues
 mod HeightsStatements
+mod HeightsIdle
 mod HeightsPrograms
+pub mod Strings
+pub mod Constructs
 mod NamedCode
-mod CodeTables
+pub mod Counted
+pub mod CodeTables
 mod ForkLeaves
 mod JoinLeaves
 mod Reading

@@ -21,6 +21,7 @@ use Rattle.typed_tree.specs.declared.expressions.Reducer.{Reducer}
 use Rattle.typed_tree.specs.declared.expressions.Reducer.TheVariants.{Operator, Function}
 use Rattle.typed_tree.specs.declared.statements.Span.{Span}
 use Rattle.typed_tree.specs.declared.program.Field.{Field as Part}
+use Rattle.typed_tree.specs.declared.program.Site.{Site}
 use Rattle.typed_tree.specs.Syntax.{Expr, Static, Variable, Constant, Parameter, Target, Group, Unary, Binary, AndThen, OrElse, Relation, Membership, If, Call, Convert, Reduction, Iteration, Range, Components, Chunk, NoChunk, Count, Each, Optional, Absent, Present, Selections, Whole, Field, Index, Actuals, NoActual, In, InOut, Out, CompositeInOut, CompositeOut, Value, Number, Cells, Composite, WholeVariable, WholeConstant, WholeTarget, CompositeIf, Aggregate, Associations, NoAssociation, Association, Pieces, NoPiece, Text, Image, Padded, Decls, NoDecl, DeclareDefault, DeclareVariable, DeclareConstant, Mentions, Stmt, Null, Assign, CallProcedure, Exit, Return, ReturnValue, Raise, Reraise, IfThen, Case, Loop, For, ParallelFor, Parallel, Block, Put, Get, Stmts, End, Then, Alternatives, NoAlternative, Alternative, Handled, Others, Reasons, Handlers, NoHandler, Handler, Arms, NoArm, Arm, Sub, Subtype, OfScalar, Array, Record, Program}
 use Rattle.stack_code.specs.declared.code.Around.{Around as Body}
 use Rattle.stack_code.specs.declared.code.Around.TheVariants as body
@@ -35,12 +36,12 @@ use Rattle.lower_emission.specs.declared.types.Leaving.{Leaving}
 use Rattle.lower_emission.specs.declared.types.Leaving.TheVariants.{ByReturn, ByValue, ByEnd, ByLeave}
 use Rattle.lower_emission.specs.Emits.{Emit, Nothing, One, Seq, Choose, When, Looped, Guarded, Aside, From, listed}
 use Rattle.lower_emission.specs.Scope.{Scope, own, taking, nested, thread_scope, with_parameter, with_item, with_target, with_handled, with_exit, with_entry, root_of, constant_root_of, array_root_of, none, one, ◌⨟◌, load_at, address_at, store_at, address_of}
-use Rattle.lower_emission.specs.Emission.{is_plain, takes_turns, Shape, shapes, load_by, load_named, load_where, address, is_whole, part_of, unary_instr, binary_instr, compare_instr, within, negated_code, leaving_by, first_parameter, range_scope, item_scope, counting, bounds_code, ascending, stepping, folding, ranged, combined, doubled, filling, fillings, iterated_scope, turnings, chunk_scope, raise_above, raise_beyond, ends_code, turn_range, turn_component, cells_of, passing, composite_width, width}
+use Rattle.lower_emission.specs.Emission.{is_plain, takes_turns, Shape, shapes, load_by, load_named, load_where, address, is_whole, part_of, unary_instr, binary_instr, compare_instr, within, negated_code, leaving_by, first_parameter, range_scope, item_scope, counting, bounds_code, ascending, stepping, folding, ranged, combined, doubled, filling, fillings, iterated_scope, turnings, entering, entering_next, run_steps, run_turnings, turn_height, chunk_scope, raise_above, raise_beyond, ends_code, turn_range, turn_component, cells_of, passing, composite_width, width}
 unfoldable use Rattle.lower_emission.specs.Emission.{emit, selected, passed, put_into, composed, associated, component, filtered, iterated, chunk_code, course_code, threaded}
-use Rattle.lower_emission.specs.Statements.{no_handler, is_end, assigned, in_span, chosen, has_reason, handled_by, returning, returning_value, away, exiting, handled_target, image_instr, send_instr, piece_texts, object_here, exits_of, arm_exits, left_by, exits_code, left_code, no_loop, field_defaults, default_of, defaults_within, subtype_or_none, defaulted, declared, parallel_for, arms_code, chunk_by, arm_scope, parallel_block}
+use Rattle.lower_emission.specs.Statements.{no_handler, is_end, assigned, in_span, chosen, has_reason, handled_by, returning, returning_value, away, exiting, handled_target, image_instr, send_instr, piece_texts, object_here, exits_of, arm_exits, left_by, exits_code, is_own, left_code, field_defaults, default_of, defaults_within, subtype_or_none, defaulted, declared, parallel_for, arms_code, chunk_by, arm_scope, parallel_block}
 unfoldable use Rattle.lower_emission.specs.Statements.{back_code, piece_values, stmt, all, cases, handling, arm_codes}
 use Rattle.lower_emission.specs.Bodies as code
-use Rattle.lower_emission.specs.Programs.{text_in, placed_code}
+use Rattle.lower_emission.specs.Programs.{text_in, has_fork, idle_fork, idle_forks, whole_code, placed_code}
 use Rattle.lower_emission.specs.Texts.{texts_of}
 use Rattle.ada_lower.specs.HasTables.{IsBody}
 use Rattle.ada_lower.specs.Sited.{Inner, SitedExpr, SitedOptional, SitedSelections, SitedActuals, SitedValue, SitedComposite, SitedAssociations, SitedIteration, SitedChunk, SitedPieces, SitedDecls, SitedStmt, SitedAll, SitedAlternatives, SitedArms, SitedHandlers, SitedSubs, IsSited}
@@ -251,10 +252,26 @@ module _ (program : Program) where
     made_fillings h n size flat value (r ∷ rs) f =
         (made_cond (flat && (nat_lt 1 r.count && nat_eq r.stride size)) _ _ (f r.first, made_doubled h (n + r.first) size r.count 1 r.count) (made_filling value r.count r.first r.stride f), made_fillings h n size flat value rs f)
 
+    made_entering : (h n : ℕ) (low : ℤ) (count first : ℕ) → Made (entering s h n low count first)
+    made_entering h n low count first = ((k.0, tt), ((k.0, tt), ((k.0, tt), ((k.0, tt), ((k.0, tt), (k.0, tt))))))
+
+    made_next : (h n : ℕ) (low : ℤ) (head m : ℕ) (rs : List Run) → Made (entering_next s h n low head m rs)
+    made_next h n low head m [] = tt
+    made_next h n low head m (r ∷ rs) = made_cond (nat_eq r.count 0) _ _ (made_next h n low head (m + 1) rs) ((k.0, tt), ((k.0, tt), (made_entering (h + 1) n low r.count r.first, (k.0, tt))))
+
+    made_steps : (h n : ℕ) (low : ℤ) (head m : ℕ) (rs : List Run) → Made (run_steps s h n low head m rs)
+    made_steps h n low head m [] = tt
+    made_steps h n low head m (r ∷ rs) = (((k.0, tt), ((k.0, tt), ((k.0, tt), (k.0, (made_stepping (h + 1) (s.free + 1 + 1) r.stride s.free head, made_next h n low head (m + 1) rs))))), made_steps h n low head (m + 1) rs)
+
+    made_runs : (h n : ℕ) (low : ℤ) (part : Emit) (m : ℕ) (rs : List Run) → Made part → Made (run_turnings s h n low part m rs)
+    made_runs h n low part m [] f = tt
+    made_runs h n low part m (r ∷ rs) f = made_cond (nat_eq r.count 0) _ _ (made_runs h n low part (m + 1) rs f) ((k.0, tt), (made_entering (h + 1) n low r.count r.first, ((k.0, (λ x. ((k.0, tt), f)), (λ x. made_steps h n low x m (r ∷ rs))), (k.0, tt))))
+
     made_turnings : (h n : ℕ) (low : ℤ) (part : Emit) (rs : List Run) → Made part → Made (turnings s h n low part rs)
     made_turnings h n low part [] f = tt
-    made_turnings h n low part (r ∷ rs) f =
-        (made_cond (nat_eq r.count 0) none _ tt ((k.0, tt), ((k.0, tt), ((k.0, tt), ((k.0, tt), ((k.0, tt), ((k.0, tt), (k.0, (λ x. ((k.0, tt), f)), (λ x. made_stepping h (s.free + 1 + 1) r.stride s.free x)))))))), made_turnings h n low part rs f)
+    made_turnings h n low part (r ∷ []) f =
+        made_cond (nat_eq r.count 0) none _ tt ((k.0, tt), ((k.0, tt), ((k.0, tt), ((k.0, tt), ((k.0, tt), ((k.0, tt), (k.0, (λ x. ((k.0, tt), f)), (λ x. made_stepping h (s.free + 1 + 1) r.stride s.free x))))))))
+    made_turnings h n low part (r ∷ p ∷ rs) f = made_runs h n low part 0 (r ∷ p ∷ rs) f
 
   -- what is done in turns, in any scope of such threads
   abbrev MadeTurns : Option ℕ → (Scope → Emit) → Type 0
@@ -352,8 +369,8 @@ module _ (program : Program) where
     made_associated : (o : Option ℕ) (s : Scope) (h n : ℕ) (x : Associations) → SitedAssociations program o x → Inside o s → Made (associated program s h n x)
     made_associated o s h n NoAssociation w k = tt
     made_associated o s h n (Association runs None mentions value rest) w k =
-        (made_cond o s k (takes_turns runs None value) _ _ (made_turnings o s k h n (pos 0) _ runs (made_component o (taking 3 s) h (s.free + 1 + 1) value w.0 k)) (made_fillings o s k h n (width program value) (is_plain value) _ runs (λ m. made_into o s h (n + m) value w.0 k)), made_associated o s h n rest w.1 k)
-    made_associated o s h n (Association runs (Some x) mentions value rest) w k = (made_turnings o s k h n x.first _ runs (made_component o (iterated_scope s x.parameter) h (s.free + 1 + 1) value w.0 k), made_associated o s h n rest w.1 k)
+        (made_cond o s k (takes_turns runs None value) _ _ (made_turnings o s k h n (pos 0) _ runs (made_component o (taking 3 s) (turn_height runs h) (s.free + 1 + 1) value w.0 k)) (made_fillings o s k h n (width program value) (is_plain value) _ runs (λ m. made_into o s h (n + m) value w.0 k)), made_associated o s h n rest w.1 k)
+    made_associated o s h n (Association runs (Some x) mentions value rest) w k = (made_turnings o s k h n x.first _ runs (made_component o (iterated_scope s x.parameter) (turn_height runs h) (s.free + 1 + 1) value w.0 k), made_associated o s h n rest w.1 k)
 
     made_component : (o : Option ℕ) (s : Scope) (h a : ℕ) (x : Value) → SitedValue program o x → Inside o s → Made (component program s h a x)
     made_component o s h a (Number check e) w k = ((k.0, tt), (made_emit o s (h + 1) e w k, ((k.0, tt), (k.0, tt))))
@@ -497,11 +514,11 @@ module _ (program : Program) where
     made_left_by : (d way : ℕ) → Made (left_by s d way)
     made_left_by d way = ((k.0, tt), ((k.0, tt), (k.0, tt)))
 
-    made_exits : (d number : ℕ) (ns : List ℕ) → Made (exits_code s d number ns)
+    made_exits : (d : ℕ) (number : Option ℕ) (ns : List ℕ) → Made (exits_code s d number ns)
     made_exits d number [] = tt
-    made_exits d number (n ∷ ns) = (made_cond o s k (nat_eq number n) none _ tt (made_left_by d (n + 3), (k.0, made_exiting n (s.exits n))), made_exits d number ns)
+    made_exits d number (n ∷ ns) = (made_cond o s k (is_own number n) none _ tt (made_left_by d (n + 3), (k.0, made_exiting n (s.exits n))), made_exits d number ns)
 
-    made_left : (number : ℕ) (loops : List ℕ) → Made (left_code s number loops)
+    made_left : (number : Option ℕ) (loops : List ℕ) → Made (left_code s number loops)
     made_left number loops =
         ((k.0, tt), ((k.0, tt), ((k.0, tt), (k.0, ((made_left_by s.free 1, ((k.0, made_returning 0 s.leaving), (made_left_by s.free 2, (k.0, ((k.0, tt), made_returning_value s.leaving))))), made_exits s.free number loops)))))
 
@@ -560,12 +577,12 @@ module _ (program : Program) where
   made_parallel_for o s number site chunk it loops f w w1 w2 k g =
       let kt : Inside (Some site) (thread_scope site s) = inside_thread o s site w k in
       let kc : Inside (Some site) (chunk_scope chunk (taking 2 (thread_scope site s))) = inside_chunk (Some site) chunk (taking 2 (thread_scope site s)) kt in
-      ((k.0, tt), (made_chunk o (nested s) 0 chunk w1 k, (made_course o (Some site) (taking 2 (nested s)) 0 it w2 k, (made_ends o (taking 2 (nested s)) k 0 it, (((k.0, tt), ((k.0, tt), ((k.0, tt), ((k.0, names_fork o s k site w), (k.0, (made_threaded o site (thread_scope site s) 0 chunk (s.free + 1 + 1) it f w2 kt g, (kc.0, tt))))))), ((k.0, tt), made_left o (taking 2 (taking 2 s)) k number loops))))))
+      ((k.0, tt), (made_chunk o (nested s) 0 chunk w1 k, (made_course o (Some site) (taking 2 (nested s)) 0 it w2 k, (made_ends o (taking 2 (nested s)) k 0 it, (((k.0, tt), ((k.0, tt), ((k.0, tt), ((k.0, names_fork o s k site w), (k.0, (made_threaded o site (thread_scope site s) 0 chunk (s.free + 1 + 1) it f w2 kt g, (kc.0, tt))))))), ((k.0, tt), made_left o (taking 2 (taking 2 s)) k (Some number) loops))))))
 
   made_parallel_block : (o : Option ℕ) (s : Scope) (site : ℕ) (threads : Optional) (count : ℕ) (loops : List ℕ) (arms : Emit) → Inner program o site → SitedOptional program o threads → Inside o s → Made arms → Made (parallel_block program s site threads count loops arms)
   made_parallel_block o s site threads count loops arms w w1 k f =
       let kt : Inside (Some site) (thread_scope site s) = inside_thread o s site w k in
-      ((k.0, tt), (made_chunk o (nested s) 0 (chunk_by program threads) (sited_chunk o threads w1) k, ((k.0, tt), ((k.0, tt), (((k.0, tt), ((k.0, tt), ((k.0, tt), ((k.0, names_fork o s k site w), (k.0, (f, (kt.0, tt))))))), ((k.0, tt), made_left o (taking 2 s) k no_loop loops))))))
+      ((k.0, tt), (made_chunk o (nested s) 0 (chunk_by program threads) (sited_chunk o threads w1) k, ((k.0, tt), ((k.0, tt), (((k.0, tt), ((k.0, tt), ((k.0, tt), ((k.0, names_fork o s k site w), (k.0, (f, (kt.0, tt))))))), ((k.0, tt), made_left o (taking 2 s) k None loops))))))
 
   mutual
     unfolding stmt
@@ -640,7 +657,20 @@ module _ (program : Program) where
   made_main s (DeclareConstant x initial more) w all' k = (made_into None (taking (width program initial) s) 0 s.free initial w.0 k, made_main (code.main_object s (ConstantOf x) (width program initial)) more w.1 all' k)
   made_main s (Mentions es more) w all' k = made_main s more w all' k
 
+  -- ---- what no run comes to
+
+  made_idle : (text : List ℕ → ℕ) (ps : List Placed) (n : ℕ) (sites : List Site) → n + length sites ≡ length program.sites → Made (idle_forks (code.main_scope text) ps n sites)
+  made_idle text ps n [] e = tt
+  made_idle text ps n (x ∷ more) e = (go (has_fork n ps), made_idle text ps (n + 1) more (let y : n + suc (length more) ≡ length program.sites = e in omega (arith, y)))
+    where
+      is : n < length program.sites
+      is = let y : n + suc (length more) ≡ length program.sites = e in omega (arith, y)
+
+      go : (b : Bool) → Made (cond b none (idle_fork (code.main_scope text) n))
+      go true = tt
+      go false = ((tt, (is, tt)), ((tt, (is, tt)), (tt, tt)))
+
   -- what each listed instruction of a program names
   pub listed_names : IsSited program → (q : ℕ) (p : Placed) → slice_get (placed_code program) q ≡ Some p → IsBody program p.body × Names p.body p.instr
   listed_names w q p e =
-      made_at (placed_code program) q p (all_made (code.program_code program (text_in program)) 0 (made_main (code.main_scope (text_in program)) program.body.decls w.0.0 w (tt, tt, (λ bytes. refl)))) e
+      made_at (placed_code program) q p (all_made (whole_code program (text_in program)) 0 (made_main (code.main_scope (text_in program)) program.body.decls w.0.0 w (tt, tt, (λ bytes. refl)), made_idle (text_in program) (listed (code.program_code program (text_in program)) 0) 0 program.sites (omega arith))) e

@@ -10,10 +10,11 @@ use Rattle.stack_code.specs.declared.code.Code.{Code}
 use Rattle.stack_code.specs.declared.instr.Instr.TheVariants as i
 use Rattle.lower_emission.specs.Scope as scope
 use Rattle.lower_emission.specs.Bodies as code
+use Rattle.lower_emission.specs.Programs.{idle_forks}
 use Rattle.ada_lower.specs.Sights.{Emit, Lies, Named, Scope, Sight, Stands, listed, one, ◌⨟◌}
 use Rattle.ada_lower.specs.Emission.{put_into, width, defaulted, Shape, lead, shapes, shapes_cells, stmt}
 use Rattle.ada_lower.specs.Bodies.{formal_named, objects, leaving_of, sub_scope, sub_code, AllStand, main_scope, main_declared, main_body, main_code}
-use Rattle.ada_lower.specs.ProgramCode.{behind, main_halts, main_end, sub_place, behind_main, sub_entry, AreNamed, IsCodeOf, AllFit}
+use Rattle.ada_lower.specs.ProgramCode.{behind, main_halts, main_end, sub_place, behind_main, sub_entry, whole_code, AreNamed, IsCodeOf, AllFit}
 use Rattle.ada_lower.proofs.Standing.{lies_end, stands_seq, stands_join}
 use Rattle.ada_lower.proofs.Listed.{stands_listed}
 
@@ -102,8 +103,12 @@ module _ (program : Program) where
           (end, subst (λ j. Stands c (code.sub_code program (code.sub_scope program t j unit) unit) (sub_place program t (n + 1) more k (from + length (listed a from))) end) z w)
 
       module _ (is : IsCodeOf program text c) (named : AreNamed program text globals) where
-        whole : MainStands (code.main_scope text) program.body.decls 0 (length (listed (code.program_code program text) 0))
-        whole = main_stands program.body.decls (code.main_scope text) 0 (length (listed (code.program_code program text) 0)) (stands_listed c (code.program_code program text) is.lists)
+        -- the code of bodies, in front of what no run comes to
+        bodies : (to : ℕ) × Stands c (code.program_code program text) 0 to
+        bodies = let (m, l, r) = stands_seq c 0 (length (listed (whole_code program text) 0)) (code.program_code program text) (idle_forks (code.main_scope text) (listed (code.program_code program text) 0) 0 program.sites) (stands_listed c (whole_code program text) is.lists) in (m, l)
+
+        whole : MainStands (code.main_scope text) program.body.decls 0 bodies.0
+        whole = main_stands program.body.decls (code.main_scope text) 0 bodies.0 bodies.1
 
         -- where the main procedure's code ends
         pub main_to : ℕ
@@ -115,8 +120,8 @@ module _ (program : Program) where
 
         sub_there : (k : ℕ) (unit : Sub) → sub_at program.subs k ≡ Some unit → (end : ℕ) × ((cells : ℕ) → Stands c (sub_code program globals mains texts text frames (sub_scope program globals mains texts text frames k unit cells).scope unit) (sub_entry program text k) end)
         sub_there k unit e =
-            let l = subst (λ q. Stands c (code.subs_code program (behind_main program text) 0 program.subs) q (length (listed (code.program_code program text) 0))) whole.place whole.subs in
-            let (end, w) = subs_stand (behind_main program text) program.subs 0 k (main_end program (code.main_scope text) program.body.decls 0) (length (listed (code.program_code program text) 0)) unit e l in
+            let l = subst (λ q. Stands c (code.subs_code program (behind_main program text) 0 program.subs) q bodies.0) whole.place whole.subs in
+            let (end, w) = subs_stand (behind_main program text) program.subs 0 k (main_end program (code.main_scope text) program.body.decls 0) bodies.0 unit e l in
             let z : 0 + k ≡ k = omega arith in (
               end,
               λ cells. subst (λ s. Stands c (code.sub_code program s unit) (sub_entry program text k) end) (sub_scope_same k unit cells)

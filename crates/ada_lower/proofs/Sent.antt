@@ -1,8 +1,8 @@
--- Actual parameters in the cells of a call's frame: ahead of the cells of a formal that is copied back stands the address of
--- its target.
-use Rattle.std.proofs.Common.{◌≡◌, ℕ, zero, suc, ◌+◌, ◌<◌, ◌≤◌, ℤ, List, [], ◌∷◌, ◌++◌, length, take, slice_get, nat_eq, nat_lt, Option, Some, None, Result, Ok, Err, Bool, true, false, cond, refl, sym, ap, ◌∙◌, subst, le_refl, le_trans, arith, ◌⊎◌, inl, inr, ⊎_elim, ltb-true, append_assoc, append-nil, length-append, is_some}
+-- Actual parameters in the cells of a call's frame, each where its formal is: ahead of the cells of a formal that is copied
+-- back stands the address of its target.
+use Rattle.std.proofs.Common.{◌≡◌, ℕ, zero, suc, ◌+◌, ◌<◌, ◌≤◌, ℤ, List, [], ◌∷◌, ◌++◌, length, take, slice_get, nat_lt, Option, Some, None, Result, Ok, Err, Bool, true, false, cond, refl, sym, ap, ◌∙◌, subst, le_refl, le_trans, arith, ◌⊎◌, inl, inr, ⊎_elim, ltb-true, append_assoc, append-nil, is_some}
 use Rattle.ada_base.specs.declared.reason.Reason.{Reason}
-use Rattle.behaviours.specs.Paths.{Entity, Here, Raises}
+use Rattle.behaviours.specs.Paths.{Entity, ConstantOf, Here, Raises}
 use Rattle.ada_meaning.specs.Operations.{Operations}
 use Rattle.ada_meaning.specs.Stored as stored
 use Rattle.ada_meaning.specs.Stored.{Stored, Cause, Left, OutOfTurns, NoRoom, CutOff, Misnoted, Touch, key}
@@ -10,41 +10,47 @@ use Rattle.ada_meaning.specs.Meaning
 use Rattle.ada_meaning.specs.Meaning.{Back, Passed, Returned}
 use Rattle.ada_meaning.proofs.Cells.{some_same, get_take}
 use Rattle.typed_tree.specs.Syntax.{Program}
+use Rattle.typed_scopes.specs.Scopes.{Without}
 use Rattle.stack_code.specs.declared.code.Code.{Code}
 use Rattle.ada_base.specs.Cells.{Cell, Mine, value_in}
 use Rattle.ada_lower.specs.Driven.{Dyn, Fixed, Step, thrown, Comes}
 use Rattle.ada_lower.specs.Emission.{Shape, lead, shapes_cells}
-use Rattle.ada_lower.specs.Fits.{What, Free, Keeps, Access, Right, Ghost, Fit, Ends, Land, Lands, Spread, Allows, Stands as StandsFor, Asks}
+use Rattle.ada_lower.specs.Fits.{What, Free, Access, Right, Ghost, Fit, Ends, Land, Lands, Spread, Allows, Stands as StandsFor, Asks}
+use Rattle.ada_lower.specs.Fitted.{Spot, spot, spots}
 use Rattle.ada_lower.proofs.Framework.{any, To, Doing, comes_here, land_from, lands_from, allows_split, asks_split, leads_on}
 use Rattle.ada_lower.proofs.Memory.{fit_alike}
 use Rattle.ada_lower.proofs.Parts.{allows_fewer}
 use Rattle.ada_lower.proofs.Declared.{keeping, having, laid_what, laid_out, laid_in, kept_what, among, length_in, Fresh, fresh_of, fit_having, fit_ended}
 use Rattle.ada_lower.proofs.Blocks.{fit_unkept, fewer_kept}
 use Rattle.ada_lower.proofs.Copies.{AreThere, all_read}
+use Rattle.ada_lower.proofs.Scattered.{Piece, scattered, scattering, IsClear, AreIn, AreFree, clear_part, scattered_off, scattered_swap, two_outer}
+use Rattle.ada_lower.proofs.Spots.{Each, IsOff, IsWithin, AreApart, each_map, each_without, apart_without, spots_within, spots_apart}
 
+-- an actual parameter, from a cell of the call's frame on
 pub record Sent : Type 0 where
   pub passed : Passed
   pub ahead : List ℤ
+  pub at : ℕ
 
 abbrev pub all_passed : List Sent → List Passed
 all_passed [] = []
 all_passed (p ∷ ps) = p.passed ∷ all_passed ps
 
 -- their cells
-abbrev pub flat : List Sent → List ℤ
-flat [] = []
-flat (p ∷ ps) = p.ahead ++ (p.passed.cells ++ flat ps)
+abbrev pub pieces : List Sent → List Piece
+pieces [] = []
+pieces (p ∷ ps) = record { at = p.at; cells = p.ahead } ∷ record { at = p.at + length p.ahead; cells = p.passed.cells } ∷ pieces ps
 
 -- the addresses alone
-abbrev pub aheads : ℕ → List Sent → (ℕ → What) → ℕ → What
-aheads a [] w b = w b
-aheads a (p ∷ ps) w b = laid_what a 0 kept_what p.ahead (aheads (a + length p.ahead + length p.passed.cells) ps w) b
+abbrev pub aheads : List Sent → List Piece
+aheads [] = []
+aheads (p ∷ ps) = record { at = p.at; cells = p.ahead } ∷ aheads ps
 
 -- the addresses, and what a call leaves in the cells of formals that are copied back
-abbrev pub backs : ℕ → List Sent → List (List ℤ) → (ℕ → What) → ℕ → What
-backs a [] vss w b = w b
-backs a (p ∷ ps) [] w b = w b
-backs a (p ∷ ps) (vs ∷ vss) w b = laid_what a 0 kept_what p.ahead (laid_what (a + length p.ahead) 0 kept_what vs (backs (a + length p.ahead + length p.passed.cells) ps vss w)) b
+abbrev pub backs : List Sent → List (List ℤ) → List Piece
+backs [] vss = []
+backs (p ∷ ps) [] = []
+backs (p ∷ ps) (vs ∷ vss) = record { at = p.at; cells = p.ahead } ∷ record { at = p.at + length p.ahead; cells = vs } ∷ backs ps vss
 
 abbrev pub BackAt : Option Back → ℕ → ℕ → List ℤ → List Cell → Type 0
 BackAt None n a vs cells = vs ≡ []
@@ -53,7 +59,7 @@ BackAt (Some b) n a vs cells = (length vs ≡ n) × AreThere cells a vs
 abbrev pub Backs : ℕ → List Sent → List (List ℤ) → List Cell → Type 0
 Backs a [] vss cells = Unit {0}
 Backs a (p ∷ ps) [] cells = ⊥
-Backs a (p ∷ ps) (vs ∷ vss) cells = BackAt p.passed.back (length p.passed.cells) (a + length p.ahead) vs cells × Backs (a + length p.ahead + length p.passed.cells) ps vss cells
+Backs a (p ∷ ps) (vs ∷ vss) cells = BackAt p.passed.back (length p.passed.cells) (a + (p.at + length p.ahead)) vs cells × Backs a ps vss cells
 
 -- the objects of formals that are copied back have their cells
 abbrev pub SpreadOf : Ghost → Entity → Option Back → ℕ → ℕ → Type 0
@@ -62,130 +68,130 @@ SpreadOf g y (Some b) n a = (length b.cells ≡ n) × Spread g y 0 n a
 
 abbrev pub AreSpread : Ghost → ℕ → List Sent → Type 0
 AreSpread g a [] = Unit {0}
-AreSpread g a (p ∷ ps) = SpreadOf g p.passed.formal p.passed.back (length p.passed.cells) (a + length p.ahead) × AreSpread g (a + length p.ahead + length p.passed.cells) ps
+AreSpread g a (p ∷ ps) = SpreadOf g p.passed.formal p.passed.back (length p.passed.cells) (a + (p.at + length p.ahead)) × AreSpread g a ps
 
--- actual parameters are of the shapes of formals
+-- actual parameters are of the shapes of formals, and where these are
 abbrev pub BackSuited : Bool → ℕ → Option Back → Type 0
 BackSuited back n None = Unit {0}
 BackSuited back n (Some b) = (back ≡ true) × (length b.cells ≡ n)
 
-abbrev pub AreSuited : List Shape → List Sent → Type 0
-AreSuited [] [] = Unit {0}
-AreSuited [] (p ∷ ps) = ⊥
-AreSuited (h ∷ hs) [] = ⊥
-AreSuited (h ∷ hs) (p ∷ ps) = (p.passed.formal ≡ h.formal) × (length p.ahead ≡ lead h.back) × (length p.passed.cells ≡ h.cells) × BackSuited h.back h.cells p.passed.back × AreSuited hs ps
+pub record IsSuited (k : Spot) (p : Sent) : Type 0 where
+  pub place : p.at ≡ k.at
+  pub formal : p.passed.formal ≡ k.shape.formal
+  pub ahead : length p.ahead ≡ lead k.shape.back
+  pub cells : length p.passed.cells ≡ k.shape.cells
+  pub back : BackSuited k.shape.back k.shape.cells p.passed.back
 
-pub suited_cells : (hs : List Shape) (ps : List Sent) → AreSuited hs ps → length (flat ps) ≡ shapes_cells hs
-suited_cells [] [] e = refl
-suited_cells [] (p ∷ ps) e = absurd e
-suited_cells (h ∷ hs) [] e = absurd e
-suited_cells (h ∷ hs) (p ∷ ps) (e1, e2, e3, e4, e5) =
-    let z1 : length (flat (p ∷ ps)) ≡ length p.ahead + length (p.passed.cells ++ flat ps) = length-append p.ahead (p.passed.cells ++ flat ps) in
-    let z2 : length (p.passed.cells ++ flat ps) ≡ length p.passed.cells + length (flat ps) = length-append p.passed.cells (flat ps) in
-    let z3 = suited_cells hs ps e5 in
-    omega (arith, z1, z2, z3, e2, e3)
+-- an actual parameter of mode `in`
+abbrev pub sent_in : ℕ → ℕ → List ℤ → Sent
+sent_in formal i cs = record { passed = record { formal = ConstantOf formal; cells = cs; back = None }; ahead = []; at = i }
 
--- ---- cells that are laid
+pub suits_in : (formal n i : ℕ) (cs : List ℤ) → length cs ≡ n → IsSuited (spot (ConstantOf formal) false n i) (sent_in formal i cs)
+suits_in formal n i cs len = record { place = refl; formal = refl; ahead = refl; cells = len; back = tt }
 
-pub kept_any : (a j j' : ℕ) (vs : List ℤ) (w : ℕ → What) (b : ℕ) → laid_what a j kept_what vs w b ≡ laid_what a j' kept_what vs w b
-kept_any a j j' [] w b = refl
-kept_any a j j' (v ∷ vs) w b = ap (λ z. cond (nat_eq a b) (Keeps v) z) (kept_any (a + 1) (j + 1) (j' + 1) vs w b)
+abbrev pub AreSuited : List Spot → List Sent → Type 0
+AreSuited ks [] = ks ≡ []
+AreSuited ks (p ∷ ps) = (k : Spot) × (zs : List Spot) × Without k ks zs × IsSuited k p × AreSuited zs ps
 
-pub laid_at : (a i : ℕ) (F : ℕ → ℤ → What) (xs : List ℤ) (w w' : ℕ → What) (b : ℕ) → w b ≡ w' b → laid_what a i F xs w b ≡ laid_what a i F xs w' b
-laid_at a i F [] w w' b e = e
-laid_at a i F (x ∷ xs) w w' b e = ap (λ z. cond (nat_eq a b) (F i x) z) (laid_at (a + 1) (i + 1) F xs w w' b e)
+-- ---- each has cells of its own
 
-pub laid_split : (a i j : ℕ) (xs ys : List ℤ) (w : ℕ → What) (b : ℕ) → laid_what a i kept_what (xs ++ ys) w b ≡ laid_what a i kept_what xs (laid_what (a + length xs) j kept_what ys w) b
-laid_split a i j [] ys w b = let z : a ≡ a + 0 = omega arith in kept_any a i j ys w b ∙ ap (λ n. laid_what n j kept_what ys w b) z
-laid_split a i j (x ∷ xs) ys w b =
-    let z : a + 1 + length xs ≡ a + suc (length xs) = omega arith in
-    ap (λ z. cond (nat_eq a b) (Keeps x) z) (laid_split (a + 1) (i + 1) j xs ys w b ∙ ap (λ n. laid_what (a + 1) (i + 1) kept_what xs (laid_what n j kept_what ys w) b) z)
+abbrev pub HaveCells : ℕ → List Sent → Type 0
+HaveCells m [] = Unit {0}
+HaveCells m (p ∷ ps) = (p.at + (length p.ahead + length p.passed.cells) ≤ m) × IsClear p.at (length p.ahead + length p.passed.cells) (pieces ps) × HaveCells m ps
 
-pub laid_swap : (a i : ℕ) (F : ℕ → ℤ → What) (xs : List ℤ) (e j : ℕ) (G : ℕ → ℤ → What) (ys : List ℤ) (w : ℕ → What) (b : ℕ) → a + length xs ≤ e
-    → laid_what a i F xs (laid_what e j G ys w) b ≡ laid_what e j G ys (laid_what a i F xs w) b
-laid_swap a i F xs e j G ys w b le = ⊎_elim
-    (λ r. let (k, v, z, is) = r in subst (λ b. laid_what a i F xs (laid_what e j G ys w) b ≡ laid_what e j G ys (laid_what a i F xs w) b) z
-    (laid_out a i F xs (laid_what e j G ys w) (e + k) (inr (omega (arith, le))) ∙ laid_in e j G ys w k v is ∙ sym (laid_in e j G ys (laid_what a i F xs w) k v is)))
-    (λ out. laid_at a i F xs (laid_what e j G ys w) w b (laid_out e j G ys w b out) ∙ sym (laid_out e j G ys (laid_what a i F xs w) b out))
-    (among e b ys)
+suited_clear : (e n : ℕ) (ks : List Spot) (ps : List Sent) → Each (IsOff e n) ks → AreSuited ks ps → IsClear e n (pieces ps)
+suited_clear e n ks [] off suited = tt
+suited_clear e n ks (p ∷ ps) off (k, zs, wo, s, suited) =
+    let (here, rest) = each_without (IsOff e n) k ks zs wo off in
+    let e1 = s.place in
+    let e2 = s.ahead in
+    let e3 = s.cells in (
+      ⊎_elim (λ l. inl (omega (arith, l, e1))) (λ l. inr (omega (arith, l, e1, e2))) here,
+      (⊎_elim (λ l. inl (omega (arith, l, e1))) (λ l. inr (omega (arith, l, e1, e2, e3))) here, suited_clear e n zs ps rest suited),
+    )
 
-pub aheads_at : (a : ℕ) (ps : List Sent) (w w' : ℕ → What) (b : ℕ) → w b ≡ w' b → aheads a ps w b ≡ aheads a ps w' b
-aheads_at a [] w w' b e = e
-aheads_at a (p ∷ ps) w w' b e = laid_at a 0 kept_what p.ahead (aheads (a + length p.ahead + length p.passed.cells) ps w) (aheads (a + length p.ahead + length p.passed.cells) ps w') b (aheads_at (a + length p.ahead + length p.passed.cells) ps w w' b e)
+pub suited_cells : (m : ℕ) (ks : List Spot) (ps : List Sent) → Each (IsWithin m) ks → AreApart ks → AreSuited ks ps → HaveCells m ps
+suited_cells m ks [] within apart suited = tt
+suited_cells m ks (p ∷ ps) within apart (k, zs, wo, s, suited) =
+    let (here, within') = each_without (IsWithin m) k ks zs wo within in
+    let (off, apart') = apart_without k ks zs wo apart in
+    let e1 = s.place in
+    let e2 = s.ahead in
+    let e3 = s.cells in (
+      omega (arith, here, e1, e2, e3),
+      suited_clear p.at (length p.ahead + length p.passed.cells) zs ps
+          (each_map (IsOff k.at (lead k.shape.back + k.shape.cells)) (IsOff p.at (length p.ahead + length p.passed.cells)) zs (λ z off. ⊎_elim (λ l. inl (omega (arith, l, e1, e2, e3))) (λ l. inr (omega (arith, l, e1))) off) off) suited,
+      suited_cells m zs ps within' apart' suited,
+    )
 
-pub aheads_swap : (a i : ℕ) (F : ℕ → ℤ → What) (xs : List ℤ) (e : ℕ) (ps : List Sent) (w : ℕ → What) (b : ℕ) → a + length xs ≤ e → laid_what a i F xs (aheads e ps w) b ≡ aheads e ps (laid_what a i F xs w) b
-aheads_swap a i F xs e [] w b le = refl
-aheads_swap a i F xs e (p ∷ ps) w b le =
-    let n : ℕ = e + length p.ahead + length p.passed.cells in
-    laid_swap a i F xs e 0 kept_what p.ahead (aheads n ps w) b le
-    ∙ laid_at e 0 kept_what p.ahead (laid_what a i F xs (aheads n ps w)) (aheads n ps (laid_what a i F xs w)) b (aheads_swap a i F xs n ps w b (let z : e ≤ n = omega arith in omega (arith, le, z)))
+-- where the formals are one behind the other
+pub have_cells : (hs : List Shape) (ps : List Sent) → AreSuited (spots 0 hs) ps → HaveCells (shapes_cells hs) ps
+have_cells hs ps suited = suited_cells (shapes_cells hs) (spots 0 hs) ps (spots_within hs) (spots_apart 0 hs) suited
 
-pub aheads_cases : (a : ℕ) (ps : List Sent) (w : ℕ → What) (b : ℕ) → (aheads a ps w b ≡ w b) ⊎ ((v : ℤ) × (aheads a ps w b ≡ Keeps v) × (k : ℕ) × (a + k ≡ b) × (k < length (flat ps)))
-aheads_cases a [] w b = inl refl
-aheads_cases a (p ∷ ps) w b =
-    let n : ℕ = a + length p.ahead + length p.passed.cells in
-    let len : length (flat (p ∷ ps)) ≡ length p.ahead + length (p.passed.cells ++ flat ps) = length-append p.ahead (p.passed.cells ++ flat ps) in
-    let len' : length (p.passed.cells ++ flat ps) ≡ length p.passed.cells + length (flat ps) = length-append p.passed.cells (flat ps) in
-    ⊎_elim
-    (λ r. let (k, v, z, is) = r in inr (v, sym (ap (laid_what a 0 kept_what p.ahead (aheads n ps w)) z) ∙ laid_in a 0 kept_what p.ahead (aheads n ps w) k v is, k, z, (let l : k < length p.ahead = length_in p.ahead k v is in omega (arith, l, len, len'))))
-    (λ out. ⊎_elim
-    (λ e. inl (laid_out a 0 kept_what p.ahead (aheads n ps w) b out ∙ e))
-    (λ r. let (v, e, k, z, l) = r in inr (v, laid_out a 0 kept_what p.ahead (aheads n ps w) b out ∙ e, length p.ahead + length p.passed.cells + k, (let y : a + (length p.ahead + length p.passed.cells + k) ≡ b = omega (arith, z) in y), omega (arith, l, len, len')))
-    (aheads_cases n ps w b))
-    (among a b p.ahead)
+pub pieces_in : (m : ℕ) (ps : List Sent) → HaveCells m ps → AreIn m (pieces ps)
+pieces_in m [] have = tt
+pieces_in m (p ∷ ps) (fits, off, have) = (omega (arith, fits), (omega (arith, fits), pieces_in m ps have))
 
--- addresses aren't kept any more
-pub fit_unaheads : (a : ℕ) (ps : List Sent) (g : Ghost) {s : stored.State} {d : Dyn} → ((k : ℕ) → k < length (flat ps) → g.what (a + k) ≡ Free) → Fit (record g { what = aheads a ps g.what }) s d → Fit g s d
-fit_unaheads a ps g {s} {d} free w = record {
-  here = w.here;
-  everywhere = w.everywhere;
-  declared = w.declared;
-  frame = w.frame;
-  top = w.top;
-  least = w.least;
-  most = w.most;
-  agrees = w.agrees;
-  plan = w.plan;
-  order = w.order;
-  cells = λ b. ⊎_elim
-      (λ e. subst (λ z. Right z s (slice_get d.cells b)) e (w.cells b))
-      (λ r. let (v, e, k, z, l) = r in subst (λ y. Right y s (slice_get d.cells b)) (sym (ap g.what (sym z) ∙ free k l)) (v, subst (λ y. Right y s (slice_get d.cells b)) e (w.cells b)))
-      (aheads_cases a ps g.what b);
-}
+pub aheads_in : (m : ℕ) (ps : List Sent) → HaveCells m ps → AreIn m (aheads ps)
+aheads_in m [] have = tt
+aheads_in m (p ∷ ps) (fits, off, have) = (omega (arith, fits), aheads_in m ps have)
 
--- arguments aren't kept any more
-right_aheads : (a : ℕ) (ps : List Sent) (w : ℕ → What) (s : stored.State) (o : Option Cell) (b : ℕ) → ((k : ℕ) → k < length (flat ps) → w (a + k) ≡ Free) → Right (laid_what a 0 kept_what (flat ps) w b) s o → Right (aheads a ps w b) s o
-right_aheads a [] w s o b free r = r
-right_aheads a (p ∷ ps) w s o b free r =
-    let n : ℕ = a + length p.ahead + length p.passed.cells in
-    let a' : ℕ = a + length p.ahead in
-    let len : length (flat (p ∷ ps)) ≡ length p.ahead + length (p.passed.cells ++ flat ps) = length-append p.ahead (p.passed.cells ++ flat ps) in
-    let len' : length (p.passed.cells ++ flat ps) ≡ length p.passed.cells + length (flat ps) = length-append p.passed.cells (flat ps) in
-    let rest : (ℕ → What) = laid_what a' 0 kept_what (p.passed.cells ++ flat ps) w in
-    let r1 : Right (laid_what a 0 kept_what p.ahead rest b) s o = subst (λ y. Right y s o) (laid_split a 0 0 p.ahead (p.passed.cells ++ flat ps) w b) r in
-    ⊎_elim
+pub back_most : (o : Option Back) (n a : ℕ) (vs : List ℤ) (cells : List Cell) → BackAt o n a vs cells → length vs ≤ n
+back_most None n a vs cells e = let z : length vs ≡ 0 = ap (λ z. length z) e in omega (arith, z)
+back_most (Some b) n a vs cells (e, t) = omega (arith, e)
+
+pub backs_in : (m a : ℕ) (ps : List Sent) (vss : List (List ℤ)) (cells : List Cell) → HaveCells m ps → Backs a ps vss cells → AreIn m (backs ps vss)
+backs_in m a [] vss cells have bs = tt
+backs_in m a (p ∷ ps) [] cells have bs = absurd bs
+backs_in m a (p ∷ ps) (vs ∷ vss) cells (fits, off, have) (here, bs) =
+    let most : length vs ≤ length p.passed.cells = back_most p.passed.back (length p.passed.cells) (a + (p.at + length p.ahead)) vs cells here in
+    (omega (arith, fits), (omega (arith, fits, most), backs_in m a ps vss cells have bs))
+
+pub aheads_clear : (e n : ℕ) (ps : List Sent) → IsClear e n (pieces ps) → IsClear e n (aheads ps)
+aheads_clear e n [] off = tt
+aheads_clear e n (p ∷ ps) (off, (off', rest)) = (off, aheads_clear e n ps rest)
+
+pub backs_clear : (e n a : ℕ) (ps : List Sent) (vss : List (List ℤ)) (cells : List Cell) → Backs a ps vss cells → IsClear e n (pieces ps) → IsClear e n (backs ps vss)
+backs_clear e n a [] vss cells bs off = tt
+backs_clear e n a (p ∷ ps) [] cells bs off = absurd bs
+backs_clear e n a (p ∷ ps) (vs ∷ vss) cells (here, bs) (off, (off', rest)) =
+    let most : length vs ≤ length p.passed.cells = back_most p.passed.back (length p.passed.cells) (a + (p.at + length p.ahead)) vs cells here in
+    (off, (⊎_elim (λ l. inl l) (λ l. inr (omega (arith, l, most))) off', backs_clear e n a ps vss cells bs rest))
+
+-- ---- arguments aren't kept any more
+
+right_aheads : (a m : ℕ) (ps : List Sent) (w : ℕ → What) (s : stored.State) (o : Option Cell) (b : ℕ) → HaveCells m ps → AreFree a m w → Right (scattered a (pieces ps) w b) s o → Right (scattered a (aheads ps) w b) s o
+right_aheads a m [] w s o b have free r = r
+right_aheads a m (p ∷ ps) w s o b (fits, off, have) free r =
+    let n : ℕ = length p.ahead + length p.passed.cells in
+    let a1 : ℕ = a + p.at in
+    let a2 : ℕ = a + (p.at + length p.ahead) in
+    let S : (ℕ → What) = scattered a (pieces ps) w in
+    let H : (ℕ → What) = scattered a (aheads ps) w in
+    let rest : (ℕ → What) = laid_what a2 0 kept_what p.passed.cells S in
+    let off' : IsClear p.at n (aheads ps) = aheads_clear p.at n ps off in
+    let r1 : Right (laid_what a1 0 kept_what p.ahead rest b) s o = subst (λ y. Right y s o) (two_outer a p.at p.ahead p.passed.cells (pieces ps) w b off) r in
+    subst (λ y. Right y s o) (scattered_swap a p.at 0 kept_what p.ahead (aheads ps) w b (clear_part p.at n p.at (length p.ahead) (aheads ps) (le_refl p.at) (omega arith) off'))
+    (⊎_elim
     (λ q. let (k, v, z, is) = q in
-    subst (λ y. Right y s o) (sym (sym (ap (laid_what a 0 kept_what p.ahead (aheads n ps w)) z) ∙ laid_in a 0 kept_what p.ahead (aheads n ps w) k v is))
-    (subst (λ y. Right y s o) (sym (ap (laid_what a 0 kept_what p.ahead rest) z) ∙ laid_in a 0 kept_what p.ahead rest k v is) r1))
+    subst (λ y. Right y s o) (sym (sym (ap (laid_what a1 0 kept_what p.ahead H) z) ∙ laid_in a1 0 kept_what p.ahead H k v is))
+    (subst (λ y. Right y s o) (sym (ap (laid_what a1 0 kept_what p.ahead rest) z) ∙ laid_in a1 0 kept_what p.ahead rest k v is) r1))
     (λ out.
-    let r2 : Right (laid_what a' 0 kept_what p.passed.cells (laid_what n 0 kept_what (flat ps) w) b) s o = subst (λ y. Right y s o) (laid_out a 0 kept_what p.ahead rest b out ∙ laid_split a' 0 0 p.passed.cells (flat ps) w b) r1 in
-    subst (λ y. Right y s o) (sym (laid_out a 0 kept_what p.ahead (aheads n ps w) b out))
+    let r2 : Right (rest b) s o = subst (λ y. Right y s o) (laid_out a1 0 kept_what p.ahead rest b out) r1 in
+    subst (λ y. Right y s o) (sym (laid_out a1 0 kept_what p.ahead H b out))
     (⊎_elim
     (λ q. let (k, v, z, is) = q in
     let lt : k < length p.passed.cells = length_in p.passed.cells k v is in
-    let fr : aheads n ps w b ≡ Free = ⊎_elim
-    (λ e. e ∙ ap w (sym z) ∙ (let y : a' + k ≡ a + (length p.ahead + k) = omega arith in ap w y) ∙ free (length p.ahead + k) (omega (arith, lt, len, len')))
-    (λ t. let (v', e', k', z', l') = t in absurd (omega (arith, z, z', lt)))
-    (aheads_cases n ps w b) in
-    subst (λ y. Right y s o) (sym fr) (v, subst (λ y. Right y s o) (sym (ap (laid_what a' 0 kept_what p.passed.cells (laid_what n 0 kept_what (flat ps) w)) z) ∙ laid_in a' 0 kept_what p.passed.cells (laid_what n 0 kept_what (flat ps) w) k v is) r2))
-    (λ out'. right_aheads n ps w s o b
-    (λ k lt. (let z : n + k ≡ a + (length p.ahead + length p.passed.cells + k) = omega arith in ap w z) ∙ free (length p.ahead + length p.passed.cells + k) (omega (arith, lt, len, len')))
-    (subst (λ y. Right y s o) (laid_out a' 0 kept_what p.passed.cells (laid_what n 0 kept_what (flat ps) w) b out') r2))
-    (among a' b p.passed.cells)))
-    (among a b p.ahead)
+    let j : ℕ = length p.ahead + k in
+    let place : b ≡ a + (p.at + j) = omega (arith, z) in
+    let fr : H b ≡ Free = ap H place ∙ scattered_off a p.at n j (aheads ps) w off' (omega (arith, lt)) ∙ free (p.at + j) (omega (arith, lt, fits)) in
+    subst (λ y. Right y s o) (sym fr) (v, subst (λ y. Right y s o) (sym (ap rest z) ∙ laid_in a2 0 kept_what p.passed.cells S k v is) r2))
+    (λ out'. right_aheads a m ps w s o b have free (subst (λ y. Right y s o) (laid_out a2 0 kept_what p.passed.cells S b out') r2))
+    (among a2 b p.passed.cells)))
+    (among a1 b p.ahead))
 
-pub fit_aheads : (a : ℕ) (ps : List Sent) (g : Ghost) {s : stored.State} {d : Dyn} → ((k : ℕ) → k < length (flat ps) → g.what (a + k) ≡ Free) → Fit (keeping a (flat ps) g) s d → Fit (record g { what = aheads a ps g.what }) s d
-fit_aheads a ps g {s} {d} free w = record {
+pub fit_aheads : (a m : ℕ) (ps : List Sent) (g : Ghost) {s : stored.State} {d : Dyn} → HaveCells m ps → AreFree a m g.what → Fit (scattering a (pieces ps) g) s d → Fit (scattering a (aheads ps) g) s d
+fit_aheads a m ps g {s} {d} have free w = record {
   here = w.here;
   everywhere = w.everywhere;
   declared = w.declared;
@@ -196,7 +202,7 @@ fit_aheads a ps g {s} {d} free w = record {
   agrees = w.agrees;
   plan = w.plan;
   order = w.order;
-  cells = λ b. right_aheads a ps g.what s (slice_get d.cells b) b free (w.cells b);
+  cells = λ b. right_aheads a m ps g.what s (slice_get d.cells b) b have free (w.cells b);
 }
 
 -- what a call leaves is kept
@@ -208,43 +214,47 @@ there_at cells a (u ∷ vs) (suc k) v (t, ts) e = let z : a + 1 + k ≡ a + suc 
 mine_of : (s : stored.State) (w : What) (o : Option Cell) (v : ℤ) → w ≡ Free → Right w s o → value_in o ≡ Some v → o ≡ Some (Mine v)
 mine_of s w o v free r e = let (u, is) = subst (λ w. Right w s o) free r in is ∙ ap (λ z. Some (Mine z)) (some_same u v (sym (ap value_in is) ∙ e))
 
-right_backs : (a : ℕ) (ps : List Sent) (vss : List (List ℤ)) (w : ℕ → What) (s : stored.State) (cells : List Cell) (b : ℕ) → ((k : ℕ) → k < length (flat ps) → w (a + k) ≡ Free) → Backs a ps vss cells
-    → Right (aheads a ps w b) s (slice_get cells b) → Right (backs a ps vss w b) s (slice_get cells b)
-right_backs a [] vss w s cells b free bs r = r
-right_backs a (p ∷ ps) [] w s cells b free bs r = absurd bs
-right_backs a (p ∷ ps) (vs ∷ vss) w s cells b free (here, bs) r =
-    let n : ℕ = a + length p.ahead + length p.passed.cells in
-    let a' : ℕ = a + length p.ahead in
-    let len : length (flat (p ∷ ps)) ≡ length p.ahead + length (p.passed.cells ++ flat ps) = length-append p.ahead (p.passed.cells ++ flat ps) in
-    let len' : length (p.passed.cells ++ flat ps) ≡ length p.passed.cells + length (flat ps) = length-append p.passed.cells (flat ps) in
-    let rest : (ℕ → What) = backs n ps vss w in
-    let free' : ((k : ℕ) → k < length (flat ps) → w (n + k) ≡ Free) = (λ k lt. (let z : n + k ≡ a + (length p.ahead + length p.passed.cells + k) = omega arith in ap w z) ∙ free (length p.ahead + length p.passed.cells + k) (omega (arith, lt, len, len'))) in
-    ⊎_elim
-    (λ q. let (k, v, z, is) = q in
-    subst (λ y. Right y s (slice_get cells b)) (sym (sym (ap (laid_what a 0 kept_what p.ahead (laid_what a' 0 kept_what vs rest)) z) ∙ laid_in a 0 kept_what p.ahead (laid_what a' 0 kept_what vs rest) k v is))
-    (subst (λ y. Right y s (slice_get cells b)) (sym (ap (laid_what a 0 kept_what p.ahead (aheads n ps w)) z) ∙ laid_in a 0 kept_what p.ahead (aheads n ps w) k v is) r))
-    (λ out.
-    let r' : Right (aheads n ps w b) s (slice_get cells b) = subst (λ y. Right y s (slice_get cells b)) (laid_out a 0 kept_what p.ahead (aheads n ps w) b out) r in
-    subst (λ y. Right y s (slice_get cells b)) (sym (laid_out a 0 kept_what p.ahead (laid_what a' 0 kept_what vs rest) b out))
+back_there : (o : Option Back) (n a : ℕ) (vs : List ℤ) (cells : List Cell) → BackAt o n a vs cells → (k : ℕ) (v : ℤ) → slice_get vs k ≡ Some v → value_in (slice_get cells (a + k)) ≡ Some v
+back_there None n a vs cells e k v is = absurd (Rattle.std.proofs.lemmas.Option.none-some v (subst (λ vs. slice_get vs k ≡ Some v) e is))
+back_there (Some q) n a vs cells (l, t) k v is = there_at cells a vs k v t is
+
+right_backs : (a m : ℕ) (ps : List Sent) (vss : List (List ℤ)) (w : ℕ → What) (s : stored.State) (cells : List Cell) (b : ℕ) → HaveCells m ps → AreFree a m w → Backs a ps vss cells
+    → Right (scattered a (aheads ps) w b) s (slice_get cells b) → Right (scattered a (backs ps vss) w b) s (slice_get cells b)
+right_backs a m [] vss w s cells b have free bs r = r
+right_backs a m (p ∷ ps) [] w s cells b have free bs r = absurd bs
+right_backs a m (p ∷ ps) (vs ∷ vss) w s cells b (fits, off, have) free (here, bs) r =
+    let n : ℕ = length p.ahead + length p.passed.cells in
+    let a1 : ℕ = a + p.at in
+    let a2 : ℕ = a + (p.at + length p.ahead) in
+    let H : (ℕ → What) = scattered a (aheads ps) w in
+    let K : (ℕ → What) = scattered a (backs ps vss) w in
+    let rest : (ℕ → What) = laid_what a2 0 kept_what vs K in
+    let most : length vs ≤ length p.passed.cells = back_most p.passed.back (length p.passed.cells) a2 vs cells here in
+    let off' : IsClear p.at n (aheads ps) = aheads_clear p.at n ps off in
+    let off2 : IsClear p.at (length p.ahead + length vs) (backs ps vss) = clear_part p.at n p.at (length p.ahead + length vs) (backs ps vss) (le_refl p.at) (omega (arith, most)) (backs_clear p.at n a ps vss cells bs off) in
+    let r0 : Right (laid_what a1 0 kept_what p.ahead H b) s (slice_get cells b) = subst (λ y. Right y s (slice_get cells b)) (sym (scattered_swap a p.at 0 kept_what p.ahead (aheads ps) w b (clear_part p.at n p.at (length p.ahead) (aheads ps) (le_refl p.at) (omega arith) off'))) r in
+    subst (λ y. Right y s (slice_get cells b)) (sym (two_outer a p.at p.ahead vs (backs ps vss) w b off2))
     (⊎_elim
     (λ q. let (k, v, z, is) = q in
-    let (lt, is_there) = inside p.passed.back here k v is in
-    let fr : aheads n ps w b ≡ Free = ⊎_elim
-    (λ e. e ∙ ap w (sym z) ∙ (let y : a' + k ≡ a + (length p.ahead + k) = omega arith in ap w y) ∙ free (length p.ahead + k) (omega (arith, lt, len, len')))
-    (λ t. let (v', e', k', z', l') = t in absurd (omega (arith, z, z', lt)))
-    (aheads_cases n ps w b) in
-    subst (λ y. Right y s (slice_get cells b)) (sym (sym (ap (laid_what a' 0 kept_what vs rest) z) ∙ laid_in a' 0 kept_what vs rest k v is))
-    (mine_of s (aheads n ps w b) (slice_get cells b) v fr r' (ap (λ m. value_in (slice_get cells m)) (sym z) ∙ is_there)))
-    (λ out'. subst (λ y. Right y s (slice_get cells b)) (sym (laid_out a' 0 kept_what vs rest b out')) (right_backs n ps vss w s cells b free' bs r'))
-    (among a' b vs)))
-    (among a b p.ahead)
-  where
-    inside : (o : Option Back) → BackAt o (length p.passed.cells) (a + length p.ahead) vs cells → (k : ℕ) (v : ℤ) → slice_get vs k ≡ Some v → (k < length p.passed.cells) × (value_in (slice_get cells (a + length p.ahead + k)) ≡ Some v)
-    inside None e k v is = absurd (Rattle.std.proofs.lemmas.Option.none-some v (subst (λ vs. slice_get vs k ≡ Some v) e is))
-    inside (Some q) (l, t) k v is = ((let y : k < length vs = length_in vs k v is in omega (arith, y, l)), there_at cells (a + length p.ahead) vs k v t is)
+    subst (λ y. Right y s (slice_get cells b)) (sym (sym (ap (laid_what a1 0 kept_what p.ahead rest) z) ∙ laid_in a1 0 kept_what p.ahead rest k v is))
+    (subst (λ y. Right y s (slice_get cells b)) (sym (ap (laid_what a1 0 kept_what p.ahead H) z) ∙ laid_in a1 0 kept_what p.ahead H k v is) r0))
+    (λ out.
+    let r' : Right (H b) s (slice_get cells b) = subst (λ y. Right y s (slice_get cells b)) (laid_out a1 0 kept_what p.ahead H b out) r0 in
+    subst (λ y. Right y s (slice_get cells b)) (sym (laid_out a1 0 kept_what p.ahead rest b out))
+    (⊎_elim
+    (λ q. let (k, v, z, is) = q in
+    let lt : k < length vs = length_in vs k v is in
+    let j : ℕ = length p.ahead + k in
+    let place : b ≡ a + (p.at + j) = omega (arith, z) in
+    let fr : H b ≡ Free = ap H place ∙ scattered_off a p.at n j (aheads ps) w off' (omega (arith, lt, most)) ∙ free (p.at + j) (omega (arith, lt, most, fits)) in
+    subst (λ y. Right y s (slice_get cells b)) (sym (sym (ap rest z) ∙ laid_in a2 0 kept_what vs K k v is))
+    (mine_of s (H b) (slice_get cells b) v fr r' (ap (λ m. value_in (slice_get cells m)) (sym z) ∙ back_there p.passed.back (length p.passed.cells) a2 vs cells here k v is)))
+    (λ out'. subst (λ y. Right y s (slice_get cells b)) (sym (laid_out a2 0 kept_what vs K b out')) (right_backs a m ps vss w s cells b have free bs r'))
+    (among a2 b vs)))
+    (among a1 b p.ahead))
 
-pub fit_backs : (a : ℕ) (ps : List Sent) (vss : List (List ℤ)) (g : Ghost) {s : stored.State} {d : Dyn} → ((k : ℕ) → k < length (flat ps) → g.what (a + k) ≡ Free) → Backs a ps vss d.cells → Fit (record g { what = aheads a ps g.what }) s d → Fit (record g { what = backs a ps vss g.what }) s d
-fit_backs a ps vss g {s} {d} free bs w = record {
+pub fit_backs : (a m : ℕ) (ps : List Sent) (vss : List (List ℤ)) (g : Ghost) {s : stored.State} {d : Dyn} → HaveCells m ps → AreFree a m g.what → Backs a ps vss d.cells → Fit (scattering a (aheads ps) g) s d → Fit (scattering a (backs ps vss) g) s d
+fit_backs a m ps vss g {s} {d} have free bs w = record {
   here = w.here;
   everywhere = w.everywhere;
   declared = w.declared;
@@ -255,56 +265,7 @@ fit_backs a ps vss g {s} {d} free bs w = record {
   agrees = w.agrees;
   plan = w.plan;
   order = w.order;
-  cells = λ b. right_backs a ps vss g.what s d.cells b free bs (w.cells b);
-}
-
-pub backs_cases : (a : ℕ) (ps : List Sent) (vss : List (List ℤ)) (cells : List Cell) (w : ℕ → What) (b : ℕ) → Backs a ps vss cells → (backs a ps vss w b ≡ w b) ⊎ ((v : ℤ) × (backs a ps vss w b ≡ Keeps v) × (k : ℕ) × (a + k ≡ b) × (k < length (flat ps)))
-backs_cases a [] vss cells w b bs = inl refl
-backs_cases a (p ∷ ps) [] cells w b bs = absurd bs
-backs_cases a (p ∷ ps) (vs ∷ vss) cells w b (here, bs) =
-    let n : ℕ = a + length p.ahead + length p.passed.cells in
-    let a' : ℕ = a + length p.ahead in
-    let len : length (flat (p ∷ ps)) ≡ length p.ahead + length (p.passed.cells ++ flat ps) = length-append p.ahead (p.passed.cells ++ flat ps) in
-    let len' : length (p.passed.cells ++ flat ps) ≡ length p.passed.cells + length (flat ps) = length-append p.passed.cells (flat ps) in
-    let rest : (ℕ → What) = laid_what a' 0 kept_what vs (backs n ps vss w) in
-    ⊎_elim
-    (λ r. let (k, v, z, is) = r in inr (v, sym (ap (laid_what a 0 kept_what p.ahead rest) z) ∙ laid_in a 0 kept_what p.ahead rest k v is, k, z, (let l : k < length p.ahead = length_in p.ahead k v is in omega (arith, l, len, len'))))
-    (λ out. ⊎_elim
-    (λ r. let (k, v, z, is) = r in inr (
-      v,
-      laid_out a 0 kept_what p.ahead rest b out ∙ sym (ap rest z) ∙ laid_in a' 0 kept_what vs (backs n ps vss w) k v is,
-      length p.ahead + k,
-      (let y : a + (length p.ahead + k) ≡ b = omega (arith, z) in y),
-      (let l : k < length vs = length_in vs k v is in let m = back_length p.passed.back (length p.passed.cells) a' vs cells here in omega (arith, l, m, len, len')),
-    ))
-    (λ out'. ⊎_elim
-    (λ e. inl (laid_out a 0 kept_what p.ahead rest b out ∙ laid_out a' 0 kept_what vs (backs n ps vss w) b out' ∙ e))
-    (λ r. let (v, e, k, z, l) = r in inr (v, laid_out a 0 kept_what p.ahead rest b out ∙ laid_out a' 0 kept_what vs (backs n ps vss w) b out' ∙ e, length p.ahead + length p.passed.cells + k, (let y : a + (length p.ahead + length p.passed.cells + k) ≡ b = omega (arith, z) in y), omega (arith, l, len, len')))
-    (backs_cases n ps vss cells w b bs))
-    (among a' b vs))
-    (among a b p.ahead)
-  where
-    back_length : (o : Option Back) (n a : ℕ) (vs : List ℤ) (cells : List Cell) → BackAt o n a vs cells → length vs ≤ n
-    back_length None n a vs cells e = let z : length vs ≡ 0 = ap (λ z. length z) e in omega (arith, z)
-    back_length (Some b) n a vs cells (e, t) = omega (arith, e)
-
--- and isn't any more
-pub fit_unbacks : (a : ℕ) (ps : List Sent) (vss : List (List ℤ)) (cells : List Cell) (g : Ghost) {s : stored.State} {d : Dyn} → Backs a ps vss cells → ((k : ℕ) → k < length (flat ps) → g.what (a + k) ≡ Free) → Fit (record g { what = backs a ps vss g.what }) s d → Fit g s d
-fit_unbacks a ps vss cells g {s} {d} bs free w = record {
-  here = w.here;
-  everywhere = w.everywhere;
-  declared = w.declared;
-  frame = w.frame;
-  top = w.top;
-  least = w.least;
-  most = w.most;
-  agrees = w.agrees;
-  plan = w.plan;
-  order = w.order;
-  cells = λ b. ⊎_elim
-      (λ e. subst (λ z. Right z s (slice_get d.cells b)) e (w.cells b))
-      (λ r. let (v, e, k, z, l) = r in subst (λ y. Right y s (slice_get d.cells b)) (sym (ap g.what (sym z) ∙ free k l)) (v, subst (λ y. Right y s (slice_get d.cells b)) e (w.cells b)))
-      (backs_cases a ps vss cells g.what b bs);
+  cells = λ b. right_backs a m ps vss g.what s d.cells b have free bs (w.cells b);
 }
 
 there_cut : (top : ℕ) (cells : List Cell) (a : ℕ) (vs : List ℤ) → a + length vs ≤ top → AreThere cells a vs → AreThere (take top cells) a vs
@@ -316,15 +277,13 @@ back_cut top cells None n a vs le e = e
 back_cut top cells (Some b) n a vs le (e, t) = (e, there_cut top cells a vs (omega (arith, le, e)) t)
 
 -- in the cells that are left to the caller
-pub backs_cut : (top a : ℕ) (ps : List Sent) (vss : List (List ℤ)) (cells : List Cell) → a + length (flat ps) ≤ top → Backs a ps vss cells → Backs a ps vss (take top cells)
-backs_cut top a [] vss cells le bs = tt
-backs_cut top a (p ∷ ps) [] cells le bs = absurd bs
-backs_cut top a (p ∷ ps) (vs ∷ vss) cells le (here, bs) =
-    let len : length (flat (p ∷ ps)) ≡ length p.ahead + length (p.passed.cells ++ flat ps) = length-append p.ahead (p.passed.cells ++ flat ps) in
-    let len' : length (p.passed.cells ++ flat ps) ≡ length p.passed.cells + length (flat ps) = length-append p.passed.cells (flat ps) in (
-      back_cut top cells p.passed.back (length p.passed.cells) (a + length p.ahead) vs (omega (arith, le, len, len')) here,
-      backs_cut top (a + length p.ahead + length p.passed.cells) ps vss cells (omega (arith, le, len, len')) bs,
-    )
+pub backs_cut : (top a m : ℕ) (ps : List Sent) (vss : List (List ℤ)) (cells : List Cell) → HaveCells m ps → a + m ≤ top → Backs a ps vss cells → Backs a ps vss (take top cells)
+backs_cut top a m [] vss cells have le bs = tt
+backs_cut top a m (p ∷ ps) [] cells have le bs = absurd bs
+backs_cut top a m (p ∷ ps) (vs ∷ vss) cells (fits, off, have) le (here, bs) = (
+  back_cut top cells p.passed.back (length p.passed.cells) (a + (p.at + length p.ahead)) vs (omega (arith, le, fits)) here,
+  backs_cut top a m ps vss cells have le bs,
+)
 
 -- ---- parts after which something is told of the machine too
 
@@ -466,8 +425,8 @@ module _ (limit : ℕ) (cuts : ℕ → ℕ → List ℕ) (program : Program) (c 
   back_read [] a so_far s d spread fit al = ([], ret_is so_far s ∙ ap (λ z. stored.at s (Ok z)) (sym (append-nil so_far)), tt)
   back_read {g} (p ∷ ps) a so_far s d (spread, more) fit al =
       let m : Stored (List ℤ) = Meaning.cells_back ops limit program p.passed.formal p.passed.back in
-      let (vs, is, here) = back_one {g = g} p.passed.back p.passed.formal (length p.passed.cells) (a + length p.ahead) s d spread fit (bind_first g m (λ vs. Meaning.back_cells ops limit program (all_passed ps) (so_far ++ (vs ∷ []))) s al) in
-      let (vss, are, rest) = back_read {g = g} ps (a + length p.ahead + length p.passed.cells) (so_far ++ (vs ∷ [])) s d more fit (bind_allows g m (λ vs. Meaning.back_cells ops limit program (all_passed ps) (so_far ++ (vs ∷ []))) s vs is al) in
+      let (vs, is, here) = back_one {g = g} p.passed.back p.passed.formal (length p.passed.cells) (a + (p.at + length p.ahead)) s d spread fit (bind_first g m (λ vs. Meaning.back_cells ops limit program (all_passed ps) (so_far ++ (vs ∷ []))) s al) in
+      let (vss, are, rest) = back_read {g = g} ps a (so_far ++ (vs ∷ [])) s d more fit (bind_allows g m (λ vs. Meaning.back_cells ops limit program (all_passed ps) (so_far ++ (vs ∷ []))) s vs is al) in
       (vs ∷ vss, bind_is m (λ vs. Meaning.back_cells ops limit program (all_passed ps) (so_far ++ (vs ∷ []))) s vs is ∙ are ∙ ap (λ z. stored.at s (Ok z)) (append_assoc so_far (vs ∷ []) vss), (here, rest))
 
   -- and given

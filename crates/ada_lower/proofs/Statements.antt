@@ -29,7 +29,7 @@ use Rattle.ada_lower.specs.Sights.{Amid, Around, ByEnd, ByLeave, ByReturn, ByVal
 use Rattle.ada_lower.specs.Emission
 use Rattle.ada_lower.specs.Emission.{emit, selected, stmt, all, away, exiting, returning, returning_value, handled_target, Shape, shapes, shapes_cells}
 use Rattle.ada_lower.specs.Fits.{What, Free, Keeps, Access, Ghost, Allows, Fit, Ends, left_by, place_in, IsAt, Leads, Spread, Refers, Holds, Knows, Stands as StandsFor}
-use Rattle.ada_lower.specs.Fitted.{Reached, Reaches, Fitted, FittedTarget, FittedSelections, FittedOptional, FittedValue, FittedComposite, FittedDecls, FittedStmt, FittedAll, FittedAlternatives, FittedHandlers}
+use Rattle.ada_lower.specs.Fitted.{spots, Reached, Reaches, Fitted, FittedTarget, FittedSelections, FittedOptional, FittedValue, FittedComposite, FittedDecls, FittedStmt, FittedAll, FittedAlternatives, FittedHandlers}
 use Rattle.ada_lower.proofs.Expressions.{composed_does, at_entry, does_hold, fewer_kept_back, value_does, selected_does, address_stands, named_does}
 use Rattle.ada_lower.proofs.Copies.{does_copy_to}
 use Rattle.ada_lower.proofs.Framework.{any, To, Doing, comes_here, comes_on, comes_goes, comes_fails, does_ret, does_bind, does_before, does_returned, does_assoc}
@@ -42,8 +42,10 @@ use Rattle.ada_lower.proofs.Names.{root_refers, does_by, comes_number}
 use Rattle.ada_lower.proofs.Asked.{does_got}
 use Rattle.ada_lower.proofs.Items.{named_entity, array_refers, knows_item, comes_stores, items_at, item_at, knows_items, free_one, free_two, free_three, extends_items, fewer_items, items_does}
 use Rattle.ada_lower.proofs.Courses.{unlooped, knows_counts, knows_parameter, count_of, count_none, comes_kept, truth_bit, fit_uncount, fewer_uncount, course_does, first_zero, last_zero}
-use Rattle.ada_lower.proofs.Sent.{all_passed, flat, aheads, backs, suited_cells, fit_unaheads, fit_backs, fit_unbacks, also_then}
-use Rattle.ada_lower.proofs.Actuals.{targets_more, kept_backs, ext_backs, stands_backs, passed_all, back_all}
+use Rattle.ada_lower.proofs.Scattered.{AreIn, scattering, fit_unscattered, fewer_scattered, stands_scattered, ext_scattered}
+use Rattle.ada_lower.proofs.Sent.{HaveCells, all_passed, pieces, aheads, backs, pieces_in, aheads_in, backs_in, have_cells, fit_backs, also_then}
+use Rattle.ada_lower.proofs.Passing.{passing_none}
+use Rattle.ada_lower.proofs.Actuals.{targets_more, kept_backs, passed_all, back_all}
 use Rattle.ada_lower.proofs.Leaving.{least_at, does_turn, does_handles}
 use Rattle.ada_lower.proofs.Declared.{keeping, having, knows_having, knows_kept, laid_out, laid_in, kept_what, among, length_in}
 use Rattle.ada_lower.proofs.Blocks.{reason_back, does_elaborates, does_look, comes_reason, comes_chosen, fit_unkept}
@@ -608,21 +610,21 @@ module _ (limit : ℕ) (cuts : ℕ → ℕ → List ℕ) (program : Program) (c 
           let (m, l1, (j, l2)) = stands_seq c from to (Emission.passed program t.scope 0 sub n actuals) (one s.scope 0 (i.CallAt (sub + 1) n) ⨟ Emission.back_code program s.scope sub n actuals) l in
           let kt : Knows limit cuts g f t env = record { most = k.most; nested = k.nested; plan = k.plan; kept = k.kept; top = k.top; beyond = k.beyond; global = k.global; outside = k.outside; one = k.one; old = k.old; hidden = k.hidden; object = k.object; parameter = k.parameter; item = k.item; constant_item = k.constant_item; target = k.target; handled = k.handled; free = λ i le lt. k.free i (omega (arith, le)) lt } in
           let free : (i : ℕ) → i < count → g.what (f.base + n + i) ≡ Free = (λ i lt. (let e : f.base + n + i ≡ f.base + (n + i) = omega arith in ap g.what e) ∙ k.free (n + i) (omega arith) (omega (arith, lt, whole, room))) in
-          passed_all limit cuts program c f x calls globals mains epar calls_do actuals from m t 0 sub n 0 hs [] [] [] _ kt suits.entry w (omega (arith, whole)) room (λ i lt. free i (omega (arith, lt))) refl l1 (λ ps suited targets.
-          let many : length (flat ps) ≡ count = suited_cells hs ps suited in
-          let loose : (i : ℕ) → i < length (flat ps) → g.what (f.base + n + i) ≡ Free = (λ i lt. free i (omega (arith, lt, many))) in
-          also_then limit c f x {h = record g { what = aheads (f.base + n) ps g.what }} {j = g} {k = λ r. Meaning.all_copied_back ops limit program calls (all_passed ps) r.cells} (λ t d w. fit_unaheads (f.base + n) ps g loose w)
-          (called_plainly calls_do.called x t sub n m [] ps (record { unit = u.unit; is = u.is; outer = u.outer; main = u.main }) kt (omega (arith, whole, many)) room suited loose (at_entry suits.entry j))
+          passed_all limit cuts program c f x calls globals mains epar calls_do actuals from m t 0 sub n count (spots 0 hs) [] [] _ kt (passing_none n hs (omega (arith, whole)) room free kt) suits.entry w l1 (λ ps suited targets.
+          let have : HaveCells count ps = have_cells hs ps suited in
+          also_then limit c f x {h = scattering (f.base + n) (aheads ps) g} {j = g} {k = λ r. Meaning.all_copied_back ops limit program calls (all_passed ps) r.cells} (λ t d w. fit_unscattered (f.base + n) count (aheads ps) g (aheads_in count ps have) free w)
+          (called_plainly calls_do.called x t sub n m [] ps (record { unit = u.unit; is = u.is; outer = u.outer; main = u.main }) kt whole room suited free (at_entry suits.entry j))
           (λ r t' d fit bs.
-          let G : Ghost = record g { what = backs (f.base + n) ps r.cells g.what } in (
+          let G : Ghost = scattering (f.base + n) (backs ps r.cells) g in
+          let lie : AreIn count (backs ps r.cells) = backs_in count (f.base + n) ps r.cells d.cells have bs in (
             G,
-            fit_backs (f.base + n) ps r.cells g loose bs fit,
-            (λ ts al. allows_fewer limit c f x (keeping (f.base + n) (flat ps) g) G ts (λ b y p e. fewer_kept_back limit cuts program c f x calls globals mains epar calls_do (f.base + n) (flat ps) g loose b y p (stands_backs g (f.base + n) ps r.cells d.cells bs b y p e)) al),
-            does_weak limit c f x (λ t d' w. fit_unbacks (f.base + n) ps r.cells d.cells g bs loose w)
+            fit_backs (f.base + n) count ps r.cells g have free bs fit,
+            (λ ts al. allows_fewer limit c f x (scattering (f.base + n) (pieces ps) g) G ts (λ b y p e. fewer_scattered limit c f x (f.base + n) count (pieces ps) g (pieces_in count ps have) free b y p (stands_scattered (f.base + n) (backs ps r.cells) g.what b y p e)) al),
+            does_weak limit c f x (λ t d' w. fit_unscattered (f.base + n) count (backs ps r.cells) g lie free w)
                 (subst (λ p. Runs limit c f x G any (Meaning.all_copied_back ops limit program calls (all_passed ps) r.cells) (λ d. on f (m + 1) (given p r.value ++ []) d) (λ _ d. on f to [] d)) (sym none')
-                (back_all limit cuts program c f x calls globals mains epar actuals (m + 1) to t s sub n 0 (f.base + n) hs ps r.cells G (omega arith) suits.entry w suited (targets_more program actuals ps (ext_backs (f.base + n) ps r.cells d.cells bs loose) targets)
-                (λ a b z w pl e e'. k.one a b z w pl (stands_backs g (f.base + n) ps r.cells d.cells bs a z pl e) (stands_backs g (f.base + n) ps r.cells d.cells bs b w pl e'))
-                (kept_backs G d.cells (f.base + n) ps r.cells g.what (λ b le. refl) bs) l2)),
+                (back_all limit cuts program c f x calls globals mains epar actuals (m + 1) to s sub n ps r.cells G suits.entry (targets_more program sub n actuals ps (ext_scattered (f.base + n) count (backs ps r.cells) g lie free) targets)
+                (λ a b z w pl e e'. k.one a b z w pl (stands_scattered (f.base + n) (backs ps r.cells) g.what a z pl e) (stands_scattered (f.base + n) (backs ps r.cells) g.what b w pl e'))
+                (kept_backs G d.cells (f.base + n) count ps r.cells g.what (λ b. refl) have bs) l2)),
           )))
       stmt_does (Exit loop Absent) from to x s k u w l =
           does_returned limit c f x _ true (does_is limit c f x (Err (Left (Exits loop))) (λ t. leaves_is (Exits loop) t) (λ d. exits_known loop from to u w.0 l d))

@@ -13,7 +13,7 @@ use Rattle.ada_lower.proofs.Framework.{To, comes_on, comes_goes}
 use Rattle.ada_lower.proofs.Memory.{set_what, what_same, what_other, at_or_not, fit_set, fit_unset, fit_alike, own_keeps, knows_keep}
 use Rattle.ada_lower.proofs.Parts.{Fewer}
 use Rattle.ada_lower.proofs.Declared.{keeping, laid_out, laid_in, kept_what, among, length_in}
-use Rattle.ada_lower.proofs.Sent.{laid_swap}
+use Rattle.ada_lower.proofs.Scattered.{laid_swap}
 use Rattle.ada_lower.proofs.Blocks.{fit_unkept}
 use Rattle.ada_lower.proofs.Loops.{counts_at, first_at, count_last, count_more}
 use Rattle.ada_lower.proofs.Courses.{comes_kept}

@@ -17,7 +17,7 @@ use Rattle.stack_code.specs.Machine.{Done}
 use Rattle.ada_lower.specs.Driven.{on, off}
 use Rattle.ada_lower.specs.Sights.{Placed, Sight, listed}
 use Rattle.ada_lower.specs.FittedForks.{FittedForks, FittedReductions, Within, unleased}
-use Rattle.lower_emission.specs.Bodies.{program_code}
+use Rattle.lower_emission.specs.Programs.{whole_code}
 use Rattle.lower_emission.specs.Tables.{instrs_from, unwinds_from}
 use Rattle.ada_lower.specs.ProgramCode.{main_names, IsCodeOf}
 use Rattle.ada_lower.specs.Bodies.{main_scope, MainFitted}
@@ -46,7 +46,7 @@ abbrev sight : Sight
 sight = main_scope program (main_names program text) none_main [] text frames 12
 
 abbrev placed : List Placed
-placed = listed (program_code program text) 0
+placed = listed (whole_code program text) 0
 
 -- exits out of loops go where their landmarks lead
 abbrev instrs : List Instr
@@ -115,7 +115,7 @@ fitted = (
       tt,
     )),
   ),
-  ((site 2 (kind.Block 2), (refl, refl, omega arith, sited 2 refl), tt, refl, omega arith, omega arith, omega arith, tt, [], (λ m h. h), tt, (λ h. h), ((tt, tt), ((tt, tt), tt)), ((tt, tt), ((tt, tt), tt))), tt),
+  ((site 2 (kind.Block 2), (refl, refl, omega arith, sited 2 refl), tt, refl, omega arith, omega arith, omega arith, tt, [], (λ m h. h), tt, ((tt, tt), ((tt, tt), tt)), ((tt, tt), ((tt, tt), tt))), tt),
 )
 
 pub comes : (limit : ℕ) (cuts : ℕ → ℕ → List ℕ) (within : Within cuts) (slots : ℕ) (input before : List ℕ) (notes : Schedule) → let r = (Meaning.main (stored.noted_operations limit cuts) limit program).does (stored.noted_outset slots input before notes) in

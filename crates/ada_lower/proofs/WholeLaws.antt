@@ -7,6 +7,8 @@ use Rattle.ada_lower.proofs.Whole.{whole_does, whole_gives}
 use Rattle.ada_lower.proofs.ForwardStatements.{program_forward}
 use Rattle.ada_lower.proofs.HeightsPrograms.{valid_code}
 use Rattle.ada_lower.proofs.CodeTables.{code_is, tables_are}
+use Rattle.ada_lower.proofs.Constructs.{sited_law}
+use Rattle.ada_lower.proofs.Counted.{forks_law}
 
 pub whole_law : WholeLaw
 whole_law limit cuts within program c globals mains texts text frames slots frame depth low input before notes =
@@ -24,4 +26,4 @@ pub valid_law : ValidLaw
 valid_law program text c is tables ready filled = valid_code program text c is tables ready filled
 
 pub tables_law : TablesLaw
-tables_law program leases sited forked leased = (code_is program leases, tables_are program leases sited forked leased)
+tables_law program leases distinct rows nested leased = let sited = sited_law program nested rows in (code_is program leases, tables_are program leases sited (forks_law program sited distinct) leased)

@@ -10,8 +10,9 @@ use Rattle.typed_tree.specs.Syntax.{Expr, Static, Variable, Constant, Parameter,
 use Rattle.ada_meaning.specs.Values.{count}
 use Rattle.ada_meaning.specs.Meaning.{object_layout, sub_at, formals_of, formal_at}
 use Rattle.ada_lower.specs.Sights.{Known, Named, Sight, Where, array_root_of, constant_root_of, item_sight, iterated_sight, object_here, own, passing, range_sight, root_of, taking, with_entry, with_exit, with_handled, with_target}
+use Rattle.typed_scopes.specs.Scopes.{Without}
 use Rattle.ada_lower.specs.Defaults.{Filled}
-use Rattle.ada_lower.specs.Emission.{is_whole, takes_turns, width, Shape, shapes, shapes_cells, formal_of, piece_cells, cells_of, composite_width}
+use Rattle.ada_lower.specs.Emission.{is_whole, takes_turns, width, Shape, lead, shapes, shapes_cells, formal_of, piece_cells, cells_of, composite_width}
 
 -- from so many cells selections lead to so many among them
 abbrev pub Reaches : ℕ → Selections → ℕ → Type 0
@@ -21,6 +22,19 @@ Reaches n (Index at e low high stride rest) m = (count low high * stride ≤ n) 
 
 abbrev pub Reached : Option Named → Selections → ℕ → Type 0
 Reached o selections m = (n : Named) × (o ≡ Some n) × Reaches n.cells selections m
+
+-- a formal with its place: its cells in the frame of a call begin there
+pub record Spot : Type 0 where
+  pub shape : Shape
+  pub at : ℕ
+
+abbrev pub spot : Entity → (back : Bool) → (cells at : ℕ) → Spot
+spot x back cells i = record { shape = record { formal = x; back = back; cells = cells }; at = i }
+
+-- the formals one behind the other, from a cell on
+abbrev pub spots : ℕ → List Shape → List Spot
+spots i [] = []
+spots i (h ∷ hs) = record { shape = h; at = i } ∷ spots (i + lead h.back + h.cells) hs
 
 module _ (program : Program) (globals : ℕ → Entity → Option Named) (mains : Entity → Bool) where
   -- a subprogram that may be called: the main procedure's objects that it sees are there
@@ -70,7 +84,7 @@ module _ (program : Program) (globals : ℕ → Entity → Option Named) (mains 
       Fitted s (If condition value otherwise) = Fitted s condition × Fitted s value × Fitted s otherwise
       Fitted s (Call at callee sub actuals) =
           (u : Callable s sub) × ((k : Scalar) × (u.unit.result ≡ Some k)) × (s.scope.free + shapes_cells (shapes program u.unit.formals) ≡ (passing program sub s).scope.free) × ((passing program sub s).scope.free ≤ s.cells)
-          × FittedIn (passing program sub s) sub s.scope.free 0 (shapes program u.unit.formals) actuals
+          × FittedIn (passing program sub s) sub s.scope.free (spots 0 (shapes program u.unit.formals)) actuals
       Fitted s (Convert check e) = Fitted s e
       Fitted s (Reduction at attribute by initial (Some site) chunk iteration value) = epar s (Reduction at attribute by initial (Some site) chunk iteration value)
       Fitted s (Reduction at attribute by initial None chunk (Components k constant a r selections count stride dimensions filter) value) =
@@ -88,15 +102,15 @@ module _ (program : Program) (globals : ℕ → Entity → Option Named) (mains 
       FittedSelections s (Field number offset rest) = FittedSelections s rest
       FittedSelections s (Index at e low high stride rest) = Fitted s e × FittedSelections s rest
 
-      -- actual parameters of a function, in the order of the formals
-      pub FittedIn : Sight → ℕ → ℕ → ℕ → List Shape → Actuals → Type 0
-      FittedIn s sub w i hs NoActual = hs ≡ []
-      FittedIn s sub w i hs (In formal (Number check e) rest) = (zs : List Shape) × (hs ≡ record { formal = ConstantOf formal; back = false; cells = 1 } ∷ zs) × (formal_of program sub w (ConstantOf formal) ≡ w + i) × Fitted s e × FittedIn s sub w (i + 1) zs rest
-      FittedIn s sub w i hs (In formal (Cells value) rest) = (zs : List Shape) × (n : ℕ) × (hs ≡ record { formal = ConstantOf formal; back = false; cells = n } ∷ zs) × (formal_of program sub w (ConstantOf formal) ≡ w + i) × FittedComposite s n value × FittedIn s sub w (i + n) zs rest
-      FittedIn s sub w i hs (InOut formal at r selections inner outer rest) = ⊥
-      FittedIn s sub w i hs (Out formal at r selections inner outer rest) = ⊥
-      FittedIn s sub w i hs (CompositeInOut formal at r selections subtype rest) = ⊥
-      FittedIn s sub w i hs (CompositeOut formal at r selections subtype rest) = ⊥
+      -- actual parameters of a function, in the order of the text: each has the place of its formal, which no other has
+      pub FittedIn : Sight → ℕ → ℕ → List Spot → Actuals → Type 0
+      FittedIn s sub w ks NoActual = ks ≡ []
+      FittedIn s sub w ks (In formal (Number check e) rest) = (i : ℕ) × (zs : List Spot) × Without (spot (ConstantOf formal) false 1 i) ks zs × (formal_of program sub w (ConstantOf formal) ≡ w + i) × Fitted s e × FittedIn s sub w zs rest
+      FittedIn s sub w ks (In formal (Cells value) rest) = (i : ℕ) × (n : ℕ) × (zs : List Spot) × Without (spot (ConstantOf formal) false n i) ks zs × (formal_of program sub w (ConstantOf formal) ≡ w + i) × FittedComposite s n value × FittedIn s sub w zs rest
+      FittedIn s sub w ks (InOut formal at r selections inner outer rest) = ⊥
+      FittedIn s sub w ks (Out formal at r selections inner outer rest) = ⊥
+      FittedIn s sub w ks (CompositeInOut formal at r selections subtype rest) = ⊥
+      FittedIn s sub w ks (CompositeOut formal at r selections subtype rest) = ⊥
 
       pub FittedAssociations : Sight → ℕ → Associations → Type 0
       FittedAssociations s n NoAssociation = Unit {0}
@@ -138,21 +152,19 @@ module _ (program : Program) (globals : ℕ → Entity → Option Named) (mains 
     FittedPieces s (Padded class e (Static at value literal mentions) rest) = Fitted s e × FittedPieces (taking 1 s) rest
     FittedPieces s (Padded class e width rest) = ⊥
 
-    -- actual parameters of a procedure, in the order of the formals
-    abbrev pub FittedActuals : Sight → ℕ → ℕ → ℕ → List Shape → Actuals → Type 0
-    FittedActuals s sub w i hs NoActual = hs ≡ []
-    FittedActuals s sub w i hs (In formal value rest) =
-        (zs : List Shape) × (n : ℕ) × (hs ≡ record { formal = ConstantOf formal; back = false; cells = n } ∷ zs) × (formal_of program sub w (ConstantOf formal) ≡ w + i) × FittedValue s n value × FittedActuals s sub w (i + n) zs rest
-    FittedActuals s sub w i hs (InOut formal at r selections inner outer rest) =
-        (zs : List Shape) × (hs ≡ record { formal = VariableOf formal; back = true; cells = 1 } ∷ zs) × (formal_of program sub w (VariableOf formal) ≡ w + i) × Reached (root_of s.scope r) selections 1 × FittedSelections s selections × FittedActuals s sub w (i + 1 + 1) zs rest
-    FittedActuals s sub w i hs (Out formal at r selections inner outer rest) =
-        (zs : List Shape) × (hs ≡ record { formal = VariableOf formal; back = true; cells = 1 } ∷ zs) × (formal_of program sub w (VariableOf formal) ≡ w + i) × Reached (root_of s.scope r) selections 1 × FittedSelections s selections × FittedActuals s sub w (i + 1 + 1) zs rest
-    FittedActuals s sub w i hs (CompositeInOut formal at r selections subtype rest) =
-        (zs : List Shape) × (hs ≡ record { formal = VariableOf formal; back = true; cells = cells_of program subtype } ∷ zs) × (formal_of program sub w (VariableOf formal) ≡ w + i) × Reached (root_of s.scope r) selections (cells_of program subtype) × FittedSelections s selections
-        × FittedActuals s sub w (i + 1 + cells_of program subtype) zs rest
-    FittedActuals s sub w i hs (CompositeOut formal at r selections subtype rest) =
-        (zs : List Shape) × (hs ≡ record { formal = VariableOf formal; back = true; cells = cells_of program subtype } ∷ zs) × (formal_of program sub w (VariableOf formal) ≡ w + i) × Reached (root_of s.scope r) selections (cells_of program subtype) × FittedSelections s selections
-        × FittedActuals s sub w (i + 1 + cells_of program subtype) zs rest
+    -- actual parameters of a procedure, likewise
+    abbrev pub FittedActuals : Sight → ℕ → ℕ → List Spot → Actuals → Type 0
+    FittedActuals s sub w ks NoActual = ks ≡ []
+    FittedActuals s sub w ks (In formal value rest) =
+        (i : ℕ) × (n : ℕ) × (zs : List Spot) × Without (spot (ConstantOf formal) false n i) ks zs × (formal_of program sub w (ConstantOf formal) ≡ w + i) × FittedValue s n value × FittedActuals s sub w zs rest
+    FittedActuals s sub w ks (InOut formal at r selections inner outer rest) =
+        (i : ℕ) × (zs : List Spot) × Without (spot (VariableOf formal) true 1 i) ks zs × (formal_of program sub w (VariableOf formal) ≡ w + i) × Reached (root_of s.scope r) selections 1 × FittedSelections s selections × FittedActuals s sub w zs rest
+    FittedActuals s sub w ks (Out formal at r selections inner outer rest) =
+        (i : ℕ) × (zs : List Spot) × Without (spot (VariableOf formal) true 1 i) ks zs × (formal_of program sub w (VariableOf formal) ≡ w + i) × Reached (root_of s.scope r) selections 1 × FittedSelections s selections × FittedActuals s sub w zs rest
+    FittedActuals s sub w ks (CompositeInOut formal at r selections subtype rest) =
+        (i : ℕ) × (zs : List Spot) × Without (spot (VariableOf formal) true (cells_of program subtype) i) ks zs × (formal_of program sub w (VariableOf formal) ≡ w + i) × Reached (root_of s.scope r) selections (cells_of program subtype) × FittedSelections s selections × FittedActuals s sub w zs rest
+    FittedActuals s sub w ks (CompositeOut formal at r selections subtype rest) =
+        (i : ℕ) × (zs : List Spot) × Without (spot (VariableOf formal) true (cells_of program subtype) i) ks zs × (formal_of program sub w (VariableOf formal) ≡ w + i) × Reached (root_of s.scope r) selections (cells_of program subtype) × FittedSelections s selections × FittedActuals s sub w zs rest
 
     -- declarations, with what is asked of what follows; none is of an object that is visible
     abbrev pub FittedDecls : Sight → Decls → (Sight → Type 0) → Type 0
@@ -185,7 +197,7 @@ module _ (program : Program) (globals : ℕ → Entity → Option Named) (mains 
             × FittedComposite (with_target (record { through = true; place = own s.scope.free; cells = composite_width program value }) (taking (composite_width program value) (taking 1 s))) (composite_width program value) value
         FittedStmt s (CallProcedure at callee sub actuals) =
             (u : Callable s sub) × (u.unit.result ≡ None) × (s.scope.free + shapes_cells (shapes program u.unit.formals) ≡ (passing program sub s).scope.free) × ((passing program sub s).scope.free ≤ s.cells)
-            × FittedActuals (passing program sub s) sub s.scope.free 0 (shapes program u.unit.formals) actuals
+            × FittedActuals (passing program sub s) sub s.scope.free (spots 0 (shapes program u.unit.formals)) actuals
         FittedStmt s (Exit loop condition) = Known s loop × FittedOptional s condition
         FittedStmt s Return = Unit {0}
         FittedStmt s (ReturnValue (Number check e)) = Fitted s e

@@ -76,6 +76,6 @@ module _ (program : Program) (globals : ℕ → Entity → Option Named) (mains 
   FittedForks c (suc n) s (Parallel site count arms) =
       (cs : CodeSite) × Sited c s site cs × lent false s site cs × (cs.kind ≡ kind.Block (arms_of arms)) × (s.scope.free + 3 < s.cells) × (1 ≤ arms_of arms) × (arms_of arms ≤ 4611686018427387904)
       × FittedCount program globals mains (FittedReductions c n) (nested_sight s) count
-      × (loops : List ℕ) × ((m : ℕ) → Amid m loops → Amid m (arm_exits arms)) × AllKnown s loops × (Amid 4294967296 loops → ⊥) × OutArms (λ m. Amid m loops) arms
+      × (loops : List ℕ) × ((m : ℕ) → Amid m loops → Amid m (arm_exits arms)) × AllKnown s loops × OutArms (λ m. Amid m loops) arms
       × FittedArms program globals mains (FittedReductions c n) (FittedForks c n) (with_outside loops (taking 2 (taking 2 (thread_sight site cs.frame (taking 2 s))))) arms
   FittedForks c (suc n) s t = ⊥

@@ -12,17 +12,16 @@ use Rattle.stack_code.specs.declared.instr.Instr.TheVariants.{Fork, Words}
 use Rattle.stack_code.specs.Valid.{Each, Has, HasFrame, HasStack, LeaseFits}
 use Rattle.lower_emission.specs.declared.types.Placed.{Placed}
 use Rattle.lower_emission.specs.Emits.{listed}
-use Rattle.lower_emission.specs.Bodies.{program_code}
-use Rattle.lower_emission.specs.Programs.{has_result, placed_code, code_of}
+use Rattle.lower_emission.specs.Programs.{has_result, whole_code, placed_code, code_of}
 use Rattle.lower_emission.specs.Tables.{spots_from}
 
 module _ (program : Program) (text : List ℕ → ℕ) (c : Code) where
   -- the instruction that is listed at a place
   abbrev pub Lists : ℕ → Placed → Type 0
-  Lists q p = slice_get (listed (program_code program text) 0) q ≡ Some p
+  Lists q p = slice_get (listed (whole_code program text) 0) q ≡ Some p
 
   pub record HasTables : Type 0 where
-    pub spots : c.spots ≡ spots_from None 0 (listed (program_code program text) 0)
+    pub spots : c.spots ≡ spots_from None 0 (listed (whole_code program text) 0)
     -- an instruction's body is there: its frame has more cells than are taken where the instruction stands, and its operand
     -- stack is as high
     pub cells : (q : ℕ) (p : Placed) → Lists q p → HasFrame c p.body (λ cells. p.cells < cells)

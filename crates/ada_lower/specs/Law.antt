@@ -28,8 +28,9 @@ use Rattle.ada_lower.specs.ProgramCode.{AreNamed, IsCodeOf, AllFit}
 use Rattle.typed_scopes.specs.Outs.{AllClosed}
 use Rattle.ada_lower.specs.Defaults.{Filled}
 use Rattle.ada_lower.specs.Ready.{IsReady}
-use Rattle.ada_lower.specs.HasTables.{HasTables, HasForks, LeasesFit}
-use Rattle.ada_lower.specs.Sited.{IsSited}
+use Rattle.typed_sites.specs.Nesting.{SitesAreNested}
+use Rattle.typed_sites.specs.Sites.{SitesAreDistinct, SitesAreListed}
+use Rattle.ada_lower.specs.HasTables.{HasTables, LeasesFit}
 use Rattle.ada_lower.specs.Outset.{outermost, first_dyn, main_ends}
 
 -- A program and its code: no exit leaves a body, the code is what is listed for the program, and its subprograms and its
@@ -88,7 +89,9 @@ ForwardLaw = (program : Program) (text : List ℕ → ℕ) (c : Code) → IsCode
 abbrev pub ValidLaw : Type 0
 ValidLaw = (program : Program) (text : List ℕ → ℕ) (c : Code) → IsCodeOf program text c → HasTables program text c → IsReady program → ((x : ℕ) → Filled program x) → IsValid c
 
--- The whole code of a program, by its definition, is its code and has those tables, where constructs and texts are in the
--- program's tables, each construct has one fork, and leases are of frames that the forks see.
+-- The whole code of a program, by its definition, is its code and has those tables, where the numbers of constructs are
+-- distinct, those of lines of the program's table, and greater within the threads of others, no value for several runs holds a
+-- construct, and leases are of frames that the forks see.
 abbrev pub TablesLaw : Type 0
-TablesLaw = (program : Program) (leases : ℕ → List Lease) → IsSited program → HasForks program → LeasesFit program leases → IsCodeOf program (text_in program) (code_of program leases) × HasTables program (text_in program) (code_of program leases)
+TablesLaw = (program : Program) (leases : ℕ → List Lease) → SitesAreDistinct program → SitesAreListed program → SitesAreNested program → LeasesFit program leases
+    → IsCodeOf program (text_in program) (code_of program leases) × HasTables program (text_in program) (code_of program leases)

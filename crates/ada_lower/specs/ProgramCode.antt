@@ -8,7 +8,7 @@ use Rattle.stack_code.specs.declared.code.CodeSub.{CodeSub}
 use Rattle.lower_emission.specs.Emits.{Emit, listed}
 use Rattle.lower_emission.specs.Bodies as code
 use Rattle.lower_emission.specs.Tables.{instrs_from, unwinds_from}
-pub use Rattle.lower_emission.specs.Programs.{behind, main_halts, main_end, sub_place, behind_main, sub_entry}
+pub use Rattle.lower_emission.specs.Programs.{behind, main_halts, main_end, sub_place, behind_main, sub_entry, whole_code}
 use Rattle.ada_lower.specs.Sights.{Named, Sight}
 use Rattle.ada_lower.specs.Emission.{shapes, shapes_cells}
 use Rattle.ada_lower.specs.Fitted.{FittedStmt}
@@ -27,7 +27,7 @@ module _ (program : Program) where
 
     -- the code of a program; a subprogram begins where its code is listed, and its frame has its formals' cells
     pub record IsCodeOf (c : Code) : Type 0 where
-      pub lists : Lists c (code.program_code program text)
+      pub lists : Lists c (whole_code program text)
       pub subs : (k : ℕ) (unit : Sub) → sub_at program.subs k ≡ Some unit → (is : CodeSub) × (slice_get c.subs (k + 1) ≡ Some is) × (is.entry ≡ sub_entry program text k) × (shapes_cells (shapes program unit.formals) ≤ is.frame)
 
     -- the names that are visible in a subprogram are some of them, and with these alone its code is the same (8.3)

@@ -2,6 +2,7 @@
 pub mod Gathered
 pub mod Leavings
 pub mod Levels
+pub mod Missing
 pub mod Parallels
 pub mod Programs
 pub mod Reading

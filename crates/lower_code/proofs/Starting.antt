@@ -17,7 +17,7 @@ use Rattle.stack_code.specs.declared.code.CodeSub.{CodeSub}
 use Rattle.stack_code.specs.declared.code.Lease.{Lease}
 use Rattle.lower_emission.specs.declared.types.Need.{Need}
 use Rattle.lower_emission.specs.declared.types.Placed.{Placed}
-use Rattle.lower_emission.specs.Bodies.{main_declared, main_object, main_scope, sub_code, sub_scope}
+use Rattle.lower_emission.specs.Bodies.{main_declared, main_object, main_scope, program_code, sub_code, sub_scope}
 use Rattle.lower_emission.specs.Bodies as bodies
 use Rattle.lower_emission.specs.Emission.{put_into, shapes, shapes_cells, width}
 use Rattle.lower_emission.specs.Emits.{Emit, written, listed}
@@ -29,11 +29,13 @@ use Rattle.lower_emission.specs.Statements.{defaulted}
 use Rattle.lower_emission.specs.Texts.{place, texts_of}
 use Rattle.lower_tables.specs.declared.bodies.Begun.{Begun}
 use Rattle.lower_tables.specs.declared.bodies.Start.{Start}
-use Rattle.lower_tables.specs.Bodies.{each, fresh, site_after, site_with, sites_from, sub_after, sub_table, sub_with, subs_by}
+use Rattle.lower_tables.specs.Bodies.{each, fork_flags, fresh, site_after, site_with, sites_from, sub_after, sub_table, sub_with, subs_by}
 use Rattle.lower_values.specs.Words.{program_of}
 use Rattle.lower_code.specs.declared.lowering.Laid.{Laid}
+use Rattle.lower_code.specs.Idle.{missing}
 use Rattle.lower_code.specs.Lowered.{Lays, tabled}
 use Rattle.lower_code.specs.Starts.{main_starts, sub_start, subs_starts}
+use Rattle.lower_code.proofs.Missing.{whole_law}
 use Rattle.lower_code.proofs.Programs.{program_law}
 use Rattle.lower_code.proofs.Texts.{drop_at, none_past}
 
@@ -147,12 +149,13 @@ starts_last t s k c all e = ap (λ l. all ++ subs_starts (program t) s k l c) (n
 
 -- what is laid out behind nothing
 
-pub laid_by : WrittenLaw → (t : Typed) (texts : List (List ℕ)) (b : Body) (laid : Laid) (c0 : List Placed) (s0 : List Start) → body_at t.nodes t.body ≡ b → c0 ≡ [] → s0 ≡ record { entry = 0; need = at_least 0; gives = false } ∷ [] →
-    laid.code ≡ written (main_declared (program_of t) (main_scope (λ bytes. place texts bytes)) b.decls (bodies.behind_main (program_of t))) c0 →
-    laid.subs ≡ s0 ++ main_starts (program_of t) (main_scope (λ bytes. place texts bytes)) b.decls c0 → Lays (program_of t) texts laid
+pub laid_by : WrittenLaw → (t : Typed) (texts : List (List ℕ)) (b : Body) (laid : Laid) (c0 c1 : List Placed) (s0 : List Start) → body_at t.nodes t.body ≡ b → c0 ≡ [] → s0 ≡ record { entry = 0; need = at_least 0; gives = false } ∷ [] →
+    c1 ≡ written (main_declared (program_of t) (main_scope (λ bytes. place texts bytes)) b.decls (bodies.behind_main (program_of t))) c0 →
+    laid.subs ≡ s0 ++ main_starts (program_of t) (main_scope (λ bytes. place texts bytes)) b.decls c0 →
+    laid.code ≡ written (missing (main_scope (λ bytes. place texts bytes)) 0 (fork_flags c1 (length (program_of t).sites))) c1 → Lays (program_of t) texts laid
 unfolding program_of
-laid_by law t texts b laid c0 s0 e f m g h = (
-  program_law law t (λ bytes. place texts bytes) b c0 laid.code e f g,
+laid_by law t texts b laid c0 c1 s0 e f m g h k = (
+  whole_law law (program_code (program t) (λ bytes. place texts bytes)) (main_scope (λ bytes. place texts bytes)) (program t).sites c1 laid.code (program_law law t (λ bytes. place texts bytes) b c0 c1 e f g) k,
   h ∙ (ap (λ c. s0 ++ main_starts (program t) (main_scope (λ bytes. place texts bytes)) b.decls c) f ∙ (ap (λ l. l ++ main_starts (program t) (main_scope (λ bytes. place texts bytes)) b.decls []) m
       ∙ ap (λ x. record { entry = 0; need = at_least 0; gives = false } ∷ main_starts (program t) (main_scope (λ bytes. place texts bytes)) x.decls []) (sym e))),
 )

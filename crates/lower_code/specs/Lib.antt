@@ -1,5 +1,6 @@
 -- Definitions of lowering.
 pub mod Gathered
+pub mod Idle
 pub mod Lowered
 pub mod Parts
 pub mod Starts

@@ -3,9 +3,9 @@ use Rattle.std.specs.Prelude.{◌≡◌, ℕ, List, [], ◌∷◌, None, false, 
 use Rattle.typed_tree.specs.Syntax.{Program}
 use Rattle.stack_code.specs.declared.code.Code.{Code}
 use Rattle.stack_code.specs.declared.code.Lease.{Lease}
-use Rattle.lower_emission.specs.Bodies.{main_scope, program_code}
+use Rattle.lower_emission.specs.Bodies.{main_scope}
 use Rattle.lower_emission.specs.Emits.{listed}
-use Rattle.lower_emission.specs.Programs.{at_least}
+use Rattle.lower_emission.specs.Programs.{at_least, whole_code}
 use Rattle.lower_emission.specs.Tables.{instrs_from, spots_from, unwinds_from}
 use Rattle.lower_emission.specs.Texts.{place}
 use Rattle.lower_tables.specs.Bodies.{site_table, sub_table}
@@ -15,7 +15,7 @@ use Rattle.lower_code.specs.declared.lowering.Laid.{Laid}
 -- the instructions that are listed, with the subprograms that begin in them
 abbrev pub Lays : Program → List (List ℕ) → Laid → Type 0
 Lays program texts laid =
-    (laid.code ≡ listed (program_code program (λ bytes. place texts bytes)) 0)
+    (laid.code ≡ listed (whole_code program (λ bytes. place texts bytes)) 0)
     × (laid.subs ≡ record { entry = 0; need = at_least 0; gives = false } ∷ main_starts program (main_scope (λ bytes. place texts bytes)) program.body.decls [])
 
 -- with their tables

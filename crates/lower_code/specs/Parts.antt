@@ -1,5 +1,5 @@
 -- Parts of the code of parallel constructs.
-use Rattle.std.specs.Prelude.{ℕ, ◌+◌, ◌-◌, pos, List}
+use Rattle.std.specs.Prelude.{ℕ, ◌+◌, ◌-◌, pos, List, Option}
 use Rattle.typed_tree.specs.Syntax.{Program, Optional, Chunk, Iteration}
 use Rattle.stack_code.specs.declared.code.SiteKind.TheVariants as kind
 use Rattle.stack_code.specs.declared.instr.Instr.TheVariants as i
@@ -24,5 +24,5 @@ forked_block program s site threads count arms =
     ⨟ one (nested s) 2 i.Unnest
 
 -- what follows
-unfoldable pub ways : Scope → (number : ℕ) → List ℕ → Emit
+unfoldable pub ways : Scope → (number : Option ℕ) → List ℕ → Emit
 ways s number loops = left_code s number loops

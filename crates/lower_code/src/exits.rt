@@ -10,11 +10,11 @@ use lower_values::types::{Emitter, Env};
 use stack_code::Instr;
 use typed_tree::{Handler, Stmt};
 
-/// The cell of how a construct was left, and the number of its own loop, or 2^32.
+/// The cell of how a construct was left, and the number of a parallel loop (5.5); a block has none (5.6.1).
 #[derive(Clone, Copy)]
 pub struct Left {
     pub cell: u32,
-    pub number: u64,
+    pub number: Option<u32>,
 }
 
 /// Whether a construct was left in a way.
@@ -26,10 +26,19 @@ pub fn left_by(env: &Env<'_>, d: u32, way: u32, out: &mut Emitter)
     out.put(env, 2, Instr::Eq);
 }
 
+fn is_own(number: Option<u32>, n: u32) -> bool
+    ensures { result ≡ spec.is_own number n }
+{
+    match number {
+        None => false,
+        Some(own) => own == n,
+    }
+}
+
 fn of_loop(env: &Env<'_>, left: Left, n: u32, out: &mut Emitter)
     ensures { Emits (spec.exit_code (env_of env.now) left.cell left.number n) out.old out.new }
 {
-    if left.number != u64::from(n) {
+    if !is_own(left.number, n) {
         let way = out.sum(n, 3);
         left_by(env, left.cell, way, out);
         let over = out.gap(env, 0);

@@ -6,6 +6,7 @@ pub mod bodies;
 pub mod defaults;
 pub mod exits;
 pub mod gathering;
+pub mod idle;
 pub mod loops;
 pub mod lowering;
 pub mod output;

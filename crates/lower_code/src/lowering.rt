@@ -11,6 +11,7 @@ ghost use Rattle.lower_values.specs.Words.{program_of};
 
 use crate::bodies::main_declared;
 use crate::gathering::texts_of;
+use crate::idle::idle_forks;
 use ada_base::Items;
 use lower_emission::laws;
 use lower_emission::types::{Leaving, Need, Placed};
@@ -68,6 +69,7 @@ fn laid_out<'a>(typed: &'a Typed, texts: &'a Texts, alloc: Global) -> Option<Lai
     };
     let parts = typed.nodes.body(typed.body)?;
     main_declared(&env, parts.decls, &mut out, &mut subs);
+    idle_forks(&env, &mut out, alloc);
     laws();
     if out.whole {
         Some(Laid {

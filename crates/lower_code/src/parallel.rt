@@ -1,6 +1,6 @@
 //! Parallel loops (5.5) and parallel blocks (5.6.1).
 
-ghost use Rattle.std.specs.Prelude.{◌≡◌, ◌<◌, ◌+◌, ◌-◌, None, true, false, pos};
+ghost use Rattle.std.specs.Prelude.{◌≡◌, ◌<◌, ◌+◌, ◌-◌, None, Some, true, false, pos};
 ghost use Rattle.ada_meaning.specs.Meaning.{arms_of};
 ghost use Rattle.typed_tree.specs.Decoded.{arms_at, chunk_at, expr_at, iteration_at, optional_at, stmts_at};
 ghost use Rattle.lower_emission.specs.Emission.{chunk_code, chunk_scope, course_code, ends_code, filtered, items_code, loop_kind, range_scope, stepping, threaded, turn_item, turns_code};
@@ -34,8 +34,6 @@ pub struct Forked {
     pub chunk: u32,
     pub iteration: u32,
 }
-
-const NO_LOOP: u64 = 4_294_967_296;
 
 /// A parallel loop.
 #[cycle(stmt)]
@@ -95,14 +93,14 @@ fn ask(env: &Env<'_>, kind: SiteKind, site: u32, out: &mut Emitter)
 /// What follows a loop's fork.
 #[tactic(auto, unfolding(crate::specs::Parts::ways))]
 fn ways_of_loop(env: &Env<'_>, number: u32, stmts: u32, out: &mut Emitter)
-    ensures { Emits (parts.ways (env_of env.now) number (spec.exits_of (stmts_at (nodes env.now) stmts))) out.old out.new }
+    ensures { Emits (parts.ways (env_of env.now) (Some number) (spec.exits_of (stmts_at (nodes env.now) stmts))) out.old out.new }
 {
     before_ways(env, out);
     let over = out.gap(env, 0);
     left_returns(env, out);
     let left = Left {
         cell: env.free,
-        number: u64::from(number),
+        number: Some(number),
     };
     of_stmts(env, left, stmts, out);
     out.aim_false(env, 0, over);
@@ -111,14 +109,14 @@ fn ways_of_loop(env: &Env<'_>, number: u32, stmts: u32, out: &mut Emitter)
 /// What follows a block's fork.
 #[tactic(auto, unfolding(crate::specs::Parts::ways))]
 fn ways_of_block(env: &Env<'_>, arms: u32, out: &mut Emitter)
-    ensures { Emits (parts.ways (env_of env.now) spec.no_loop (spec.arm_exits (arms_at (nodes env.now) arms))) out.old out.new }
+    ensures { Emits (parts.ways (env_of env.now) None (spec.arm_exits (arms_at (nodes env.now) arms))) out.old out.new }
 {
     before_ways(env, out);
     let over = out.gap(env, 0);
     left_returns(env, out);
     let left = Left {
         cell: env.free,
-        number: NO_LOOP,
+        number: None,
     };
     of_arms(env, left, arms, out);
     out.aim_false(env, 0, over);

@@ -245,9 +245,44 @@ turning s h t low component count first stride =
     one s h (i.Push low) ⨟ keep s (h + 1) s.free ⨟ one s h (i.Push (low +ℤ pos count -ℤ pos 1)) ⨟ keep s (h + 1) (s.free + 1) ⨟ one s h (i.Local (t + first)) ⨟ keep s (h + 1) (s.free + 1 + 1)
     ⨟ looped s h true (λ exit. one s h i.Turn ⨟ component) (λ head. stepping s h (s.free + 1 + 1) stride s.free head)
 
+-- Where there are several runs, one loop goes through the components of all, with the number of the run on the stack.
+
+-- the parameter of a run's first turn, that of its last one and the address of its first component go to three cells
+abbrev pub entering : Scope → ℕ → (t : ℕ) → ℤ → (count first : ℕ) → Emit
+entering s h t low count first = one s h (i.Push low) ⨟ keep s (h + 1) s.free ⨟ one s h (i.Push (low +ℤ pos count -ℤ pos 1)) ⨟ keep s (h + 1) (s.free + 1) ⨟ one s h (i.Local (t + first)) ⨟ keep s (h + 1) (s.free + 1 + 1)
+
+-- the next run that has components is entered, of those from a number on
+abbrev pub entering_next : Scope → ℕ → (t : ℕ) → ℤ → (head number : ℕ) → List Run → Emit
+entering_next s h t low head n [] = none
+entering_next s h t low head n (r ∷ rs) =
+    cond (nat_eq r.count 0) (entering_next s h t low head (n + 1) rs)
+    (one s (h + 1) i.Pop ⨟ one s h (i.Push (pos n)) ⨟ entering s (h + 1) t low r.count r.first ⨟ one s (h + 1) (i.Jump head))
+
+-- behind a turn, for runs from a number on: in the run of that number its next turn, or the first one of the next run
+abbrev pub run_steps : Scope → ℕ → (t : ℕ) → ℤ → (head number : ℕ) → List Run → Emit
+run_steps s h t low head n [] = none
+run_steps s h t low head n (r ∷ rs) =
+    (one s (h + 1) i.Dup ⨟ one s (h + 1 + 1) (i.Push (pos n)) ⨟ one s (h + 1 + 1 + 1) i.Eq
+    ⨟ when_ s (h + 1) (stepping s (h + 1) (s.free + 1 + 1) r.stride s.free head ⨟ entering_next s h t low head (n + 1) rs))
+    ⨟ run_steps s h t low head (n + 1) rs
+
+abbrev pub run_turnings : Scope → ℕ → (t : ℕ) → ℤ → (component : Emit) → (number : ℕ) → List Run → Emit
+run_turnings s h t low component n [] = none
+run_turnings s h t low component n (r ∷ rs) =
+    cond (nat_eq r.count 0) (run_turnings s h t low component (n + 1) rs)
+    (one s h (i.Push (pos n)) ⨟ entering s (h + 1) t low r.count r.first
+    ⨟ looped s (h + 1) true (λ exit. one s (h + 1) i.Turn ⨟ component) (λ head. run_steps s h t low head n (r ∷ rs)) ⨟ one s (h + 1) i.Pop)
+
+-- the height at which a component's code stands in the loop
+abbrev pub turn_height : List Run → ℕ → ℕ
+turn_height [] h = h
+turn_height (r ∷ []) h = h
+turn_height (r ∷ q ∷ rs) h = h + 1
+
 abbrev pub turnings : Scope → ℕ → (t : ℕ) → ℤ → (component : Emit) → List Run → Emit
 turnings s h t low component [] = none
-turnings s h t low component (r ∷ rs) = cond (nat_eq r.count 0) none (turning s h t low component r.count r.first r.stride) ⨟ turnings s h t low component rs
+turnings s h t low component (r ∷ []) = cond (nat_eq r.count 0) none (turning s h t low component r.count r.first r.stride)
+turnings s h t low component (r ∷ q ∷ rs) = run_turnings s h t low component 0 (r ∷ q ∷ rs)
 
 -- ---- parallel constructs (5.5, 5.6.1, 4.5.10)
 
@@ -414,7 +449,7 @@ module _ (program : Program) where
     pub associated : Scope → ℕ → ℕ → Associations → Emit
     associated s h t NoAssociation = none
     associated s h t (Association runs i mentions value rest) =
-        cond (takes_turns runs i value) (turnings s h t (turned_low i) (component (turned_scope s i) h (s.free + 1 + 1) value) runs) (fillings s h t (width value) (is_plain value) (λ n. put_into s h (t + n) value) runs)
+        cond (takes_turns runs i value) (turnings s h t (turned_low i) (component (turned_scope s i) (turn_height runs h) (s.free + 1 + 1) value) runs) (fillings s h t (width value) (is_plain value) (λ n. put_into s h (t + n) value) runs)
         ⨟ associated s h t rest
 
     -- a value goes to where an address in a cell says; that of an array or record by way of cells of its own

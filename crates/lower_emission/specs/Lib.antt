@@ -4,7 +4,6 @@ pub mod Emission
 pub mod Emits
 pub mod Laws
 pub mod Programs
-pub mod Leases
 pub mod Scope
 pub mod Statements
 pub mod Tables

@@ -18,8 +18,8 @@ use Rattle.lower_emission.specs.declared.types.Fork.{Fork}
 use Rattle.lower_emission.specs.declared.types.Need.{Need}
 use Rattle.lower_emission.specs.declared.types.Placed.{Placed}
 use Rattle.lower_emission.specs.Emits.{Emit, listed}
-use Rattle.lower_emission.specs.Scope.{Scope, taking, one, ◌⨟◌}
-use Rattle.lower_emission.specs.Emission.{put_into, shapes, shapes_cells, width}
+use Rattle.lower_emission.specs.Scope.{Scope, taking, nested, thread_scope, none, one, forks, aside, ◌⨟◌}
+use Rattle.lower_emission.specs.Emission.{lost, put_into, shapes, shapes_cells, width}
 use Rattle.lower_emission.specs.Statements.{defaulted, stmt}
 use Rattle.lower_emission.specs.Bodies.{main_object, main_scope, program_code, sub_code, sub_scope}
 use Rattle.lower_emission.specs.Tables.{instrs_from, spots_from, unwinds_from}
@@ -67,6 +67,25 @@ site_by f n leases = record { entry = f.place + 2; frame = n.cells + 1; stack = 
 
 abbrev pub code_site : List Placed → (ℕ → List Lease) → ℕ → CodeSite
 code_site c leases site = site_by (fork_from site no_fork 0 c) (needed (body.Site site) (at_least 4) c) (leases site)
+
+-- whether a construct has a fork among instructions
+abbrev pub has_fork : (site : ℕ) → List Placed → Bool
+has_fork site [] = false
+has_fork site (p ∷ ps) = cond (is_fork site p.instr) true (has_fork site ps)
+
+-- the threads of a construct that nothing begins
+abbrev pub idle_threads : Scope → (site : ℕ) → Emit
+idle_threads s site = lost (thread_scope site s) 0
+
+-- the fork of a construct where no run comes, its threads, which raise, and what is behind it
+abbrev pub idle_fork : Scope → (site : ℕ) → Emit
+idle_fork s site = forks (nested s) 5 kind.Loop site ⨟ aside (nested s) 2 (idle_threads s site) ⨟ lost (nested s) 2
+
+-- A construct of text that isn't evaluated has no fork where that stands (4.9, 4.1.4): its fork stands behind all other code.
+-- Those without one in the listing, from a number on:
+abbrev pub idle_forks : Scope → List Placed → ℕ → List Site → Emit
+idle_forks s c n [] = none
+idle_forks s c n (x ∷ more) = cond (has_fork n c) none (idle_fork s n) ⨟ idle_forks s c (n + 1) more
 
 -- those of constructs from a number on
 abbrev pub code_sites : List Placed → (ℕ → List Lease) → ℕ → List Site → List CodeSite
@@ -132,9 +151,13 @@ module _ (program : Program) where
   abbrev pub text_in : List ℕ → ℕ
   text_in bytes = place (texts_of program) bytes
 
+  -- all code of the program
+  abbrev pub whole_code : (text : List ℕ → ℕ) → Emit
+  whole_code text = program_code program text ⨟ idle_forks (main_scope text) (listed (program_code program text) 0) 0 program.sites
+
   -- the instructions as they are listed
   abbrev pub placed_code : List Placed
-  placed_code = listed (program_code program text_in) 0
+  placed_code = listed (whole_code text_in) 0
 
   abbrev pub code_by : List Placed → (leases : ℕ → List Lease) → Code
   code_by c leases = record {

@@ -153,10 +153,15 @@ abbrev mutual
 abbrev pub left_by : Scope → (d way : ℕ) → Emit
 left_by s d way = one s 0 (i.LoadL d) ⨟ one s 1 (i.Push (pos way)) ⨟ one s 2 i.Eq
 
-abbrev pub exit_code : Scope → (d number n : ℕ) → Emit
-exit_code s d number n = cond (nat_eq number n) none (left_by s d (n + 3) ⨟ when_ s 0 (exiting s n (s.exits n)))
+-- whether a loop is the construct itself: a parallel loop has a number, a block has none
+abbrev pub is_own : Option ℕ → ℕ → Bool
+is_own None n = false
+is_own (Some number) n = nat_eq number n
 
-abbrev pub exits_code : Scope → (d number : ℕ) → List ℕ → Emit
+abbrev pub exit_code : Scope → ℕ → (number : Option ℕ) → ℕ → Emit
+exit_code s d number n = cond (is_own number n) none (left_by s d (n + 3) ⨟ when_ s 0 (exiting s n (s.exits n)))
+
+abbrev pub exits_code : Scope → ℕ → (number : Option ℕ) → List ℕ → Emit
 exits_code s d number [] = none
 exits_code s d number (n ∷ ns) = exit_code s d number n ⨟ exits_code s d number ns
 
@@ -166,13 +171,9 @@ left_returns s =
     ⨟ left_by s s.free 2 ⨟ when_ s 0 (one s 0 (i.LoadL (s.free + 1)) ⨟ returning_value s s.leaving)
 
 -- what is left by none of them goes on behind the construct, or by the own loop's exit
-abbrev pub left_code : Scope → (number : ℕ) → List ℕ → Emit
+abbrev pub left_code : Scope → (number : Option ℕ) → List ℕ → Emit
 left_code s number loops =
     keep s 2 s.free ⨟ keep s 1 (s.free + 1) ⨟ one s 0 (i.LoadL s.free) ⨟ when_ s 0 (left_returns s ⨟ exits_code s s.free number loops)
-
--- no loop has the number 2 ^ 32
-abbrev pub no_loop : ℕ
-no_loop = 4294967296
 
 module _ (program : Program) where
   -- ---- objects without an initial value (3.3.1)
@@ -237,7 +238,7 @@ module _ (program : Program) where
       one s 0 i.Nest ⨟ chunk_code program (nested s) 0 chunk ⨟ course_code program (taking 2 (nested s)) 0 iteration ⨟ ends_code (taking 2 (nested s)) 0 iteration
       ⨟ fork_code (nested s) 0 2 (loop_kind chunk) site s.free (one (nested s) (1 + 1 + 1 + 1) (i.Push (pos 0)))
       (threaded program (thread_scope site s) 0 chunk (s.free + 1 + 1) iteration body ⨟ one (chunk_scope chunk (taking 2 (thread_scope site s))) 0 i.End)
-      ⨟ one (nested s) 2 i.Unnest ⨟ left_code (taking 2 (taking 2 s)) number loops
+      ⨟ one (nested s) 2 i.Unnest ⨟ left_code (taking 2 (taking 2 s)) (Some number) loops
 
   -- whether a number is one of a share
   abbrev pub in_share : Scope → ℕ → Emit
@@ -260,7 +261,7 @@ module _ (program : Program) where
   parallel_block s site threads count loops arms =
       one s 0 i.Nest ⨟ chunk_code program (nested s) 0 (chunk_by threads) ⨟ one (nested s) 0 (i.Push (pos 0)) ⨟ one (nested s) 1 (i.Push (pos (count - 1)))
       ⨟ fork_code (nested s) 0 2 (kind.Block count) site s.free (one (nested s) (1 + 1 + 1 + 1) (i.Push (pos 0))) (arms ⨟ one (arm_scope s site) 0 i.End)
-      ⨟ one (nested s) 2 i.Unnest ⨟ left_code (taking 2 s) no_loop loops
+      ⨟ one (nested s) 2 i.Unnest ⨟ left_code (taking 2 s) None loops
 
   unfoldable mutual
     pub stmt : Scope → Stmt → Emit

@@ -18,10 +18,14 @@ use Rattle.lower_emission.specs.Emits.{Emit, Nothing, One, Seq, Choose, When, Lo
 use Rattle.lower_emission.specs.Scope.{Scope, mark_of, moved_named, none, one, thread_scope, with_exit, ◌⨟◌}
 use Rattle.lower_emission.specs.Statements.{away}
 use Rattle.ada_lower.specs.Sights.{Named, Where, array_root_of, constant_root_of, root_of}
-use Rattle.ada_lower.specs.Emission.{address, ascending, bounds_code, chunk_scope, combined, counting, doubled, ends_code, away, exiting, filling, fillings, folding, leaving_by, load_by, load_named, load_where, negated_code, part_of, raise_above, ranged, raise_beyond, stepping, turning, turnings, within}
+use Rattle.ada_lower.specs.Emission.{address, ascending, bounds_code, chunk_scope, combined, counting, doubled, ends_code, away, exiting, filling, fillings, folding, leaving_by, load_by, load_named, load_where, negated_code, part_of, raise_above, ranged, raise_beyond, stepping, turning, entering, entering_next, run_steps, run_turnings, turnings, within}
 use Rattle.typed_scopes.specs.Scopes.{Around, ArraySeen, ConstantSeen, VariableSeen, with_chunk}
 
 -- ---- code that is alike: with the same marks and instructions, but for places of handlers and aims of jumps
+
+abbrev pub IsUnforked : Instr → Type 0
+IsUnforked (i.Fork site) = ⊥
+IsUnforked j = Unit {0}
 
 module _ (T : ℕ → ℕ → Type 0) where
   abbrev pub Both : Option ℕ → Option ℕ → Type 0
@@ -34,7 +38,7 @@ module _ (T : ℕ → ℕ → Type 0) where
   Marks m n = (m.body ≡ n.body) × (m.nest ≡ n.nest) × (m.cells ≡ n.cells) × (m.kind ≡ n.kind) × Both m.entry n.entry
 
   abbrev pub Leaps : Instr → Instr → Type 0
-  Leaps j k = (j ≡ k) ⊎ ((f : ℕ → Instr) × (a b : ℕ) × (j ≡ f a) × (k ≡ f b) × T a b)
+  Leaps j k = (j ≡ k) ⊎ ((f : ℕ → Instr) × (a b : ℕ) × (j ≡ f a) × (k ≡ f b) × T a b × IsUnforked (f b))
 
   abbrev pub Alike : Emit → Emit → Type 0
   Alike Nothing Nothing = Unit {0}
@@ -166,7 +170,7 @@ module _ (T : ℕ → ℕ → Type 0) (v : Around) (s : Scope) (o : Entity → O
   pub a_combined : (h : ℕ) (by : Reducer) → Alike T (combined s h by) (combined (prime o x e s) h by)
   a_combined h (Operator at op class) = tt
   a_combined h (Function at sub accumulator value) = λ p q t.
-      (plain, ((marked, refl, ((plain, (plain, (a_ranged h s.free accumulator, (a_ranged (h + 1) (s.free + 1) value, plain)))), (marked, refl, inr (i.CallTo (sub + 1) s.free, p, q, refl, refl, t)))), plain))
+      (plain, ((marked, refl, ((plain, (plain, (a_ranged h s.free accumulator, (a_ranged (h + 1) (s.free + 1) value, plain)))), (marked, refl, inr (i.CallTo (sub + 1) s.free, p, q, refl, refl, t, tt)))), plain))
 
   pub a_above : (h d : ℕ) → Alike T (raise_above s h d) (raise_above (prime o x e s) h d)
   a_above h d = (plain, (plain, (plain, (marked, refl, plain))))
@@ -180,10 +184,11 @@ module _ (T : ℕ → ℕ → Type 0) (v : Around) (s : Scope) (o : Entity → O
 
   -- the end of a turn
   pub a_counting : (h : ℕ) (reverse : Bool) (d a b : ℕ) → T a b → Alike T (one s h (counting reverse d a)) (one (prime o x e s) h (counting reverse d b))
-  a_counting h reverse d a b t = (marked, refl, inr ((λ z. counting reverse d z), a, b, refl, refl, t))
+  a_counting h true d a b t = (marked, refl, inr ((λ z. counting true d z), a, b, refl, refl, t, tt))
+  a_counting h false d a b t = (marked, refl, inr ((λ z. counting false d z), a, b, refl, refl, t, tt))
 
   pub a_stepping : (h at stride first a b : ℕ) → T a b → Alike T (stepping s h at stride first a) (stepping (prime o x e s) h at stride first b)
-  a_stepping h at stride first a b t = (plain, (plain, (plain, (marked, refl, inr ((λ z. i.Next first (first + 1) z), a, b, refl, refl, t)))))
+  a_stepping h at stride first a b t = (plain, (plain, (plain, (marked, refl, inr ((λ z. i.Next first (first + 1) z), a, b, refl, refl, t, tt)))))
 
   a_away : (loop : ℕ) (b : body.Around) → Alike T (away s loop b) (away (prime o x e s) loop b)
   a_away loop (around.Sub k) = plain
@@ -191,7 +196,7 @@ module _ (T : ℕ → ℕ → Type 0) (v : Around) (s : Scope) (o : Entity → O
 
   pub a_exiting : (loop : ℕ) (p q : Option ℕ) → Both T p q → Alike T (exiting s loop p) (exiting (prime o x e s) loop q)
   a_exiting loop None None t = a_away loop s.body
-  a_exiting loop (Some a) (Some b) t = (marked, refl, inr ((λ z. i.Jump z), a, b, refl, refl, t))
+  a_exiting loop (Some a) (Some b) t = (marked, refl, inr ((λ z. i.Jump z), a, b, refl, refl, t, tt))
   a_exiting loop None (Some b) t = absurd t
   a_exiting loop (Some a) None t = absurd t
 
@@ -210,6 +215,23 @@ module _ (T : ℕ → ℕ → Type 0) (v : Around) (s : Scope) (o : Entity → O
   a_turning h n low component component' count first stride f =
       (plain, (plain, (plain, (plain, (plain, (plain, (marked, refl, refl, (λ a b t. (plain, f)), (λ a b t. a_stepping h (s.free + 1 + 1) stride s.free a b t))))))))
 
+  a_entering : (h n : ℕ) (low : ℤ) (count first : ℕ) → Alike T (entering s h n low count first) (entering (prime o x e s) h n low count first)
+  a_entering h n low count first = (plain, (plain, (plain, (plain, (plain, plain)))))
+
+  a_next : (h n : ℕ) (low : ℤ) (m : ℕ) (rs : List Run) (a b : ℕ) → T a b → Alike T (entering_next s h n low a m rs) (entering_next (prime o x e s) h n low b m rs)
+  a_next h n low m [] a b t = tt
+  a_next h n low m (r ∷ rs) a b t = a_cond T (nat_eq r.count 0) _ _ _ _ (a_next h n low (m + 1) rs a b t) (plain, (plain, (a_entering (h + 1) n low r.count r.first, (marked, refl, inr ((λ z. i.Jump z), a, b, refl, refl, t, tt)))))
+
+  a_steps : (h n : ℕ) (low : ℤ) (m : ℕ) (rs : List Run) (a b : ℕ) → T a b → Alike T (run_steps s h n low a m rs) (run_steps (prime o x e s) h n low b m rs)
+  a_steps h n low m [] a b t = tt
+  a_steps h n low m (r ∷ rs) a b t = ((plain, (plain, (plain, (marked, refl, (a_stepping (h + 1) (s.free + 1 + 1) r.stride s.free a b t, a_next h n low (m + 1) rs a b t))))), a_steps h n low (m + 1) rs a b t)
+
+  a_runs : (h n : ℕ) (low : ℤ) (component component' : Emit) (m : ℕ) (rs : List Run) → Alike T component component' → Alike T (run_turnings s h n low component m rs) (run_turnings (prime o x e s) h n low component' m rs)
+  a_runs h n low component component' m [] f = tt
+  a_runs h n low component component' m (r ∷ rs) f = a_cond T (nat_eq r.count 0) _ _ _ _ (a_runs h n low component component' (m + 1) rs f)
+      (plain, (a_entering (h + 1) n low r.count r.first, ((marked, refl, refl, (λ a b t. (plain, f)), (λ a b t. a_steps h n low m (r ∷ rs) a b t)), plain)))
+
   pub a_turnings : (h n : ℕ) (low : ℤ) (component component' : Emit) (rs : List Run) → Alike T component component' → Alike T (turnings s h n low component rs) (turnings (prime o x e s) h n low component' rs)
   a_turnings h n low component component' [] f = tt
-  a_turnings h n low component component' (r ∷ rs) f = (a_cond T (nat_eq r.count 0) none _ none _ tt (a_turning h n low component component' r.count r.first r.stride f), a_turnings h n low component component' rs f)
+  a_turnings h n low component component' (r ∷ []) f = a_cond T (nat_eq r.count 0) none _ none _ tt (a_turning h n low component component' r.count r.first r.stride f)
+  a_turnings h n low component component' (r ∷ p ∷ rs) f = a_runs h n low component component' 0 (r ∷ p ∷ rs) f

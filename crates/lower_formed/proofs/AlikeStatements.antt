@@ -14,7 +14,7 @@ use Rattle.lower_emission.specs.Emits.{Emit}
 use Rattle.lower_emission.specs.Scope.{Scope, moved_named, nested, none, own, taking, thread_scope, with_entry, with_exit, with_handled, with_object, with_target}
 use Rattle.lower_emission.specs.Bodies as code
 use Rattle.ada_lower.specs.Sights.{ByEnd, ByLeave, ByReturn, ByValue, Leaving, Named, Where, root_of}
-use Rattle.ada_lower.specs.Emission.{Shape, all, arm_codes, arm_exits, arm_scope, arms_code, assigned, back_code, cases, cells_of, chosen, chunk_by, composed, composite_width, declared, default_of, defaulted, defaults_within, emit, exits_code, exits_of, exiting, field_defaults, handled_by, handled_target, handling, has_reason, in_share, is_end, is_whole, lead, left_code, left_returns, no_handler, no_loop, object_here, passing, piece_texts, piece_values, returning, returning_value, selected, shape_by, shapes, shapes_cells, stmt, subtype_or_none, width}
+use Rattle.ada_lower.specs.Emission.{Shape, all, arm_codes, arm_exits, arm_scope, arms_code, assigned, back_code, cases, cells_of, chosen, chunk_by, composed, composite_width, declared, default_of, defaulted, defaults_within, emit, exits_code, exits_of, exiting, field_defaults, handled_by, handled_target, handling, has_reason, in_share, is_end, is_whole, lead, is_own, left_code, left_returns, no_handler, object_here, passing, piece_texts, piece_values, returning, returning_value, selected, shape_by, shapes, shapes_cells, stmt, subtype_or_none, width}
 use Rattle.typed_scopes.specs.Scopes as scopes
 use Rattle.typed_scopes.specs.Scopes.{Around, ScopedAll, ScopedAlternatives, ScopedArms, ScopedChunk, ScopedComposite, ScopedDecls, ScopedExpr, ScopedHandlers, ScopedMain, ScopedOptional, ScopedPieces, ScopedStmt, entity_of, with_chunk, with_formals, with_outer}
 use Rattle.lower_formed.proofs.Alike.{Alike, Like, a_address, a_cond, a_doubled, a_ends, a_exiting, like_exit, like_thread, marked, plain, prime, root_same}
@@ -56,11 +56,11 @@ module _ (T : ℕ → ℕ → Type 0) (v : Around) (s : Scope) (o : Entity → O
   a_handled_by Others a b a' b' d f g = f
   a_handled_by (Reasons reasons) a b a' b' d f g = (a_reason d reasons, ((marked T v s o xs en k), refl, refl, f, g))
 
-  a_exits : (d number : ℕ) (ns : List ℕ) → Alike T (exits_code s d number ns) (exits_code (prime o xs en s) d number ns)
+  a_exits : (d : ℕ) (number : Option ℕ) (ns : List ℕ) → Alike T (exits_code s d number ns) (exits_code (prime o xs en s) d number ns)
   a_exits d number [] = tt
-  a_exits d number (n ∷ ns) = (a_cond T (nat_eq number n) none _ none _ tt (((plain T v s o xs en k), ((plain T v s o xs en k), (plain T v s o xs en k))), ((marked T v s o xs en k), refl, a_exiting T v s o xs en k n (s.exits n) (xs n) (k.1 n))), a_exits d number ns)
+  a_exits d number (n ∷ ns) = (a_cond T (is_own number n) none _ none _ tt (((plain T v s o xs en k), ((plain T v s o xs en k), (plain T v s o xs en k))), ((marked T v s o xs en k), refl, a_exiting T v s o xs en k n (s.exits n) (xs n) (k.1 n))), a_exits d number ns)
 
-  a_left : (number : ℕ) (loops : List ℕ) → Alike T (left_code s number loops) (left_code (prime o xs en s) number loops)
+  a_left : (number : Option ℕ) (loops : List ℕ) → Alike T (left_code s number loops) (left_code (prime o xs en s) number loops)
   a_left number loops = ((plain T v s o xs en k), ((plain T v s o xs en k), ((plain T v s o xs en k), ((marked T v s o xs en k), refl, ((((plain T v s o xs en k), ((plain T v s o xs en k), (plain T v s o xs en k))), (((marked T v s o xs en k), refl, a_returning 0 s.leaving), (((plain T v s o xs en k), ((plain T v s o xs en k), (plain T v s o xs en k))), ((marked T v s o xs en k), refl, ((plain T v s o xs en k), a_returning_value s.leaving))))), a_exits s.free number loops)))))
 
   a_assigned : (n n' : Option Named) (whole : Bool) (moved moved' : Emit) (value : Scope → ℕ → Emit) → n ≡ n' → Alike T moved moved' → ((m : Named) → Alike T (value (with_target m s) 0) (value (with_target m (prime o xs en s)) 0)) → ((m : Named) → Alike T (value (with_target m (taking 1 s)) 1) (value (with_target m (taking 1 (prime o xs en s))) 1))
@@ -182,14 +182,14 @@ module _ (T : ℕ → ℕ → Type 0) (program : Program) (shown : ℕ → Entit
       refl,
       refl,
       (λ a b t. ((plain T v s o xs en k), a_all v (with_exit number a s) o (λ j. cond (nat_eq number j) (Some b) (xs j)) en stmts (like_exit T v s o xs en number a b t k) p.1)),
-      (λ a b t. ((marked T v s o xs en k), refl, inr ((λ z. i.Jump z), a, b, refl, refl, t))),
+      (λ a b t. ((marked T v s o xs en k), refl, inr ((λ z. i.Jump z), a, b, refl, refl, t, tt))),
     )
     a_stmt v s o xs en (Loop number (Present e) stmts) k p = (
       (marked T v s o xs en k),
       refl,
       refl,
       (λ a b t. ((plain T v s o xs en k), a_all v (with_exit number a s) o (λ j. cond (nat_eq number j) (Some b) (xs j)) en stmts (like_exit T v s o xs en number a b t k) p.1)),
-      (λ a b t. (a_emit T program shown v s o xs en 0 e k p.0, ((marked T v s o xs en k), refl, inr ((λ z. i.JTrue z), a, b, refl, refl, t)))),
+      (λ a b t. (a_emit T program shown v s o xs en 0 e k p.0, ((marked T v s o xs en k), refl, inr ((λ z. i.JTrue z), a, b, refl, refl, t, tt)))),
     )
     a_stmt v s o xs en (For number iteration stmts) k p =
         a_iterated T program shown v v s o xs en 0 (Some number) iteration (λ t. all program t stmts) (λ t. all program t stmts) k (λ y. refl) (gone_through T program shown v v iteration (λ u. ScopedAll program shown u stmts) p)
@@ -224,7 +224,7 @@ module _ (T : ℕ → ℕ → Type 0) (program : Program) (shown : ℕ → Entit
                   ),
                 ),
               ),
-              ((plain T v (nested s) o xs en k), a_left T v (taking 2 (taking 2 s)) o xs en k number (exits_of stmts)),
+              ((plain T v (nested s) o xs en k), a_left T v (taking 2 (taking 2 s)) o xs en k (Some number) (exits_of stmts)),
             ),
           ),
         ),
@@ -259,7 +259,7 @@ module _ (T : ℕ → ℕ → Type 0) (program : Program) (shown : ℕ → Entit
                   ),
                 ),
               ),
-              ((plain T v (nested s) o xs en k), a_left T v (taking 2 s) o xs en k no_loop (arm_exits arms)),
+              ((plain T v (nested s) o xs en k), a_left T v (taking 2 s) o xs en k None (arm_exits arms)),
             ),
           ),
         ),

@@ -8,7 +8,7 @@ use Rattle.stack_code.specs.declared.instr.Instr.TheVariants as i
 use Rattle.lower_emission.specs.Emits.{Emit}
 use Rattle.lower_emission.specs.Scope.{Scope, moved_named, nested, none, one, own, taking, thread_scope, with_item, with_parameter, ◌⨟◌}
 use Rattle.ada_lower.specs.Sights.{Named, array_root_of, constant_root_of, root_of}
-use Rattle.ada_lower.specs.Emission.{associated, chunk_code, chunk_scope, component, composed, composite_width, course_code, emit, filtered, first_parameter, folding, is_plain, takes_turns, fillings, turnings, is_whole, items_code, iterated, iterated_scope, passed, passing, put_into, range_scope, selected, threaded, turn_item, turns_code, width}
+use Rattle.ada_lower.specs.Emission.{associated, chunk_code, chunk_scope, component, composed, composite_width, course_code, emit, filtered, first_parameter, folding, is_plain, takes_turns, fillings, turn_height, turnings, is_whole, items_code, iterated, iterated_scope, passed, passing, put_into, range_scope, selected, threaded, turn_item, turns_code, width}
 use Rattle.typed_scopes.specs.Scopes as scopes
 use Rattle.typed_scopes.specs.Scopes.{Around, ScopedActuals, ScopedAssociations, ScopedChunk, ScopedComposite, ScopedExpr, ScopedIn, ScopedIteration, ScopedOptional, ScopedSelections, ScopedValue, with_chunk}
 use Rattle.lower_formed.proofs.Alike.{Alike, Like, a_above, a_address, a_ascending, a_beyond, a_bounds, a_combined, a_cond, a_counting, a_ends, a_fillings, a_folding, a_load, a_negated, a_part, a_stepping, a_turnings, a_where, a_within, array_same, chunk_object, chunk_prime, constant_same, leave, like_chunk, like_thread, marked, plain, prime, root_same}
@@ -155,12 +155,12 @@ module _ (T : ℕ → ℕ → Type 0) (program : Program) (shown : ℕ → Entit
     a_associated v s o xs en h t n NoAssociation k p = tt
     a_associated v s o xs en h t n (Association runs None mentions value rest) k p = (
       a_cond T (takes_turns runs None value) _ _ _ _
-          (a_turnings T v s o xs en k h t (pos 0) (component program (taking 3 s) h (s.free + 1 + 1) value) (component program (taking 3 (prime o xs en s)) h (s.free + 1 + 1) value) runs (a_component v (taking 3 s) o xs en h (s.free + 1 + 1) _ value k p.1.2))
+          (a_turnings T v s o xs en k h t (pos 0) (component program (taking 3 s) (turn_height runs h) (s.free + 1 + 1) value) (component program (taking 3 (prime o xs en s)) (turn_height runs h) (s.free + 1 + 1) value) runs (a_component v (taking 3 s) o xs en (turn_height runs h) (s.free + 1 + 1) _ value k p.1.2))
           (a_fillings T v s o xs en k h t (width program value) (is_plain value) (λ n. put_into program s h (t + n) value) (λ n. put_into program (prime o xs en s) h (t + n) value) runs (λ n. a_into v s o xs en h (t + n) _ value k p.1.2)),
       a_associated v s o xs en h t n rest k p.2,
     )
     a_associated v s o xs en h t n (Association runs (Some x) mentions value rest) k p = (
-      a_turnings T v s o xs en k h t x.first (component program (iterated_scope s x.parameter) h (s.free + 1 + 1) value) (component program (iterated_scope (prime o xs en s) x.parameter) h (s.free + 1 + 1) value) runs (a_component (scopes.with_parameter x.parameter v) (iterated_scope s x.parameter) o xs en h (s.free + 1 + 1) _ value k p.1.2),
+      a_turnings T v s o xs en k h t x.first (component program (iterated_scope s x.parameter) (turn_height runs h) (s.free + 1 + 1) value) (component program (iterated_scope (prime o xs en s) x.parameter) (turn_height runs h) (s.free + 1 + 1) value) runs (a_component (scopes.with_parameter x.parameter v) (iterated_scope s x.parameter) o xs en (turn_height runs h) (s.free + 1 + 1) _ value k p.1.2),
       a_associated v s o xs en h t n rest k p.2,
     )
 

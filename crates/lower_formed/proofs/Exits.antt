@@ -1,10 +1,8 @@
 -- The loops that exits of a text name: those around it, of which a construct is left by some.
 use Rattle.std.proofs.Common.{◌≡◌, ℕ, zero, suc, ◌<◌, List, [], ◌∷◌, ◌++◌, ◌⊎◌, inl, inr, ⊎_elim, refl, arith}
 use Rattle.typed_tree.specs.Syntax.{Stmt, Null, Assign, CallProcedure, Exit, Return, ReturnValue, Raise, Reraise, IfThen, Case, Loop, For, ParallelFor, Parallel, Block, Put, Get, Stmts, End, Then, Alternatives, NoAlternative, Alternative, Arms, NoArm, Arm, Handlers, NoHandler, Handler}
-use Rattle.stack_code.specs.declared.code.SiteKind.{SiteKind}
 use Rattle.ada_lower.specs.Sights.{Amid}
 use Rattle.ada_lower.specs.Emission.{arm_exits, case_exits, exits_of, handler_exits, stmt_exits}
-use Rattle.lower_formed.specs.Tables.{TabledAll, TabledAlternatives, TabledArms, TabledHandlers, TabledStmt, loop_limit}
 use Rattle.typed_scopes.specs.Outs.{OutAll, OutArms, OutCases, OutHandlers, OutStmt}
 
 own_or : {A B : ℕ → Type 0} (number : ℕ) → ((n : ℕ) → A n → B n) → (n : ℕ) → (n ≡ number) ⊎ A n → (n ≡ number) ⊎ B n
@@ -154,45 +152,3 @@ mutual
   gather_handlers A B NoHandler o = none_gathered A B [] _ (λ M. tt)
   gather_handlers A B (Handler handled stmts rest) o =
       two_gathered A B (exits_of stmts) (handler_exits rest) (λ M. OutAll M stmts) (λ M. OutHandlers M rest) (λ M N h. all_more stmts h) (λ M N h. handlers_more rest h) (gather_all A B stmts o.0) (gather_handlers A B rest o.1)
-
--- ---- numbers of loops that exits name
-
-module _ (T : List ℕ → Type 0) (S : ℕ → SiteKind → ℕ → Type 0) where
-  mutual
-    below : (n : ℕ) (t : Stmt) → TabledStmt T S n t → (m : ℕ) → Amid m (stmt_exits t) → m < loop_limit
-    below n (Exit loop condition) t m (inl e) = let z = t.0 in omega (arith, e, z)
-    below n (Exit loop condition) t m (inr h) = absurd h
-    below n (IfThen condition stmts otherwise) t m h = amid_both m (exits_of stmts) (exits_of otherwise) (λ a. all_below n stmts t.1 m a) (λ a. all_below n otherwise t.2 m a) h
-    below n (Case e alternatives) t m h = cases_below n alternatives t.1 m h
-    below n (Loop number condition stmts) t m h = all_below n stmts t.1 m h
-    below n (For number iteration stmts) t m h = all_below n stmts t.1 m h
-    below zero (ParallelFor number site chunk iteration stmts) t m h = absurd t
-    below (suc n) (ParallelFor number site chunk iteration stmts) t m h = all_below n stmts t.3 m h
-    below zero (Parallel site count arms) t m h = absurd t
-    below (suc n) (Parallel site count arms) t m h = arms_below n arms t.2 m h
-    below n (Block decls stmts handlers) t m h = amid_both m (exits_of stmts) (handler_exits handlers) (λ a. all_below n stmts t.1 m a) (λ a. handlers_below n handlers t.2 m a) h
-    below n Null t m h = absurd h
-    below n (Assign at r selections value) t m h = absurd h
-    below n (CallProcedure at callee sub actuals) t m h = absurd h
-    below n Return t m h = absurd h
-    below n (ReturnValue value) t m h = absurd h
-    below n (Raise r) t m h = absurd h
-    below n Reraise t m h = absurd h
-    below n (Put at callee pieces line) t m h = absurd h
-    below n (Get at callee first r selections scalar) t m h = absurd h
-
-    all_below : (n : ℕ) (ts : Stmts) → TabledAll T S n ts → (m : ℕ) → Amid m (exits_of ts) → m < loop_limit
-    all_below n End t m h = absurd h
-    all_below n (Then first more) t m h = amid_both m (stmt_exits first) (exits_of more) (λ a. below n first t.0 m a) (λ a. all_below n more t.1 m a) h
-
-    cases_below : (n : ℕ) (ts : Alternatives) → TabledAlternatives T S n ts → (m : ℕ) → Amid m (case_exits ts) → m < loop_limit
-    cases_below n NoAlternative t m h = absurd h
-    cases_below n (Alternative others choices mentions stmts rest) t m h = amid_both m (exits_of stmts) (case_exits rest) (λ a. all_below n stmts t.0 m a) (λ a. cases_below n rest t.1 m a) h
-
-    pub arms_below : (n : ℕ) (ts : Arms) → TabledArms T S n ts → (m : ℕ) → Amid m (arm_exits ts) → m < loop_limit
-    arms_below n NoArm t m h = absurd h
-    arms_below n (Arm stmts rest) t m h = amid_both m (exits_of stmts) (arm_exits rest) (λ a. all_below n stmts t.0 m a) (λ a. arms_below n rest t.1 m a) h
-
-    handlers_below : (n : ℕ) (ts : Handlers) → TabledHandlers T S n ts → (m : ℕ) → Amid m (handler_exits ts) → m < loop_limit
-    handlers_below n NoHandler t m h = absurd h
-    handlers_below n (Handler handled stmts rest) t m h = amid_both m (exits_of stmts) (handler_exits rest) (λ a. all_below n stmts t.0 m a) (λ a. handlers_below n rest t.1 m a) h

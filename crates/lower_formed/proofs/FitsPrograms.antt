@@ -12,7 +12,9 @@ use Rattle.ada_meaning.specs.Shapes.{object_shape, size}
 use Rattle.ada_meaning.proofs.Cells.{entity_same, some_same}
 use Rattle.stack_code.specs.declared.code.Around as body
 use Rattle.stack_code.specs.declared.code.Code.{Code}
+use Rattle.stack_code.specs.declared.code.CodeSite.{CodeSite}
 use Rattle.stack_code.specs.declared.code.CodeSub.{CodeSub}
+use Rattle.stack_code.specs.declared.code.SiteKind.{SiteKind}
 use Rattle.lower_emission.specs.Emits.{Emit}
 use Rattle.lower_emission.specs.Bodies as code
 use Rattle.lower_emission.specs.Programs.{behind_main}
@@ -21,15 +23,15 @@ use Rattle.ada_lower.specs.Sights as sights
 use Rattle.ada_lower.specs.Sights.{Named, Scope, Sight, taking}
 use Rattle.ada_lower.specs.Emission.{Shape, lead, shape_by, shapes, shapes_cells, stmt, width}
 use Rattle.ada_lower.specs.Defaults.{NoneEmpty}
-use Rattle.ada_lower.specs.FittedForks.{unleased, FittedForks, FittedReductions}
+use Rattle.ada_lower.specs.FittedForks.{FittedForks, FittedReductions}
 use Rattle.ada_lower.specs.Bodies.{AreBack, AreFresh, FittedMain, formal_named, main_named, main_object, main_scope, objects, outer_scope, seens, sub_scope}
 use Rattle.ada_lower.specs.ProgramCode.{AreNamed, IsCodeOf, SubFits}
 use Rattle.typed_scopes.specs.Outs.{AllClosed, OutAll, OutHandlers}
-use Rattle.ada_lower.specs.Law.{IsLowered}
+use Rattle.ada_lower.specs.Law.{IsLoweredBy}
 use Rattle.ada_lower.proofs.Grounded.{objects_filled}
 use Rattle.ada_lower.proofs.ProgramStands.{sub_scope_same}
 use Rattle.typed_scopes.specs.Scopes.{Around, FreshFormals, IsScoped, ScopedMain, ScopedValue, behind, entity_of, object_cells, outset, sub_around, with_formals, with_object, with_outer}
-use Rattle.lower_formed.specs.Tables.{IsTabled, TabledDecls}
+use Rattle.lower_formed.specs.Tables.{HasSite, IsTabled, TabledDecls}
 use Rattle.lower_formed.specs.Rooms.{AreFrames, HasRoom, Roomy, frames_of, seen_names}
 use Rattle.lower_formed.proofs.Exits.{all_more, handlers_more}
 use Rattle.lower_formed.proofs.FitsStatements.{default_fits, fits_stmt}
@@ -108,7 +110,8 @@ formed_at program n [] k unit f e = absurd (none-some unit e)
 formed_at program n (u ∷ subs) zero unit f e = let z : n ≡ n + 0 = omega arith in subst (λ j. FormedBody program (suc j) unit.body) z (subst (λ u. FormedBody program (suc n) u.body) (some_same u unit e) f.0)
 formed_at program n (u ∷ subs) (suc k) unit f e = let z : suc n + k ≡ n + suc k = omega arith in subst (λ j. FormedBody program (suc j) unit.body) z (formed_at program (suc n) subs k unit f.1 e)
 
-module _ (program : Program) (text : List ℕ → ℕ) (c : Code) (shown : ℕ → Entity → Bool) (depth : ℕ) (formed : IsFormed program) (filled : NoneEmpty program.subtypes) (scoped : IsScoped program shown) (room : body.Around → ℕ) (tabled : IsTabled program text c (frames_of room) depth) where
+module _ (program : Program) (text : List ℕ → ℕ) (c : Code) (shown : ℕ → Entity → Bool) (depth : ℕ) (formed : IsFormed program) (filled : NoneEmpty program.subtypes) (scoped : IsScoped program shown) (room : body.Around → ℕ) (tabled : IsTabled program text c depth)
+    (lent : Bool → Sight → ℕ → CodeSite → Type 0) (give : (items : Bool) (s : Sight) (site : ℕ) (of : SiteKind) (row : HasSite c (frames_of room) site of s.scope.body) → lent items s site row.row) where
   abbrev names : Entity → Option Named
   names = (behind_main program text).object
 
@@ -117,6 +120,9 @@ module _ (program : Program) (text : List ℕ → ℕ) (c : Code) (shown : ℕ �
 
   abbrev pub mains : Entity → Bool
   mains = (behind outset program.body.decls).taken
+
+  abbrev Row : ℕ → SiteKind → body.Around → Type 0
+  Row = HasSite c (frames_of room)
 
   abbrev T : List ℕ → Type 0
   T bytes = slice_get c.texts (text bytes) ≡ Some bytes
@@ -215,23 +221,23 @@ module _ (program : Program) (text : List ℕ → ℕ) (c : Code) (shown : ℕ �
   here i y n = ap (λ b. cond b (Some (main_named i.scope.free n)) (i.scope.object y)) (entity_refl y)
 
   abbrev Fold : Sight → Expr → Type 0
-  Fold = FittedReductions program globals mains unleased c depth
+  Fold = FittedReductions program globals mains lent c depth
 
   abbrev Fork : Sight → Stmt → Type 0
-  Fork = FittedForks program globals mains unleased c depth
+  Fork = FittedForks program globals mains lent c depth
 
   abbrev w0 : Known
   w0 = at_first (length program.subs)
 
-  main_fits : (decls : Decls) (i : Sight) (v : Around) (rest : Scope → Emit) (goal : Sight → Type 0) (does : Around → Type 0) → S w0 v i → FormedDecls program w0 decls → ScopedMain program shown v decls does → TabledDecls T (Rattle.lower_formed.specs.Tables.HasSite c (frames_of room)) depth decls
-      → Roomy room (code.main_declared program i.scope decls rest) → ((z : Entity) → names z ≡ (programs.behind program i.scope decls).object z) → ((z : Entity) → mains z ≡ (behind v decls).taken z)
-      → ((j : Sight) (u : Around) → S w0 u j → does u → Roomy room (rest j.scope) → goal j) → FittedMain program globals mains c.texts text (frames_of room) Fold i decls goal
+  main_fits : (decls : Decls) (i : Sight) (v : Around) (rest : Scope → Emit) (goal : Sight → Type 0) (does : Around → Type 0) → S w0 v i → FormedDecls program w0 decls → ScopedMain program shown v decls does → TabledDecls T depth decls
+      → Roomy Row room (code.main_declared program i.scope decls rest) → ((z : Entity) → names z ≡ (programs.behind program i.scope decls).object z) → ((z : Entity) → mains z ≡ (behind v decls).taken z)
+      → ((j : Sight) (u : Around) → S w0 u j → does u → Roomy Row room (rest j.scope) → goal j) → FittedMain program globals mains c.texts text (frames_of room) Fold i decls goal
   main_fits NoDecl i v rest goal does k f p t m same all next = next i v k p m
   main_fits (DeclareDefault x more) i v rest goal does k f p t m same all next =
       let y : Entity = VariableOf x in
       let n = length (object_layout program x) in
       let z = object_size program x in
-      let fit : i.scope.free + n ≤ i.cells = default_fits program globals mains c T (frames_of room) room (λ n. refl) apart names shown shows formed.grounded filled i.scope i.scope.free x n refl m.0 i.cells k.free k.enough in (
+      let fit : i.scope.free + n ≤ i.cells = default_fits program globals mains c T (frames_of room) room (λ n. refl) apart names shown shows lent give formed.grounded filled i.scope i.scope.free x n refl m.0 i.cells k.free k.enough in (
         k.taken y p.0,
         fit,
         objects_filled program formed.grounded filled x,
@@ -244,12 +250,12 @@ module _ (program : Program) (text : List ℕ → ℕ) (c : Code) (shown : ℕ �
       let n = width program initial in
       let z = object_size program x in
       let wide = width_is program shown v (object_cells program x) initial p.1 in
-      let le = put_room program room (taking n i).scope 0 i.scope.free initial m.0 in
+      let le = put_room program Row room (taking n i).scope 0 i.scope.free initial m.0 in
       let enough = k.enough in
       let fit : i.scope.free + n ≤ i.cells = omega (arith, le, enough) in (
         k.taken y p.0,
         fit,
-        fits_value program globals mains c T (frames_of room) room (λ n. refl) apart names shown shows depth (taking n i) w0 v 0 i.scope.free n initial (sees_taking program names mains T (frames_of room) room n fit k) f.0 (subst (λ n. ScopedValue program shown v n initial) (sym wide) p.1) t.0 m.0,
+        fits_value program globals mains c T (frames_of room) room (λ n. refl) apart names shown shows lent give depth (taking n i) w0 v 0 i.scope.free n initial (sees_taking program names mains T (frames_of room) room n fit k) f.0 (subst (λ n. ScopedValue program shown v n initial) (sym wide) p.1) t.0 m.0,
         main_fits more (main_object i y n) (with_outer y v) rest goal does
             (sees_main y n fit (omega (arith, z, wide)) (same y ∙ names_kept more (main_object i y n).scope (with_outer y v) does y p.2 (new y v) ∙ here i y n) (all y ∙ taken_kept more (with_outer y v) y (new y v)) k)
             f.1 p.2 t.1 m.1 same all next,
@@ -259,12 +265,12 @@ module _ (program : Program) (text : List ℕ → ℕ) (c : Code) (shown : ℕ �
       let n = width program initial in
       let z = object_size program x in
       let wide = width_is program shown v (object_cells program x) initial p.1 in
-      let le = put_room program room (taking n i).scope 0 i.scope.free initial m.0 in
+      let le = put_room program Row room (taking n i).scope 0 i.scope.free initial m.0 in
       let enough = k.enough in
       let fit : i.scope.free + n ≤ i.cells = omega (arith, le, enough) in (
         k.taken y p.0,
         fit,
-        fits_value program globals mains c T (frames_of room) room (λ n. refl) apart names shown shows depth (taking n i) w0 v 0 i.scope.free n initial (sees_taking program names mains T (frames_of room) room n fit k) f.0 (subst (λ n. ScopedValue program shown v n initial) (sym wide) p.1) t.0 m.0,
+        fits_value program globals mains c T (frames_of room) room (λ n. refl) apart names shown shows lent give depth (taking n i) w0 v 0 i.scope.free n initial (sees_taking program names mains T (frames_of room) room n fit k) f.0 (subst (λ n. ScopedValue program shown v n initial) (sym wide) p.1) t.0 m.0,
         main_fits more (main_object i y n) (with_outer y v) rest goal does
             (sees_main y n fit (omega (arith, z, wide)) (same y ∙ names_kept more (main_object i y n).scope (with_outer y v) does y p.2 (new y v) ∙ here i y n) (all y ∙ taken_kept more (with_outer y v) y (new y v)) k)
             f.1 p.2 t.1 m.1 same all next,
@@ -327,9 +333,9 @@ module _ (program : Program) (text : List ℕ → ℕ) (c : Code) (shown : ℕ �
   no_exit : (j : Sight) (n : ℕ) → ⊥ → sights.Known j n
   no_exit j n h = absurd h
 
-  module _ (closed : AllClosed program) (stays : OutAll (λ n. ⊥) program.body.stmts × OutHandlers (λ n. ⊥) program.body.handlers) (is : IsCodeOf program text c) (named : AreNamed program text globals) (roomy : HasRoom program text globals room) (frame : ℕ) (are : AreFrames c room frame) where
+  module _ (closed : AllClosed program) (stays : OutAll (λ n. ⊥) program.body.stmts × OutHandlers (λ n. ⊥) program.body.handlers) (is : IsCodeOf program text c) (named : AreNamed program text globals) (roomy : HasRoom program text globals Row room) (frame : ℕ) (are : AreFrames c room frame) where
     sub_fits : (k : ℕ) (unit : Sub) (sub : CodeSub) → sub_at program.subs k ≡ Some unit → slice_get c.subs (k + 1) ≡ Some sub
-        → SubFits program text globals mains c.texts (frames_of room) (FittedReductions program globals mains unleased c depth) (FittedForks program globals mains unleased c depth) c k unit sub.frame
+        → SubFits program text globals mains c.texts (frames_of room) (FittedReductions program globals mains lent c depth) (FittedForks program globals mains lent c depth) c k unit sub.frame
     sub_fits k unit sub e at =
         let (sub', at', entry, enough) = is.subs k unit e in
         let same : sub' ≡ sub = some_same sub' sub (sym at' ∙ at) in
@@ -344,10 +350,10 @@ module _ (program : Program) (text : List ℕ → ℕ) (c : Code) (shown : ℕ �
           fresh = λ cells. fresh_all program unit.formals (sub_around program (shown k)) 0 (outer_scope program globals mains c.texts text (frames_of room) k unit cells) (λ y q. q) (scoped.fresh k unit e);
           backs = λ cells. backs_all (shapes program unit.formals) 0 (globals k) (sub_scope program globals mains c.texts text (frames_of room) k unit cells) (apart k unit e) (λ z. refl);
           fitted = λ cells le.
-              fits_stmt program globals mains c T (frames_of room) room (λ n. refl) apart names shown shows formed.grounded filled depth (there k unit cells) (at_first (suc k)) (around k unit cells)
+              fits_stmt program globals mains c T (frames_of room) room (λ n. refl) apart names shown shows lent give formed.grounded filled depth (there k unit cells) (at_first (suc k)) (around k unit cells)
               (Block unit.body.decls unit.body.stmts unit.body.handlers) (sees_sub k unit cells (omega (arith, enough, many, le)) (omega (arith, fits, le)))
               (body'.decls, body'.stmts, body'.handlers) p t
-              (subst (λ s. Roomy room (stmt program s (Block unit.body.decls unit.body.stmts unit.body.handlers))) (sub_scope_same program globals mains c.texts text (frames_of room) k unit cells) (roomy.subs k unit e).0)
+              (subst (λ s. Roomy Row room (stmt program s (Block unit.body.decls unit.body.stmts unit.body.handlers))) (sub_scope_same program globals mains c.texts text (frames_of room) k unit cells) (roomy.subs k unit e).0)
               (all_more unit.body.stmts (no_exit (there k unit cells)) (closed k unit e).0, handlers_more unit.body.handlers (no_exit (there k unit cells)) (closed k unit e).1);
         }
 
@@ -369,7 +375,7 @@ module _ (program : Program) (text : List ℕ → ℕ) (c : Code) (shown : ℕ �
     }
 
     -- every program that is formed and in scope fits its code
-    pub lowered : IsLowered program c globals mains c.texts text (frames_of room) frame depth
+    pub lowered : IsLoweredBy lent program c globals mains c.texts text (frames_of room) frame depth
     lowered = record {
       closed = closed;
       same_texts = refl;
@@ -377,6 +383,6 @@ module _ (program : Program) (text : List ℕ → ℕ) (c : Code) (shown : ℕ �
       named = named;
       subs = sub_fits;
       main = main_fits program.body.decls (main_scope program globals mains c.texts text (frames_of room) frame) outset _ _ _ outset_sees formed.body.decls scoped.main tabled.main.0 roomy.main (λ z. refl) (λ z. refl)
-          (λ j u see p m. fits_stmt program globals mains c T (frames_of room) room (λ n. refl) apart names shown shows formed.grounded filled depth j w0 u (Block NoDecl program.body.stmts program.body.handlers) see
+          (λ j u see p m. fits_stmt program globals mains c T (frames_of room) room (λ n. refl) apart names shown shows lent give formed.grounded filled depth j w0 u (Block NoDecl program.body.stmts program.body.handlers) see
           (tt, formed.body.stmts, formed.body.handlers) p (tt, tabled.main.1, tabled.main.2) m (all_more program.body.stmts (no_exit j) stays.0, handlers_more program.body.handlers (no_exit j) stays.1));
     }

@@ -14,18 +14,20 @@ use Rattle.ada_meaning.specs.Formed.{FormedActuals, FormedAssociations, FormedCh
 use Rattle.stack_code.specs.declared.code.Around as body
 use Rattle.stack_code.specs.declared.code.Around.TheVariants.{Site}
 use Rattle.stack_code.specs.declared.code.Code.{Code}
+use Rattle.stack_code.specs.declared.code.CodeSite.{CodeSite}
 use Rattle.stack_code.specs.declared.code.SiteKind.{SiteKind}
 use Rattle.lower_emission.specs.Emits.{Emit}
 use Rattle.lower_emission.specs.Scope.{none}
 use Rattle.ada_lower.specs.Sights.{Named, Scope, Sight, chunk_sight, constant_root_of, item_sight, iterated_sight, nested_sight, passing, range_sight, root_of, taking, thread_sight, turn_sight}
-use Rattle.ada_lower.specs.Emission.{Shape, associated, chunk_code, component, combined, composed, composite_width, emit, fillings, filtered, folding, formals_in, is_plain, passed, put_into, selected, shapes, shapes_cells, takes_turns, turnings, width}
-use Rattle.ada_lower.specs.Fitted.{Callable, Fitted, FittedAssociations, FittedComponent, FittedComposite, FittedFold, FittedGiven, FittedIn, FittedOptional, FittedRuns, FittedSelections, FittedValue}
-use Rattle.ada_lower.specs.FittedForks.{unleased, FittedChunk, FittedReductions}
+use Rattle.ada_lower.specs.Emission.{Shape, associated, chunk_code, component, combined, composed, composite_width, emit, fillings, filtered, folding, formals_in, is_plain, passed, put_into, selected, shapes, shapes_cells, takes_turns, turn_height, turnings, width}
+use Rattle.typed_tree.specs.declared.program.Mode.TheVariants as mode
+use Rattle.ada_lower.specs.Fitted.{Spot, spot, spots, Callable, Fitted, FittedAssociations, FittedComponent, FittedComposite, FittedFold, FittedGiven, FittedIn, FittedOptional, FittedRuns, FittedSelections, FittedValue}
+use Rattle.ada_lower.specs.FittedForks.{FittedChunk, FittedReductions}
 use Rattle.typed_scopes.specs.Scopes as scopes
-use Rattle.typed_scopes.specs.Scopes.{Around, ArraySeen, Called, ConstantSeen, LieWithin, ScopedAssociations, ScopedChunk, ScopedComposite, ScopedExpr, ScopedIn, ScopedIteration, ScopedOptional, ScopedReducer, ScopedSelections, ScopedValue, VariableSeen, with_chunk, with_parameter}
+use Rattle.typed_scopes.specs.Scopes.{Without, Around, ArraySeen, Called, ConstantSeen, LieWithin, ScopedAssociations, ScopedChunk, ScopedComposite, ScopedExpr, ScopedIn, ScopedIteration, ScopedOptional, ScopedReducer, ScopedSelections, ScopedValue, VariableSeen, with_chunk, with_parameter}
 use Rattle.lower_formed.specs.Tables.{HasSite, TabledActuals, TabledAssociations, TabledChunk, TabledComposite, TabledExpr, TabledOptional, TabledSelections, TabledValue}
 use Rattle.lower_formed.specs.Rooms.{Roomy}
-use Rattle.lower_formed.proofs.Formals.{AreApart, Behind, behind_none, behind_one, formals_are, formals_at, here_is}
+use Rattle.lower_formed.proofs.Formals.{AreApart, AreFound, AreOf, all_found, formals_are, formals_at, none_of, spots_of, taken}
 use Rattle.lower_formed.proofs.Room.{composed_room, part_room, passed_room}
 use Rattle.lower_formed.proofs.Sees.{Sees, sees_chunk, sees_iterated, sees_nested, sees_range, sees_taking, sees_thread}
 use Rattle.lower_formed.proofs.Walks.{Through, chunk_free, filled_room, kept, positive, reached_constant, reached_variable, through, turned_room}
@@ -45,18 +47,19 @@ mutual
 
 module _ (program : Program) (globals : ℕ → Entity → Option Named) (mains : Entity → Bool) (c : Code) (T : List ℕ → Type 0) (frames : ℕ → ℕ) (room : body.Around → ℕ)
     (threads : (n : ℕ) → room (Site n) ≡ frames n) (apart : (k : ℕ) (unit : Sub) → sub_at program.subs k ≡ Some unit → AreApart (shapes program unit.formals))
-    (names : Entity → Option Named) (shown : ℕ → Entity → Bool) (shows : (sub : ℕ) (y : Entity) (n : Named) → globals sub y ≡ Some n → (shown sub y ≡ true) × (names y ≡ Some n)) where
+    (names : Entity → Option Named) (shown : ℕ → Entity → Bool) (shows : (sub : ℕ) (y : Entity) (n : Named) → globals sub y ≡ Some n → (shown sub y ≡ true) × (names y ≡ Some n))
+    (lent : Bool → Sight → ℕ → CodeSite → Type 0) (give : (items : Bool) (s : Sight) (site : ℕ) (of : SiteKind) (row : HasSite c frames site of s.scope.body) → lent items s site row.row) where
   abbrev pub S : Known → Around → Sight → Type 0
   S = Sees program names mains T frames room
 
-  abbrev pub R : Emit → Type 0
-  R = Roomy room
-
   abbrev pub Fold : ℕ → Sight → Expr → Type 0
-  Fold n = FittedReductions program globals mains unleased c n
+  Fold n = FittedReductions program globals mains lent c n
 
-  abbrev pub Row : ℕ → SiteKind → ℕ → Type 0
+  abbrev pub Row : ℕ → SiteKind → body.Around → Type 0
   Row = HasSite c frames
+
+  abbrev pub R : Emit → Type 0
+  R = Roomy Row room
 
   pub runs_fit : (n m : ℕ) (rs : List Run) → LieWithin n m rs → FittedRuns program globals mains n m rs
   runs_fit n m [] h = tt
@@ -119,10 +122,10 @@ module _ (program : Program) (globals : ℕ → Entity → Option Named) (mains 
   filtered_body s h Absent b m = m
   filtered_body s h (Present e) b m = m.1.1
 
-  pub thread_room : (site : ℕ) {of : SiteKind} {least : ℕ} (h : Row site of least) → room (Site site) ≤ h.row.frame
+  pub thread_room : (site : ℕ) {of : SiteKind} {at : body.Around} (h : Row site of at) → room (Site site) ≤ h.row.frame
   thread_room site h = let z = threads site in let y = h.frame in omega (arith, z, y)
 
-  pub sited : (i : Sight) {w : Known} {v : Around} → S w v i → (site : ℕ) {of : SiteKind} {least : ℕ} (h : Row site of least) → i.frames site ≡ h.row.frame
+  pub sited : (i : Sight) {w : Known} {v : Around} → S w v i → (site : ℕ) {of : SiteKind} {at : body.Around} (h : Row site of at) → i.frames site ≡ h.row.frame
   sited i k site h = k.rows site ∙ h.frame
 
   -- the sight of a turn over a range in a thread
@@ -145,26 +148,25 @@ module _ (program : Program) (globals : ℕ → Entity → Option Named) (mains 
 
   -- the values of an association without a parameter, which take turns or don't
   fits_given : (turns : Bool) (n : ℕ) (i : Sight) (w : Known) (v : Around) (h to : ℕ) (r : Run) (rs : List Run) (value : Value) → S w v i → 1 ≤ r.count
-      → (i.scope.free + 1 + 1 < i.cells → R (component program (taking 3 i).scope h (i.scope.free + 1 + 1) value) → FittedComponent program globals mains (Fold n) (taking 3 i) value)
+      → (i.scope.free + 1 + 1 < i.cells → R (component program (taking 3 i).scope (turn_height (r ∷ rs) h) (i.scope.free + 1 + 1) value) → FittedComponent program globals mains (Fold n) (taking 3 i) value)
       → ((at : ℕ) → R (put_into program i.scope h (to + at) value) → FittedValue program globals mains (Fold n) i (width program value) value)
-      → R (cond turns (turnings i.scope h to (pos 0) (component program (taking 3 i).scope h (i.scope.free + 1 + 1) value) (r ∷ rs)) (fillings i.scope h to (width program value) (is_plain value) (λ n. put_into program i.scope h (to + n) value) (r ∷ rs)))
+      → R (cond turns (turnings i.scope h to (pos 0) (component program (taking 3 i).scope (turn_height (r ∷ rs) h) (i.scope.free + 1 + 1) value) (r ∷ rs)) (fillings i.scope h to (width program value) (is_plain value) (λ n. put_into program i.scope h (to + n) value) (r ∷ rs)))
       → FittedGiven program globals mains (Fold n) turns i value
   fits_given true n i w v h to r rs value k le fc fv m =
-      let turning = turned_room room i.scope h to (pos 0) _ r rs le m in
-      let lt = kept i.scope.free (i.scope.free + 1 + 1) (room i.scope.body) i.cells turning.1.1.1.1.1.0 k.enough in
-      let turn = turning.1.1.1.1.1.1.1 0 in
-      (lt, fc lt turn.1)
+      let (last, turn) = turned_room Row room i.scope h to (pos 0) (component program (taking 3 i).scope (turn_height (r ∷ rs) h) (i.scope.free + 1 + 1) value) r rs le m in
+      let lt = kept i.scope.free (i.scope.free + 1 + 1) (room i.scope.body) i.cells last k.enough in
+      (lt, fc lt turn)
   fits_given false n i w v h to r rs value k le fc fv m =
-      let (at, mv) = filled_room room i.scope h to (width program value) (is_plain value) (λ n. put_into program i.scope h (to + n) value) r rs le m in
+      let (at, mv) = filled_room Row room i.scope h to (width program value) (is_plain value) (λ n. put_into program i.scope h (to + n) value) r rs le m in
       fv at mv
 
   mutual
     unfolding emit
 
-    pub fits : (n : ℕ) (i : Sight) (w : Known) (v : Around) (h : ℕ) (e : Expr) → S w v i → FormedExpr program w e → ScopedExpr program shown v e → TabledExpr T Row n e → R (emit program i.scope h e) → Fitted program globals mains (Fold n) i e
+    pub fits : (n : ℕ) (i : Sight) (w : Known) (v : Around) (h : ℕ) (e : Expr) → S w v i → FormedExpr program w e → ScopedExpr program shown v e → TabledExpr T n e → R (emit program i.scope h e) → Fitted program globals mains (Fold n) i e
     fits n i w v h (Static at value literal mentions) k f p t m = tt
-    fits n i w v h (Variable at r x scalar) k f p t m = (reached_variable program names mains T frames room r x 1 k f.0 p.0, fits_selections n i w v (h + 1) x k f.1 p.1 t (part_room program room i.scope i.scope h (root_of i.scope r) x m))
-    fits n i w v h (Constant at r x scalar) k f p t m = (reached_constant program names mains T frames room r x 1 k f.0 p.0, fits_selections n i w v (h + 1) x k f.1 p.1 t (part_room program room i.scope i.scope h (constant_root_of i.scope r) x m))
+    fits n i w v h (Variable at r x scalar) k f p t m = (reached_variable program names mains T frames room r x 1 k f.0 p.0, fits_selections n i w v (h + 1) x k f.1 p.1 t (part_room program Row room i.scope i.scope h (root_of i.scope r) x m))
+    fits n i w v h (Constant at r x scalar) k f p t m = (reached_constant program names mains T frames room r x 1 k f.0 p.0, fits_selections n i w v (h + 1) x k f.1 p.1 t (part_room program Row room i.scope i.scope h (constant_root_of i.scope r) x m))
     fits n i w v h (Parameter at j) k f p t m = k.parameter j p
     fits n i w v h (Target at scalar) k f p t m = let (j, e, one) = p in let (o, is, le) = k.target j e in (o, is, omega (arith, one, le))
     fits n i w v h (Group e) k f p t m = fits n i w v h e k f p t m
@@ -184,7 +186,7 @@ module _ (program : Program) (globals : ℕ → Entity → Option Named) (mains 
     fits n i w v h (Call at callee sub actuals) k f p t m =
         let u = p.0 in
         let whole = passing_free i sub u.unit u.is in
-        let le : (passing program sub i).scope.free ≤ room i.scope.body = passed_room program room (passing program sub i).scope h sub i.scope.free actuals m.0 (λ e.
+        let le : (passing program sub i).scope.free ≤ room i.scope.body = passed_room program Row room (passing program sub i).scope h sub i.scope.free actuals m.0 (λ e.
         let none : u.unit.formals ≡ [] = subst (λ x. ScopedIn program shown v u.unit.formals x) e p.2 in
         let z : i.scope.free + shapes_cells (shapes program u.unit.formals) ≡ i.scope.free + 0 = ap (λ fs. i.scope.free + shapes_cells (shapes program fs)) none in
         let y = m.1 in omega (arith, z, y, whole)) in
@@ -193,8 +195,8 @@ module _ (program : Program) (globals : ℕ → Entity → Option Named) (mains 
           p.1,
           whole,
           omega (arith, le, enough),
-          fits_in n (passing program sub i) w v h sub i.scope.free 0 u.unit.formals actuals (sees_taking program names mains T frames room _ (omega (arith, le, enough)) k) f.1 p.2 t m.0
-              (subst (λ fs. Behind (shapes program fs) i.scope.free 0 (shapes program u.unit.formals)) (sym (formals_are program sub u.unit u.is)) (behind_none (shapes program u.unit.formals) i.scope.free (apart sub u.unit u.is))),
+          fits_in n (passing program sub i) w v h sub i.scope.free u.unit.formals (spots 0 (shapes program u.unit.formals)) actuals (sees_taking program names mains T frames room _ (omega (arith, le, enough)) k) f.1 p.2 t m.0 (spots_of 0 (shapes program u.unit.formals))
+              (subst (λ fs. AreFound (shapes program fs) i.scope.free (spots 0 (shapes program u.unit.formals))) (sym (formals_are program sub u.unit u.is)) (all_found (shapes program u.unit.formals) i.scope.free (apart sub u.unit u.is))),
         )
     fits n i w v h (Convert check e) k f p t m = fits n i w v h e k f p t m.0
     fits n i w v h (Reduction at attribute by initial None chunk (Range p reverse low high check filter) value) k f q t m =
@@ -234,32 +236,34 @@ module _ (program : Program) (globals : ℕ → Entity → Option Named) (mains 
     fits (suc n) i w v h (Reduction at attribute by initial (Some site) chunk (Range p true low high check filter) value) k f q t m = absurd (let z : true ≡ false = q.3 in cc)
     fits (suc n) i w v h (Reduction at attribute by initial (Some site) chunk (Range p false low high check filter) value) k f q t m =
         let (ql, qh, qf, qv) = q.4 in
-        let row = t.0 in
+        let row = m.1.1.1.1.1.1.0.1.1.1.0.1 in
+        let enough = row.enough in
         let lt = kept (i.scope.free + 1 + 2) (i.scope.free + 1 + 2 + 1) (room i.scope.body) i.cells m.1.1.1.1.0.1.1.1.0 k.enough in
         let k1 = sees_nested program names mains T frames room (sees_taking program names mains T frames room 1 (omega (arith, lt)) k) in
         let k2 = sees_taking program names mains T frames room 2 (omega (arith, lt)) k1 in
         let k3 = sees_taking program names mains T frames room 1 (omega (arith, lt)) k2 in
         let there : Sight = turn_sight (thread_sight site row.row.frame (taking 2 (taking 2 (taking 1 i)))) chunk (Range p false low high check filter) in
-        let sees : S w (with_parameter p (with_chunk chunk v)) there = turn_sees site row.row.frame chunk p low high check filter (thread_room site row) row.enough k in
+        let sees : S w (with_parameter p (with_chunk chunk v)) there = turn_sees site row.row.frame chunk p low high check filter (thread_room site row) (omega (arith, enough)) k in
         let turn = m.1.1.1.1.1.1.0.1.1.1.1.1.1.0.1.1.1 0 in
         let body = filtered_body there.scope 1 filter _ turn.1 in (
           row.row,
-          (row.is, sited i k site row, row.enough, row.entry),
-          tt,
+          (row.is, sited i k site row, omega (arith, enough), row.entry),
+          give false i site _ row,
           row.kind,
           omega (arith, lt),
-          fits n i w v h initial k f.1 q.0 t.1 m.0,
-          fits_chunk n (nested_sight (taking 1 i)) w v h chunk k1 f.2 q.1 t.2 m.1.1.1.0,
-          fits n (taking 2 (nested_sight (taking 1 i))) w v h low k2 f.3.0 ql t.3.0 m.1.1.1.1.0.0,
-          fits n (taking 1 (taking 2 (nested_sight (taking 1 i)))) w v h high k3 f.3.1 qh t.3.1 m.1.1.1.1.0.1.1.0,
-          fits_optional n there w (with_parameter p (with_chunk chunk v)) 1 filter _ sees f.3.2 qf t.3.2 turn.1,
-          fits n there w (with_parameter p (with_chunk chunk v)) 1 value sees f.3.3 qv t.4 body.0,
+          fits n i w v h initial k f.1 q.0 t.0 m.0,
+          fits_chunk n (nested_sight (taking 1 i)) w v h chunk k1 f.2 q.1 t.1 m.1.1.1.0,
+          fits n (taking 2 (nested_sight (taking 1 i))) w v h low k2 f.3.0 ql t.2.0 m.1.1.1.1.0.0,
+          fits n (taking 1 (taking 2 (nested_sight (taking 1 i)))) w v h high k3 f.3.1 qh t.2.1 m.1.1.1.1.0.1.1.0,
+          fits_optional n there w (with_parameter p (with_chunk chunk v)) 1 filter _ sees f.3.2 qf t.2.2 turn.1,
+          fits n there w (with_parameter p (with_chunk chunk v)) 1 value sees f.3.3 qv t.3 body.0,
           reducer_fits w (with_parameter p (with_chunk chunk v)) there 0 by sees (reducer_as v (with_parameter p (with_chunk chunk v)) by (λ y. chunk_outer chunk v y) q.2) body.1,
           combiner_fits w v i h by k q.2 m.1.1.1.1.1.1.1.1,
         )
     fits (suc n) i w v h (Reduction at attribute by initial (Some site) chunk (Components p constant a r x number stride dimensions filter) value) k f q t m =
         let (some, seen, qs, qf, qv) = q.4 in
-        let row = t.0 in
+        let row = m.1.1.1.1.1.1.0.1.1.1.0.1 in
+        let enough = row.enough in
         let g = through program names mains T frames room p constant a r x number stride dimensions filter (λ w. FormedExpr program w value) f.3 seen in
         let lt = kept (i.scope.free + 1 + 2) (i.scope.free + 1 + 2) (room i.scope.body) i.cells m.1.1.1.1.0.1.1 k.enough in
         let k1 = sees_nested program names mains T frames room (sees_taking program names mains T frames room 1 (omega (arith, lt)) k) in
@@ -267,25 +271,24 @@ module _ (program : Program) (globals : ℕ → Entity → Option Named) (mains 
         let there : Sight = turn_sight (thread_sight site row.row.frame (taking 2 (taking 2 (taking 1 i)))) chunk (Components p constant a r x number stride dimensions filter) in
         let sees : S g.inner (with_chunk chunk v) there = item_turn_sees site row.row.frame chunk p constant a r x number stride dimensions filter (λ w. FormedExpr program w value) g (thread_room site row) row.enough k in
         let turn = m.1.1.1.1.1.1.0.1.1.1.1.1.1.0.1.1.1.1.1.1.1 0 in
-        let body = filtered_body there.scope 1 filter _ turn.1 in
-        let enough = row.enough in (
+        let body = filtered_body there.scope 1 filter _ turn.1 in (
           row.row,
           (row.is, sited i k site row, omega (arith, enough), row.entry),
-          tt,
+          give true i site _ row,
           row.enough,
           row.kind,
           omega (arith, lt),
-          fits n i w v h initial k f.1 q.0 t.1 m.0,
-          fits_chunk n (nested_sight (taking 1 i)) w v h chunk k1 f.2 q.1 t.2 m.1.1.1.0,
+          fits n i w v h initial k f.1 q.0 t.0 m.0,
+          fits_chunk n (nested_sight (taking 1 i)) w v h chunk k1 f.2 q.1 t.1 m.1.1.1.0,
           g.reached (taking 2 (nested_sight (taking 1 i))) k2,
-          fits_selections n (taking 2 (nested_sight (taking 1 i))) w v (h + 1) x k2 g.selections qs t.3.0 m.1.1.1.1.0.1.0,
-          fits_optional n there g.inner (with_chunk chunk v) 1 filter _ sees g.filter qf t.3.1 turn.1,
-          fits n there g.inner (with_chunk chunk v) 1 value sees g.does_so qv t.4 body.0,
+          fits_selections n (taking 2 (nested_sight (taking 1 i))) w v (h + 1) x k2 g.selections qs t.2.0 m.1.1.1.1.0.1.0,
+          fits_optional n there g.inner (with_chunk chunk v) 1 filter _ sees g.filter qf t.2.1 turn.1,
+          fits n there g.inner (with_chunk chunk v) 1 value sees g.does_so qv t.3 body.0,
           reducer_fits g.inner (with_chunk chunk v) there 0 by sees (reducer_as v (with_chunk chunk v) by (λ y. chunk_outer chunk v y) q.2) body.1,
           combiner_fits w v i h by k q.2 m.1.1.1.1.1.1.1.1,
         )
 
-    pub fits_chunk : (n : ℕ) (i : Sight) (w : Known) (v : Around) (h : ℕ) (x : Chunk) → S w v i → FormedChunk program w x → ScopedChunk program shown v x → TabledChunk T Row n x → R (chunk_code program i.scope h x) → FittedChunk program globals mains (Fold n) i x
+    pub fits_chunk : (n : ℕ) (i : Sight) (w : Known) (v : Around) (h : ℕ) (x : Chunk) → S w v i → FormedChunk program w x → ScopedChunk program shown v x → TabledChunk T n x → R (chunk_code program i.scope h x) → FittedChunk program globals mains (Fold n) i x
     fits_chunk n i w v h NoChunk k f p t m = tt
     fits_chunk n i w v h (Count e) k f p t m =
         let lt = kept i.scope.free i.scope.free (room i.scope.body) i.cells m.1.0 k.enough in
@@ -294,52 +297,50 @@ module _ (program : Program) (globals : ℕ → Entity → Option Named) (mains 
         let lt = kept i.scope.free i.scope.free (room i.scope.body) i.cells m.1.0 k.enough in
         (fits n i w v h low k f.0 q.0 t.0 m.0, fits n (taking 1 i) w v h high (sees_taking program names mains T frames room 1 (omega (arith, lt)) k) f.1 q.1 t.1 m.1.1.0)
 
-    pub fits_optional : (n : ℕ) (i : Sight) (w : Known) (v : Around) (h : ℕ) (o : Optional) (b : Emit) → S w v i → FormedOptional program w o → ScopedOptional program shown v o → TabledOptional T Row n o → R (filtered program i.scope h o b) → FittedOptional program globals mains (Fold n) i o
+    pub fits_optional : (n : ℕ) (i : Sight) (w : Known) (v : Around) (h : ℕ) (o : Optional) (b : Emit) → S w v i → FormedOptional program w o → ScopedOptional program shown v o → TabledOptional T n o → R (filtered program i.scope h o b) → FittedOptional program globals mains (Fold n) i o
     fits_optional n i w v h Absent b k f p t m = tt
     fits_optional n i w v h (Present e) b k f p t m = fits n i w v h e k f p t m.0
 
-    pub fits_selections : (n : ℕ) (i : Sight) (w : Known) (v : Around) (h : ℕ) (x : Selections) → S w v i → FormedSelections program w x → ScopedSelections program shown v x → TabledSelections T Row n x → R (selected program i.scope h x) → FittedSelections program globals mains (Fold n) i x
+    pub fits_selections : (n : ℕ) (i : Sight) (w : Known) (v : Around) (h : ℕ) (x : Selections) → S w v i → FormedSelections program w x → ScopedSelections program shown v x → TabledSelections T n x → R (selected program i.scope h x) → FittedSelections program globals mains (Fold n) i x
     fits_selections n i w v h Whole k f p t m = tt
     fits_selections n i w v h (Field number offset rest) k f p t m = fits_selections n i w v h rest k f p t m.1
     fits_selections n i w v h (Index at e low high stride rest) k f p t m = (fits n i w v h e k f.0 p.0 t.0 m.0, fits_selections n i w v h rest k f.1 p.1 t.1 m.1.1)
 
-    pub fits_in : (n : ℕ) (i : Sight) (w : Known) (v : Around) (h sub base from : ℕ) (fs : List Formal) (x : Actuals) → S w v i → FormedActuals program w x → ScopedIn program shown v fs x → TabledActuals T Row n x → R (passed program i.scope h sub base x)
-        → Behind (shapes program (formals_in program sub)) base from (shapes program fs) → FittedIn program globals mains (Fold n) i sub base from (shapes program fs) x
-    fits_in n i w v h sub base from fs NoActual k f p t m b = ap (shapes program) p
-    fits_in n i w v h sub base from fs (In x (Number check e) rest) k f p t m b =
-        let (gs, is, (one, pe), pr) = p in
-        let all = shapes program (formals_in program sub) in
-        let me : Shape = record { formal = ConstantOf x; back = false; cells = scopes.object_cells program x } in
-        let b' : Behind all base from (me ∷ shapes program gs) = subst (λ hs. Behind all base from hs) (ap (shapes program) is) b in (
-          shapes program gs,
-          ap (shapes program) is ∙ ap (λ n. record { formal = ConstantOf x; back = false; cells = n } ∷ shapes program gs) one,
-          here_is all base from me (shapes program gs) b',
+    pub fits_in : (n : ℕ) (i : Sight) (w : Known) (v : Around) (h sub base : ℕ) (fs : List Formal) (ks : List Spot) (x : Actuals) → S w v i → FormedActuals program w x → ScopedIn program shown v fs x → TabledActuals T n x → R (passed program i.scope h sub base x)
+        → AreOf (shapes program fs) ks → AreFound (shapes program (formals_in program sub)) base ks → FittedIn program globals mains (Fold n) i sub base ks x
+    fits_in n i w v h sub base fs ks NoActual k f p t m of found = none_of ks (subst (λ fs. AreOf (shapes program fs) ks) p of)
+    fits_in n i w v h sub base fs ks (In x (Number check e) rest) k f p t m of found =
+        let (gs, wo, (one, pe), pr) = p in
+        let y = taken program (shapes program (formals_in program sub)) base (scopes.formal_of x mode.In) fs gs ks wo of found in (
+          y.at,
+          y.rest,
+          subst (λ cells. Without (spot (ConstantOf x) false cells y.at) ks y.rest) one y.without,
+          y.cell,
           fits n i w v h e k f.0 pe t.0 m.0.0,
-          fits_in n i w v h sub base (from + 1) gs rest k f.1 pr t.1 m.1 (behind_one all base from (from + 1) me (shapes program gs) (omega (arith, one)) b'),
+          fits_in n i w v h sub base gs y.rest rest k f.1 pr t.1 m.1 y.of y.found,
         )
-    fits_in n i w v h sub base from fs (In x (Cells c) rest) k f p t m b =
-        let (gs, is, pe, pr) = p in
-        let all = shapes program (formals_in program sub) in
+    fits_in n i w v h sub base fs ks (In x (Cells c) rest) k f p t m of found =
+        let (gs, wo, pe, pr) = p in
         let cells = scopes.object_cells program x in
-        let me : Shape = record { formal = ConstantOf x; back = false; cells = cells } in
-        let b' : Behind all base from (me ∷ shapes program gs) = subst (λ hs. Behind all base from hs) (ap (shapes program) is) b in (
-          shapes program gs,
+        let y = taken program (shapes program (formals_in program sub)) base (scopes.formal_of x mode.In) fs gs ks wo of found in (
+          y.at,
           cells,
-          ap (shapes program) is,
-          here_is all base from me (shapes program gs) b',
+          y.rest,
+          y.without,
+          y.cell,
           fits_composite n i w v h _ cells c k f.0 pe t.0 m.0,
-          fits_in n i w v h sub base (from + cells) gs rest k f.1 pr t.1 m.1 (behind_one all base from (from + cells) me (shapes program gs) (omega arith) b'),
+          fits_in n i w v h sub base gs y.rest rest k f.1 pr t.1 m.1 y.of y.found,
         )
-    fits_in n i w v h sub base from fs (InOut x at r selections inner outer rest) k f p t m b = absurd p
-    fits_in n i w v h sub base from fs (Out x at r selections inner outer rest) k f p t m b = absurd p
-    fits_in n i w v h sub base from fs (CompositeInOut x at r selections subtype rest) k f p t m b = absurd p
-    fits_in n i w v h sub base from fs (CompositeOut x at r selections subtype rest) k f p t m b = absurd p
+    fits_in n i w v h sub base fs ks (InOut x at r selections inner outer rest) k f p t m of found = absurd p
+    fits_in n i w v h sub base fs ks (Out x at r selections inner outer rest) k f p t m of found = absurd p
+    fits_in n i w v h sub base fs ks (CompositeInOut x at r selections subtype rest) k f p t m of found = absurd p
+    fits_in n i w v h sub base fs ks (CompositeOut x at r selections subtype rest) k f p t m of found = absurd p
 
-    pub fits_value : (n : ℕ) (i : Sight) (w : Known) (v : Around) (h to cells : ℕ) (x : Value) → S w v i → FormedValue program w x → ScopedValue program shown v cells x → TabledValue T Row n x → R (put_into program i.scope h to x) → FittedValue program globals mains (Fold n) i cells x
+    pub fits_value : (n : ℕ) (i : Sight) (w : Known) (v : Around) (h to cells : ℕ) (x : Value) → S w v i → FormedValue program w x → ScopedValue program shown v cells x → TabledValue T n x → R (put_into program i.scope h to x) → FittedValue program globals mains (Fold n) i cells x
     fits_value n i w v h to cells (Number check e) k f p t m = (p.0, fits n i w v h e k f p.1 t m.0)
     fits_value n i w v h to cells (Cells c) k f p t m = fits_composite n i w v h to cells c k f p t m
 
-    pub fits_composite : (n : ℕ) (i : Sight) (w : Known) (v : Around) (h to cells : ℕ) (x : Composite) → S w v i → FormedComposite program w x → ScopedComposite program shown v cells x → TabledComposite T Row n x → R (composed program i.scope h to x) → FittedComposite program globals mains (Fold n) i cells x
+    pub fits_composite : (n : ℕ) (i : Sight) (w : Known) (v : Around) (h to cells : ℕ) (x : Composite) → S w v i → FormedComposite program w x → ScopedComposite program shown v cells x → TabledComposite T n x → R (composed program i.scope h to x) → FittedComposite program globals mains (Fold n) i cells x
     fits_composite n i w v h to cells (WholeVariable at r x subtype) k f p t m =
         (p.0, reached_variable program names mains T frames room r x cells k (subst (λ n. Spans program w r x n) p.0 f.0) p.1, fits_selections n i w v (h + 1 + 1) x k f.1 p.2 t m.1.1.0)
     fits_composite n i w v h to cells (WholeConstant at r x subtype) k f p t m =
@@ -349,7 +350,7 @@ module _ (program : Program) (globals : ℕ → Entity → Option Named) (mains 
         (fits n i w v h condition k f.0 p.0 t.0 m.0, fits_composite n i w v h to cells value k f.1 p.1 t.1 m.1.1, fits_composite n i w v h to cells otherwise k f.2 p.2 t.2 m.1.2)
     fits_composite n i w v h to cells (Aggregate at size associations) k f p t m = (p.0, fits_associations n i w v h to cells associations k f p.1 t m.1.1)
 
-    pub fits_associations : (n : ℕ) (i : Sight) (w : Known) (v : Around) (h to cells : ℕ) (x : Associations) → S w v i → FormedAssociations program w x → ScopedAssociations program shown v cells x → TabledAssociations T Row n x → R (associated program i.scope h to x)
+    pub fits_associations : (n : ℕ) (i : Sight) (w : Known) (v : Around) (h to cells : ℕ) (x : Associations) → S w v i → FormedAssociations program w x → ScopedAssociations program shown v cells x → TabledAssociations T n x → R (associated program i.scope h to x)
         → FittedAssociations program globals mains (Fold n) i cells x
     fits_associations n i w v h to cells NoAssociation k f p t m = tt
     fits_associations n i w v h to cells (Association [] None mentions value rest) k f p t m = fits_associations n i w v h to cells rest k f.2 p.2 t.1 m.1
@@ -358,7 +359,7 @@ module _ (program : Program) (globals : ℕ → Entity → Option Named) (mains 
         let e = width_is program shown v size value pv in (
           runs_fit cells (width program value) (r ∷ rs) (subst (λ m. LieWithin cells m (r ∷ rs)) (sym e) lie),
           fits_given (takes_turns (r ∷ rs) None value) n i w v h to r rs value k lie.0
-              (λ lt m. fits_component n (taking 3 i) w v h _ (width program value) value (sees_taking program names mains T frames room 3 (omega (arith, lt)) k) f.1 (subst (λ m. ScopedValue program shown v m value) (sym e) pv) t.0 m)
+              (λ lt m. fits_component n (taking 3 i) w v (turn_height (r ∷ rs) h) _ (width program value) value (sees_taking program names mains T frames room 3 (omega (arith, lt)) k) f.1 (subst (λ m. ScopedValue program shown v m value) (sym e) pv) t.0 m)
               (λ at m. fits_value n i w v h (to + at) (width program value) value k f.1 (subst (λ m. ScopedValue program shown v m value) (sym e) pv) t.0 m) m.0,
           fits_associations n i w v h to cells rest k f.2 p.2 t.1 m.1,
         )
@@ -366,20 +367,19 @@ module _ (program : Program) (globals : ℕ → Entity → Option Named) (mains 
     fits_associations n i w v h to cells (Association (r ∷ rs) (Some x) mentions value rest) k f p t m =
         let (size, lie, pv) = p.1 in
         let e = width_is program shown (with_parameter x.parameter v) size value pv in
-        let turning = turned_room room i.scope h to x.first _ r rs lie.0 m.0 in
-        let lt = kept i.scope.free (i.scope.free + 1 + 1) (room i.scope.body) i.cells turning.1.1.1.1.1.0 k.enough in
-        let turn = turning.1.1.1.1.1.1.1 0 in (
+        let (last, turn) = turned_room Row room i.scope h to x.first (component program (iterated_sight i x.parameter).scope (turn_height (r ∷ rs) h) (i.scope.free + 1 + 1) value) r rs lie.0 m.0 in
+        let lt = kept i.scope.free (i.scope.free + 1 + 1) (room i.scope.body) i.cells last k.enough in (
           lt,
           runs_fit cells (width program value) (r ∷ rs) (subst (λ m. LieWithin cells m (r ∷ rs)) (sym e) lie),
-          fits_component n (iterated_sight i x.parameter) w (with_parameter x.parameter v) h _ size value (sees_iterated program names mains T frames room x.parameter (omega (arith, lt)) k) f.1 pv t.0 turn.1,
+          fits_component n (iterated_sight i x.parameter) w (with_parameter x.parameter v) (turn_height (r ∷ rs) h) _ size value (sees_iterated program names mains T frames room x.parameter (omega (arith, lt)) k) f.1 pv t.0 turn,
           fits_associations n i w v h to cells rest k f.2 p.2 t.1 m.1,
         )
 
-    pub fits_component : (n : ℕ) (i : Sight) (w : Known) (v : Around) (h at cells : ℕ) (x : Value) → S w v i → FormedValue program w x → ScopedValue program shown v cells x → TabledValue T Row n x → R (component program i.scope h at x) → FittedComponent program globals mains (Fold n) i x
+    pub fits_component : (n : ℕ) (i : Sight) (w : Known) (v : Around) (h at cells : ℕ) (x : Value) → S w v i → FormedValue program w x → ScopedValue program shown v cells x → TabledValue T n x → R (component program i.scope h at x) → FittedComponent program globals mains (Fold n) i x
     fits_component n i w v h at cells (Number check e) k f p t m = fits n i w v (h + 1) e k f p.1 t m.1.0
     fits_component n i w v h at cells (Cells c) k f p t m =
         let e = composite_is program shown v cells c p in
-        let le = composed_room program room (taking (composite_width program c) i).scope h i.scope.free c m.0 in
+        let le = composed_room program Row room (taking (composite_width program c) i).scope h i.scope.free c m.0 in
         let enough = k.enough in (
           omega (arith, le, enough),
           fits_composite n (taking (composite_width program c) i) w v h i.scope.free (composite_width program c) c (sees_taking program names mains T frames room (composite_width program c) (omega (arith, le, enough)) k) f (subst (λ n. ScopedComposite program shown v n c) (sym e) p) t m.0,

@@ -1,5 +1,5 @@
 -- The cells of formal parameters: where a call's arguments go, each formal after the ones before it.
-use Rattle.std.proofs.Common.{◌≡◌, ◌⊎◌, inl, inr, ℕ, zero, suc, ◌+◌, List, [], ◌∷◌, slice_get, Option, Some, None, Bool, true, false, cond, refl, sym, ap, ◌∙◌, arith, eq-eqb}
+use Rattle.std.proofs.Common.{◌≡◌, ◌⊎◌, inl, inr, ℕ, zero, suc, ◌+◌, List, [], ◌∷◌, slice_get, Option, Some, None, Bool, true, false, cond, refl, sym, ap, ◌∙◌, subst, arith, eq-eqb}
 use Rattle.behaviours.specs.Paths.{Entity, VariableOf, ConstantOf, entity_eq}
 use Rattle.typed_tree.specs.declared.program.Formal.{Formal}
 use Rattle.typed_tree.specs.declared.program.Mode.{Mode}
@@ -7,7 +7,8 @@ use Rattle.typed_tree.specs.declared.program.Mode.TheVariants as mode
 use Rattle.typed_tree.specs.Syntax.{Sub, Program}
 use Rattle.ada_meaning.specs.Meaning.{formals_of, sub_at}
 use Rattle.ada_lower.specs.Emission.{Shape, formal_cell, formals_in, formals_or_none, lead, shape_by, shapes}
-use Rattle.typed_scopes.specs.Scopes.{Around, FreshFormals, entity_of, with_object}
+use Rattle.ada_lower.specs.Fitted.{Spot, spots}
+use Rattle.typed_scopes.specs.Scopes.{Around, FreshFormals, Without, entity_of, with_object}
 
 pub sub_slice : (subs : List Sub) (k : ℕ) → sub_at subs k ≡ slice_get subs k
 sub_slice [] k = refl
@@ -65,23 +66,77 @@ module _ (program : Program) where
 
 -- ---- where they are
 
+-- each formal is found where its place is
+abbrev pub AreFound : List Shape → ℕ → List Spot → Type 0
+AreFound all w [] = Unit {0}
+AreFound all w (k ∷ ks) = (formal_cell all w k.shape.formal ≡ w + k.at) × AreFound all w ks
+
 -- those from one on are found behind those before
-pub record Behind (all : List Shape) (w i : ℕ) (hs : List Shape) : Type 0 where
-  pub at : (x : Entity) → IsOf x hs → formal_cell all w x ≡ formal_cell hs (w + i) x
-  pub apart : AreApart hs
+record Behind (all : List Shape) (w i : ℕ) (hs : List Shape) : Type 0 where
+  at : (x : Entity) → IsOf x hs → formal_cell all w x ≡ formal_cell hs (w + i) x
+  apart : AreApart hs
 
-pub behind_none : (all : List Shape) (w : ℕ) → AreApart all → Behind all w 0 all
-behind_none all w apart = record { at = λ x is. (let z : w ≡ w + 0 = omega arith in ap (λ n. formal_cell all n x) z); apart = apart }
+found_behind : (all : List Shape) (w i : ℕ) (hs : List Shape) → Behind all w i hs → AreFound all w (spots i hs)
+found_behind all w i [] b = tt
+found_behind all w i (h ∷ hs) b = (
+  b.at h.formal (inl refl) ∙ ap (λ b. cond b (w + i) (formal_cell hs (w + i + lead h.back + h.cells) h.formal)) (entity_refl h.formal),
+  found_behind all w (i + lead h.back + h.cells) hs (record {
+    at = λ x is.
+        b.at x (inr is) ∙ ap (λ b. cond b (w + i) (formal_cell hs (w + i + lead h.back + h.cells) x)) (b.apart.0 x is)
+        ∙ (let z : w + i + lead h.back + h.cells ≡ w + (i + lead h.back + h.cells) = omega arith in ap (λ n. formal_cell hs n x) z);
+    apart = b.apart.1;
+  }),
+)
 
--- the first of them
-pub here_is : (all : List Shape) (w i : ℕ) (h : Shape) (hs : List Shape) → Behind all w i (h ∷ hs) → formal_cell all w h.formal ≡ w + i
-here_is all w i h hs b = b.at h.formal (inl refl) ∙ ap (λ b. cond b (w + i) (formal_cell hs (w + i + lead h.back + h.cells) h.formal)) (entity_refl h.formal)
+pub all_found : (all : List Shape) (w : ℕ) → AreApart all → AreFound all w (spots 0 all)
+all_found all w apart = found_behind all w 0 all (record { at = λ x is. (let z : w ≡ w + 0 = omega arith in ap (λ n. formal_cell all n x) z); apart = apart })
 
--- behind it
-pub behind_one : (all : List Shape) (w i j : ℕ) (h : Shape) (hs : List Shape) → i + lead h.back + h.cells ≡ j → Behind all w i (h ∷ hs) → Behind all w j hs
-behind_one all w i j h hs e b = record {
-  at = λ x is.
-      b.at x (inr is) ∙ ap (λ b. cond b (w + i) (formal_cell hs (w + i + lead h.back + h.cells) x)) (b.apart.0 x is)
-      ∙ (let z : w + i + lead h.back + h.cells ≡ w + j = omega (arith, e) in ap (λ n. formal_cell hs n x) z);
-  apart = b.apart.1;
-}
+-- ---- actual parameters, of which each takes a formal
+
+-- places are of these shapes
+abbrev pub AreOf : List Shape → List Spot → Type 0
+AreOf [] [] = Unit {0}
+AreOf [] (k ∷ ks) = ⊥
+AreOf (h ∷ hs) [] = ⊥
+AreOf (h ∷ hs) (k ∷ ks) = (k.shape ≡ h) × AreOf hs ks
+
+pub spots_of : (i : ℕ) (hs : List Shape) → AreOf hs (spots i hs)
+spots_of i [] = tt
+spots_of i (h ∷ hs) = (refl, spots_of (i + lead h.back + h.cells) hs)
+
+pub none_of : (ks : List Spot) → AreOf [] ks → ks ≡ []
+none_of [] of = refl
+none_of (k ∷ ks) of = absurd of
+
+-- the place of the formal that is taken, and those of the others
+pub record Taken (program : Program) (all : List Shape) (w : ℕ) (f : Formal) (gs : List Formal) (ks : List Spot) : Type 0 where
+  pub at : ℕ
+  pub rest : List Spot
+  pub without : Without (record { shape = shape_by program f.object f.mode; at = at }) ks rest
+  pub cell : formal_cell all w (shape_by program f.object f.mode).formal ≡ w + at
+  pub of : AreOf (shapes program gs) rest
+  pub found : AreFound all w rest
+
+pub taken : (program : Program) (all : List Shape) (w : ℕ) (f : Formal) (fs gs : List Formal) (ks : List Spot) → Without f fs gs → AreOf (shapes program fs) ks → AreFound all w ks → Taken program all w f gs ks
+taken program all w f [] gs ks wo of found = absurd wo
+taken program all w f (e ∷ es) gs [] wo of found = absurd of
+taken program all w f (e ∷ es) gs (k ∷ ks) (inl (is, same)) (here, of) (cell, found) =
+    let shape : k.shape ≡ shape_by program f.object f.mode = here ∙ ap (λ e. shape_by program e.object e.mode) is in
+    subst (λ gs. Taken program all w f gs (k ∷ ks)) (sym same) (record {
+      at = k.at;
+      rest = ks;
+      without = inl (ap (λ h. record { shape = h; at = k.at }) shape, refl);
+      cell = ap (λ h. formal_cell all w h.formal) (sym shape) ∙ cell;
+      of = of;
+      found = found;
+    })
+taken program all w f (e ∷ es) gs (k ∷ ks) (inr (hs, same, wo)) (here, of) (cell, found) =
+    let t : Taken program all w f hs ks = taken program all w f es hs ks wo of found in
+    subst (λ gs. Taken program all w f gs (k ∷ ks)) (sym same) (record {
+      at = t.at;
+      rest = k ∷ t.rest;
+      without = inr (t.rest, refl, t.without);
+      cell = t.cell;
+      of = (here, t.of);
+      found = (cell, t.found);
+    })

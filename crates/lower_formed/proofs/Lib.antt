@@ -1,9 +1,9 @@
-mod Sees
+pub mod Sees
 mod Reaching
 mod Room
 mod Formals
 mod Walks
-mod FitsValues
+pub mod FitsValues
 mod Exits
 mod FitsStatements
 mod FitsPrograms
@@ -11,6 +11,6 @@ mod Alike
 mod AlikeValues
 mod AlikeStatements
 mod Placed
-mod Codes
-mod Strings
+pub mod Codes
+mod Levels
 mod Readies

@@ -1,18 +1,20 @@
--- Instructions that are placed: code that is alike is placed alike, and where frames have room for what is placed, they have
--- it wherever the code stands.
+-- Instructions that are placed: code that is alike is placed alike, and where frames have room for what is placed, and forks
+-- their rows, they have it wherever the code stands.
 use Rattle.std.proofs.Common.{◌≡◌, ℕ, ◌+◌, ◌≤◌, max, List, [], ◌∷◌, ◌++◌, length, Option, Some, None, Bool, true, false, cond, inl, inr, refl, sym, ap, ◌∙◌, subst, arith, eq-eqb}
 use Rattle.std.proofs.Math.Nat.{le-max_left, le-max_right, max-le}
 use Rattle.stack_code.specs.declared.code.Around.{Around}
 use Rattle.stack_code.specs.declared.code.Around.TheVariants.{Sub, Site}
+use Rattle.stack_code.specs.declared.code.SiteKind.{SiteKind}
 use Rattle.stack_code.specs.declared.instr.Instr.{Instr}
 use Rattle.stack_code.specs.declared.instr.Instr.TheVariants.{Jump, JFalse}
+use Rattle.stack_code.specs.declared.instr.Instr.TheVariants as i
 use Rattle.lower_emission.specs.declared.types.Mark.{Mark}
 use Rattle.lower_emission.specs.declared.types.Need.{Need}
 use Rattle.lower_emission.specs.declared.types.Placed.{Placed}
 use Rattle.lower_emission.specs.Emits.{Emit, Nothing, One, Seq, Choose, When, Looped, Guarded, Aside, From, listed, placed}
 use Rattle.lower_emission.specs.Programs.{is_body, needed, raised}
 use Rattle.lower_formed.specs.Rooms.{Roomy}
-use Rattle.lower_formed.proofs.Alike.{Alike, Both, Leaps, Marks}
+use Rattle.lower_formed.proofs.Alike.{Alike, Both, IsUnforked, Leaps, Marks}
 
 -- ---- the same code
 
@@ -27,7 +29,7 @@ entry_same (Some a) None t = absurd t
 
 leaps_same : (j k : Instr) → Leaps Same j k → j ≡ k
 leaps_same j k (inl e) = e
-leaps_same j k (inr (f, a, b, e, e', t)) = e ∙ ap f t ∙ sym e'
+leaps_same j k (inr (f, a, b, e, e', t, u)) = e ∙ ap f t ∙ sym e'
 
 mark_same : (m n : Mark) → Marks Same m n → m ≡ n
 mark_same m n (b, d, c, k, e) =
@@ -108,34 +110,51 @@ each_both P (x ∷ xs) ys f g = (f.0, each_both P xs ys f.1 g)
 abbrev pub Anywhere : ℕ → ℕ → Type 0
 Anywhere a b = Unit {0}
 
-module _ (room : Around → ℕ) where
+module _ (rows : ℕ → SiteKind → Around → Type 0) (room : Around → ℕ) where
+  -- a fork's construct has its row
+  abbrev pub Rowed : SiteKind → Around → Instr → Type 0
+  Rowed k o (i.Fork site) = rows site k o
+  Rowed k o j = Unit {0}
+
   abbrev pub HasRoom' : Placed → Type 0
-  HasRoom' p = p.cells ≤ room p.body
+  HasRoom' p = (p.cells ≤ room p.body) × Rowed p.kind p.body p.instr
+
+  unforked_rowed : (k : SiteKind) (o : Around) (j : Instr) → IsUnforked j → Rowed k o j
+  unforked_rowed k o (i.Fork site) u = absurd u
+  unforked_rowed k o j u = tt
+
+  same_rowed : (j k : Instr) (d e : SiteKind) (o l : Around) → d ≡ e → o ≡ l → Leaps Anywhere j k → Rowed d o j → Rowed e l k
+  same_rowed j k d e o l same body (inl is) r = subst (λ k. Rowed e l k) is (subst (λ l. Rowed e l j) body (subst (λ d. Rowed d o j) same r))
+  same_rowed j k d e o l same body (inr (f, a, b, ej, ek, t, u)) r = subst (λ k. Rowed e l k) (sym ek) (unforked_rowed e l (f b) u)
+
+  one_roomy : (n : Mark) (g : ℕ) (k : Instr) → n.cells ≤ room n.body → Rowed n.kind n.body k → Roomy rows room (One n g k)
+  one_roomy n g (i.Fork site) le r = (le, r)
+  one_roomy n g k le r = le
 
   moved : (m n : Mark) → Marks Anywhere m n → m.cells ≤ room m.body → n.cells ≤ room n.body
   moved m n (b, d, c, k, e) le = let z : room m.body ≡ room n.body = ap room b in omega (arith, z, c, le)
 
-  pub roomy_so : (a b : Emit) → Alike Anywhere a b → (q : ℕ) → Each HasRoom' (listed a q) → Roomy room b
+  pub roomy_so : (a b : Emit) → Alike Anywhere a b → (q : ℕ) → Each HasRoom' (listed a q) → Roomy rows room b
   roomy_so Nothing Nothing t q h = tt
-  roomy_so (One m h' j) (One n g k) (e, f, i) q h = moved m n e h.0
+  roomy_so (One m h' j) (One n g k) ((b, d, c, kd, en), f, lp) q h = one_roomy n g k (moved m n (b, d, c, kd, en) h.0.0) (same_rowed j k m.kind n.kind m.body n.body kd b lp h.0.1)
   roomy_so (Seq a b) (Seq c d) (f, g) q h = (roomy_so a c f q (each_left HasRoom' (listed a q) _ h), roomy_so b d g (q + length (listed a q)) (each_right HasRoom' (listed a q) _ h))
   roomy_so (Choose m h' k a b) (Choose n g l c d) (e, f, i, fa, fb) q h =
       let xs = listed a (q + 1) in
-      (moved m n e h.0, roomy_so a c fa (q + 1) (each_left HasRoom' xs _ h.1), roomy_so b d fb (q + 1 + length xs + 1) (each_right HasRoom' xs _ h.1).1)
-  roomy_so (When m h' a) (When n g c) (e, f, fa) q h = (moved m n e h.0, roomy_so a c fa (q + 1) h.1)
+      (moved m n e h.0.0, roomy_so a c fa (q + 1) (each_left HasRoom' xs _ h.1), roomy_so b d fb (q + 1 + length xs + 1) (each_right HasRoom' xs _ h.1).1)
+  roomy_so (When m h' a) (When n g c) (e, f, fa) q h = (moved m n e h.0.0, roomy_so a c fa (q + 1) h.1)
   roomy_so (Looped m h' b exit head) (Looped n g d exit' head') (e, f, i, fe, fh) q h =
       let bs = listed (exit (q + 1)) (q + 1 + 1) in (
-        moved m n e h.0,
+        moved m n e h.0.0,
         (λ p. roomy_so (exit (q + 1)) (exit' p) (fe (q + 1) p tt) (q + 1 + 1) (each_left HasRoom' bs _ h.1.1)),
         (λ p. roomy_so (head (q + 1 + 1)) (head' p) (fh (q + 1 + 1) p tt) (q + 1 + 1 + length bs) (each_right HasRoom' bs _ h.1.1)),
       )
   roomy_so (Guarded m hs body) (Guarded n hs' body') (e, fh, fb) q h =
       let bs = listed (body (q + 1)) (q + 1 + 1) in (
-        moved m n e h.0,
+        moved m n e h.0.0,
         roomy_so hs hs' fh (q + 1 + 1 + length bs + 1) (each_right HasRoom' bs _ h.1.1).1,
         (λ p. roomy_so (body (q + 1)) (body' p) (fb (q + 1) p tt) (q + 1 + 1) (each_left HasRoom' bs _ h.1.1)),
       )
-  roomy_so (Aside m h' a) (Aside n g c) (e, f, fa) q h = (moved m n e h.0, roomy_so a c fa (q + 1) h.1)
+  roomy_so (Aside m h' a) (Aside n g c) (e, f, fa) q h = (moved m n e h.0.0, roomy_so a c fa (q + 1) h.1)
   roomy_so (From a) (From b) f q h = λ p. roomy_so (a q) (b p) (f q p tt) q h
   roomy_so a b t q h = absurd t
 
@@ -175,5 +194,5 @@ each_own Q [] h = tt
 each_own Q (p ∷ ps) h = ((h p.body).0 (own_body p.body), each_own Q ps (λ b. (h b).1))
 
 -- what a body needs is enough for each of its instructions
-pub needs_enough : (least : Around → Need) (ps : List Placed) → Each (HasRoom' (λ b. (needed b (least b) ps).cells)) ps
+pub needs_enough : (least : Around → Need) (ps : List Placed) → Each (λ p. p.cells ≤ (needed p.body (least p.body) ps).cells) ps
 needs_enough least ps = each_own (λ b p. p.cells ≤ (needed b (least b) ps).cells) ps (λ b. needed_most b (least b) ps)

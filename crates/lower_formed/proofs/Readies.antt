@@ -1,5 +1,5 @@
 -- Programs in scope are ready for their code: their calls name subprograms that are there, and their values have their cells.
-use Rattle.std.proofs.Common.{◌≡◌, ◌⊎◌, inl, inr, ℕ, suc, ◌+◌, ◌≤◌, List, [], ◌∷◌, nat_eq, Some, Bool, true, false, cond, refl, sym, ap, ◌∙◌, subst, arith, eqb-true}
+use Rattle.std.proofs.Common.{◌≡◌, ◌⊎◌, inl, inr, ℕ, suc, ◌+◌, ◌≤◌, List, [], ◌∷◌, nat_eq, Some, Bool, true, false, cond, refl, sym, ap, ◌∙◌, subst, arith, eqb-true, ⊎_elim}
 use Rattle.behaviours.specs.Paths.{Entity, VariableOf, ConstantOf}
 use Rattle.typed_tree.specs.declared.scalars.Scalar.{Scalar}
 use Rattle.typed_tree.specs.declared.expressions.Run.{Run}
@@ -13,7 +13,7 @@ use Rattle.ada_meaning.specs.Meaning.{sub_at}
 use Rattle.lower_emission.specs.Programs.{has_result}
 use Rattle.ada_lower.specs.Emission.{formal_cell, formals_in, shapes, shapes_cells, composite_width, width}
 use Rattle.ada_lower.specs.Ready.{RunsIn, Calls, ReadyReducer, ReadyExpr, ReadyOptional, ReadySelections, ReadyActuals, ReadyValue, ReadyComposite, ReadyAssociations, ReadyIteration, ReadyChunk, ReadyPieces, ReadyDecls, ReadyStmt, ReadyAll, ReadyAlternatives, ReadyArms, ReadyHandlers, ReadySubs, IsReady}
-use Rattle.typed_scopes.specs.Scopes.{Around, Called, LieWithin, ScopedReducer, ScopedExpr, ScopedOptional, ScopedSelections, ScopedIn, ScopedActuals, ScopedValue, ScopedComposite, ScopedAssociations, ScopedIteration, ScopedChunk, ScopedPieces, ScopedDecls, ScopedMain, ScopedStmt, ScopedAll, ScopedAlternatives, ScopedArms, ScopedHandlers, IsScoped, formal_of, handling, object_cells, outset, with_chunk, with_index, with_object, with_outer, with_parameter, with_target}
+use Rattle.typed_scopes.specs.Scopes.{Around, Called, LieWithin, ScopedReducer, ScopedExpr, ScopedOptional, ScopedSelections, ScopedIn, ScopedActuals, ScopedValue, ScopedComposite, ScopedAssociations, ScopedIteration, ScopedChunk, ScopedPieces, ScopedDecls, ScopedMain, ScopedStmt, ScopedAll, ScopedAlternatives, ScopedArms, ScopedHandlers, IsScoped, Without, formal_of, handling, object_cells, outset, with_chunk, with_index, with_object, with_outer, with_parameter, with_target}
 use Rattle.lower_formed.proofs.Formals.{entity_refl, formals_are}
 use Rattle.lower_formed.proofs.FitsValues.{composite_is, width_is}
 
@@ -75,11 +75,21 @@ module _ (program : Program) where
     abbrev Among : List Formal → List Formal → Type 0
     Among fs all = (x : ℕ) → IsIn x fs → IsIn x all
 
-    next_among : (fs gs all : List Formal) (f : Formal) → fs ≡ f ∷ gs → Among fs all → Among gs all
-    next_among fs gs all f e h x is = h x (subst (λ fs. IsIn x fs) (sym e) (inr is))
+    next_among : (fs gs all : List Formal) (f : Formal) → Without f fs gs → Among fs all → Among gs all
+    next_among fs gs all f wo h x is = h x (still fs gs wo is)
+      where
+        still : (fs gs : List Formal) → Without f fs gs → IsIn x gs → IsIn x fs
+        still [] gs wo is = absurd wo
+        still (e ∷ es) gs (inl (here, same)) is = inr (subst (λ gs. IsIn x gs) same is)
+        still (e ∷ es) gs (inr (hs, same, wo)) is = ⊎_elim (λ here. inl here) (λ is. inr (still es hs wo is)) (subst (λ gs. IsIn x gs) same is)
 
-    first_among : (fs gs all : List Formal) (x : ℕ) → fs ≡ formal_of x mode.In ∷ gs → Among fs all → IsIn x all
-    first_among fs gs all x e h = h x (subst (λ fs. IsIn x fs) (sym e) (inl refl))
+    first_among : (fs gs all : List Formal) (x : ℕ) → Without (formal_of x mode.In) fs gs → Among fs all → IsIn x all
+    first_among fs gs all x wo h = h x (there fs gs wo)
+      where
+        there : (fs gs : List Formal) → Without (formal_of x mode.In) fs gs → IsIn x fs
+        there [] gs wo = absurd wo
+        there (e ∷ es) gs (inl (here, same)) = inl here
+        there (e ∷ es) gs (inr (hs, same, wo)) = inr (there es hs wo)
 
     room_there : (sub : ℕ) (all : List Formal) (x n : ℕ) → formals_in program sub ≡ all → IsIn x all → n ≡ object_cells program x → formal_cell (shapes program (formals_in program sub)) 0 (ConstantOf x) + n ≤ shapes_cells (shapes program (formals_in program sub))
     room_there sub all x n e is same =

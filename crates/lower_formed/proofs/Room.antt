@@ -1,26 +1,27 @@
 -- Where code of a value, of an object or of pieces is, the frame has the cells that its scope uses.
-use Rattle.std.proofs.Common.{◌≡◌, ℕ, zero, suc, ◌+◌, ◌≤◌, List, [], ◌∷◌, ◌++◌, length, slice_get, Option, Some, None, refl, sym, subst, arith}
+use Rattle.std.proofs.Common.{◌≡◌, ℕ, zero, suc, ◌+◌, ◌≤◌, List, [], ◌∷◌, ◌++◌, length, slice_get, Option, Some, None, Bool, true, false, refl, sym, subst, arith}
 use Rattle.std.proofs.Math.Nat.{le-max_right}
 use Rattle.typed_tree.specs.declared.scalars.Scalar.{Scalar}
 use Rattle.typed_tree.specs.declared.program.Field.{Field as Part}
 use Rattle.typed_tree.specs.Syntax.{Actuals, NoActual, In, InOut, Out, CompositeInOut, CompositeOut, Value, Number, Cells, Composite, WholeVariable, WholeConstant, WholeTarget, CompositeIf, Aggregate, Pieces, NoPiece, Text, Image, Padded, Selections, Whole, Field, Index, Subtype, OfScalar, Array, Record, Program}
 use Rattle.ada_meaning.specs.Values.{components, fields, layout_of, layout_within, repeated}
 use Rattle.stack_code.specs.declared.code.Around.{Around}
+use Rattle.stack_code.specs.declared.code.SiteKind.{SiteKind}
 use Rattle.lower_emission.specs.Emits.{Emit}
-use Rattle.lower_emission.specs.Scope.{Scope}
+use Rattle.lower_emission.specs.Scope.{Scope, one}
 use Rattle.lower_emission.specs.declared.types.Named.{Named}
-use Rattle.ada_lower.specs.Emission.{cells_of, default_of, defaults_within, field_defaults, is_whole, part_of, passed, piece_cells, piece_values, put_into, composed, selected}
+use Rattle.ada_lower.specs.Emission.{cells_of, default_of, defaults_within, field_defaults, is_whole, part_of, passed, piece_cells, piece_values, put_into, composed, selected, send_instr}
 use Rattle.lower_formed.specs.Rooms.{Roomy}
 
-module _ (program : Program) (room : Around → ℕ) where
+module _ (program : Program) (rows : ℕ → SiteKind → Around → Type 0) (room : Around → ℕ) where
   -- the code of a part of what is named has that of its selections
-  pub part_room : (s u : Scope) (h : ℕ) (o : Option Named) (x : Selections) → Roomy room (part_of s h o (is_whole x) (selected program u (h + 1) x)) → Roomy room (selected program u (h + 1) x)
+  pub part_room : (s u : Scope) (h : ℕ) (o : Option Named) (x : Selections) → Roomy rows room (part_of s h o (is_whole x) (selected program u (h + 1) x)) → Roomy rows room (selected program u (h + 1) x)
   unfolding selected
   part_room s u h o Whole m = tt
   part_room s u h o (Field number offset rest) m = m.1.0
   part_room s u h o (Index at e low high stride rest) m = m.1.0
 
-  pub composed_room : (s : Scope) (h t : ℕ) (c : Composite) → Roomy room (composed program s h t c) → s.free ≤ room s.body
+  pub composed_room : (s : Scope) (h t : ℕ) (c : Composite) → Roomy rows room (composed program s h t c) → s.free ≤ room s.body
   unfolding composed
   composed_room s h t (WholeVariable at r selections subtype) m = m.0
   composed_room s h t (WholeConstant at r selections subtype) m = m.0
@@ -28,13 +29,18 @@ module _ (program : Program) (room : Around → ℕ) where
   composed_room s h t (CompositeIf condition value otherwise) m = m.1.0
   composed_room s h t (Aggregate at size associations) m = m.0
 
-  pub put_room : (s : Scope) (h t : ℕ) (x : Value) → Roomy room (put_into program s h t x) → s.free ≤ room s.body
+  pub put_room : (s : Scope) (h t : ℕ) (x : Value) → Roomy rows room (put_into program s h t x) → s.free ≤ room s.body
   unfolding put_into
   put_room s h t (Number check e) m = m.1.0
   put_room s h t (Cells c) m = composed_room s h t c m
 
+  -- a line is sent
+  pub send_room : (s : Scope) (line : Bool) → Roomy rows room (one s 0 (send_instr line)) → s.free ≤ room s.body
+  send_room s true m = m
+  send_room s false m = m
+
   -- actual parameters, if there are any
-  pub passed_room : (s : Scope) (h sub w : ℕ) (x : Actuals) → Roomy room (passed program s h sub w x) → (x ≡ NoActual → s.free ≤ room s.body) → s.free ≤ room s.body
+  pub passed_room : (s : Scope) (h sub w : ℕ) (x : Actuals) → Roomy rows room (passed program s h sub w x) → (x ≡ NoActual → s.free ≤ room s.body) → s.free ≤ room s.body
   unfolding passed
   passed_room s h sub w NoActual m none = none refl
   passed_room s h sub w (In formal value rest) m none = put_room s h _ value m.0
@@ -44,7 +50,7 @@ module _ (program : Program) (room : Around → ℕ) where
   passed_room s h sub w (CompositeOut formal at r selections subtype rest) m none = m.0.0
 
   -- pieces of output, where their values are kept
-  pub pieces_room : (s : Scope) (x : Pieces) → Roomy room (piece_values program s x) → s.free ≤ room s.body → s.free + piece_cells x ≤ room s.body
+  pub pieces_room : (s : Scope) (x : Pieces) → Roomy rows room (piece_values program s x) → s.free ≤ room s.body → s.free + piece_cells x ≤ room s.body
   unfolding piece_values
   pieces_room s NoPiece m le = omega (arith, le)
   pieces_room s (Text bytes rest) m le = pieces_room s rest m le
@@ -72,9 +78,9 @@ module _ (program : Program) (room : Around → ℕ) where
 
   module _ (s : Scope) where
     abbrev Each : (ℕ → List Scalar) → (ℕ → ℕ → Emit) → Type 0
-    Each layout within = (t number : ℕ) → Roomy room (within t number) → Some' (layout number) → s.free ≤ room s.body
+    Each layout within = (t number : ℕ) → Roomy rows room (within t number) → Some' (layout number) → s.free ≤ room s.body
 
-    fields_room : (layout : ℕ → List Scalar) (within : ℕ → ℕ → Emit) → Each layout within → (fs : List Part) (t : ℕ) → Roomy room (field_defaults program within t fs) → Some' (fields layout fs) → s.free ≤ room s.body
+    fields_room : (layout : ℕ → List Scalar) (within : ℕ → ℕ → Emit) → Each layout within → (fs : List Part) (t : ℕ) → Roomy rows room (field_defaults program within t fs) → Some' (fields layout fs) → s.free ≤ room s.body
     fields_room layout within each [] t m h = absurd h
     fields_room layout within each (f ∷ fs) t m h = go (λ h. fields_room layout within each fs (t + cells_of program f.subtype) m.1 h) (layout f.subtype) refl
       where
@@ -82,7 +88,7 @@ module _ (program : Program) (room : Around → ℕ) where
         go again [] e = again (subst (λ ks. Some' (ks ++ fields layout fs)) e h)
         go again (k ∷ ks) e = each t f.subtype m.0 (subst (λ ks. Some' ks) (sym e) tt)
 
-    entry_room : (layout : ℕ → List Scalar) (within : ℕ → ℕ → Emit) → Each layout within → (t : ℕ) (o : Option Subtype) → Roomy room (default_of program s within t o) → Some' (layout_of layout o) → s.free ≤ room s.body
+    entry_room : (layout : ℕ → List Scalar) (within : ℕ → ℕ → Emit) → Each layout within → (t : ℕ) (o : Option Subtype) → Roomy rows room (default_of program s within t o) → Some' (layout_of layout o) → s.free ≤ room s.body
     entry_room layout within each t None m h = absurd h
     entry_room layout within each t (Some (OfScalar k)) m h = m.0
     entry_room layout within each t (Some (Array dimensions component)) m h = each t component m.0 (repeated_some (components dimensions) (layout component) h)
@@ -93,7 +99,7 @@ module _ (program : Program) (room : Around → ℕ) where
     within_room (suc levels) t number m h = entry_room (layout_within program.subtypes levels) (defaults_within program s levels) (within_room levels) t (slice_get program.subtypes number) m h
 
     -- one that has cells
-    pub defaults_room : (levels t number n : ℕ) → Roomy room (defaults_within program s levels t number) → length (layout_within program.subtypes levels number) ≡ suc n → s.free ≤ room s.body
+    pub defaults_room : (levels t number n : ℕ) → Roomy rows room (defaults_within program s levels t number) → length (layout_within program.subtypes levels number) ≡ suc n → s.free ≤ room s.body
     defaults_room levels t number n m e = within_room levels t number m (go (layout_within program.subtypes levels number) e)
       where
         go : (ks : List Scalar) → length ks ≡ suc n → Some' ks

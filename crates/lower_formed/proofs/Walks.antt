@@ -1,5 +1,5 @@
 -- Names reach their parts, arrays that are gone through too; and the cells that code keeps are in the frame.
-use Rattle.std.proofs.Common.{◌≡◌, ℤ, ℕ, zero, suc, ◌+◌, ◌*◌, ◌<◌, ◌≤◌, max, nat_eq, List, ◌∷◌, Option, Bool, true, false, cond, refl, ap, ◌∙◌, subst, arith}
+use Rattle.std.proofs.Common.{◌≡◌, ℤ, pos, ℕ, zero, suc, ◌+◌, ◌*◌, ◌<◌, ◌≤◌, max, nat_eq, List, [], ◌∷◌, Option, Bool, true, false, cond, refl, ap, ◌∙◌, subst, arith}
 use Rattle.std.proofs.lemmas.Bool.{ne_eqb}
 use Rattle.std.proofs.Math.Nat.{le-max_right}
 use Rattle.behaviours.specs.Paths.{Entity}
@@ -9,10 +9,12 @@ use Rattle.typed_tree.specs.Syntax.{Optional, Selections, Components, Chunk, NoC
 use Rattle.ada_meaning.specs.Formed.{FormedIteration, FormedOptional, FormedSelections, Known, Spans, SpansConstant, with_constant, with_shape}
 use Rattle.ada_meaning.specs.Shapes.{size}
 use Rattle.stack_code.specs.declared.code.Around as body
+use Rattle.stack_code.specs.declared.code.SiteKind.{SiteKind}
 use Rattle.lower_emission.specs.Emits.{Emit}
-use Rattle.lower_emission.specs.Scope.{Scope, none, ◌⨟◌}
+use Rattle.lower_emission.specs.Scope.{Scope, keep, looped, none, one, ◌⨟◌}
+use Rattle.stack_code.specs.declared.instr.Instr.TheVariants as i
 use Rattle.ada_lower.specs.Sights.{Named, Sight, array_root_of, constant_root_of, item_sight, root_of}
-use Rattle.ada_lower.specs.Emission.{chunk_scope, doubled, filling, fillings, turn_item, turning, turnings}
+use Rattle.ada_lower.specs.Emission.{chunk_scope, doubled, entering, filling, fillings, run_steps, run_turnings, turn_item, turning, turnings}
 use Rattle.ada_lower.specs.Fitted.{Reached}
 use Rattle.typed_scopes.specs.Scopes.{Around, ArraySeen, ConstantSeen, VariableSeen}
 use Rattle.lower_formed.specs.Rooms.{Roomy}
@@ -33,16 +35,22 @@ chunk_free (Count e) s = refl
 chunk_free (Each k low high check) s = refl
 
 -- the code of a value that one component at least is given
-pub filled_room : (room : body.Around → ℕ) (s : Scope) (h t size : ℕ) (plain : Bool) (value : ℕ → Emit) (r : Run) (rs : List Run) → 1 ≤ r.count → Roomy room (fillings s h t size plain value (r ∷ rs)) → (n : ℕ) × Roomy room (value n)
-filled_room room s h t size plain value r rs le m = (r.first, by _ r.count le m.0)
+pub filled_room : (rows : ℕ → SiteKind → body.Around → Type 0) (room : body.Around → ℕ) (s : Scope) (h t size : ℕ) (plain : Bool) (value : ℕ → Emit) (r : Run) (rs : List Run) → 1 ≤ r.count → Roomy rows room (fillings s h t size plain value (r ∷ rs)) → (n : ℕ) × Roomy rows room (value n)
+filled_room rows room s h t size plain value r rs le m = (r.first, by _ r.count le m.0)
   where
-    by : (b : Bool) (count : ℕ) → 1 ≤ count → Roomy room (cond b (value r.first ⨟ doubled s h (t + r.first) size r.count 1 r.count) (filling value count r.first r.stride)) → Roomy room (value r.first)
+    by : (b : Bool) (count : ℕ) → 1 ≤ count → Roomy rows room (cond b (value r.first ⨟ doubled s h (t + r.first) size r.count 1 r.count) (filling value count r.first r.stride)) → Roomy rows room (value r.first)
     by true count le m = m.0
     by false zero le m = absurd (omega (arith, le))
     by false (suc count) le m = m.0
 
-pub turned_room : (room : body.Around → ℕ) (s : Scope) (h t : ℕ) (low : ℤ) (component : Emit) (r : Run) (rs : List Run) → 1 ≤ r.count → Roomy room (turnings s h t low component (r ∷ rs)) → Roomy room (turning s h t low component r.count r.first r.stride)
-turned_room room s h t low component r rs le m = subst (λ b. Roomy room (cond b none (turning s h t low component r.count r.first r.stride))) (positive r.count le) m.0
+pub turned_room : (rows : ℕ → SiteKind → body.Around → Type 0) (room : body.Around → ℕ) (s : Scope) (h t : ℕ) (low : ℤ) (component : Emit) (r : Run) (rs : List Run) → 1 ≤ r.count → Roomy rows room (turnings s h t low component (r ∷ rs)) → Roomy rows room (keep s h (s.free + 1 + 1)) × Roomy rows room component
+turned_room rows room s h t low component r [] le m =
+    let w : Roomy rows room (turning s h t low component r.count r.first r.stride) = subst (λ b. Roomy rows room (cond b none (turning s h t low component r.count r.first r.stride))) (positive r.count le) m in
+    (w.1.1.1.1.1.0, (w.1.1.1.1.1.1.1 0).1)
+turned_room rows room s h t low component r (p ∷ rs) le m =
+    let whole : Emit = one s h (i.Push (pos 0)) ⨟ entering s (h + 1) t low r.count r.first ⨟ looped s (h + 1) true (λ exit. one s (h + 1) i.Turn ⨟ component) (λ head. run_steps s h t low head 0 (r ∷ p ∷ rs)) ⨟ one s (h + 1) i.Pop in
+    let w : Roomy rows room whole = subst (λ b. Roomy rows room (cond b (run_turnings s h t low component 1 (p ∷ rs)) whole)) (positive r.count le) m in
+    (w.1.0.1.1.1.1.1, (w.1.1.0.1 0).1)
 
 module _ (program : Program) (names : Entity → Option Named) (mains : Entity → Bool) (T : List ℕ → Type 0) (frames : ℕ → ℕ) (room : body.Around → ℕ) where
   abbrev S : Known → Around → Sight → Type 0

@@ -1,35 +1,26 @@
--- What the tables of a program's code have of its text: its strings, and a row of each parallel construct. Constructs stand
--- in one another so many levels deep.
-use Rattle.std.specs.Prelude.{◌≡◌, ℕ, zero, suc, ◌+◌, ◌<◌, ◌≤◌, List, slice_get, Some, None}
+-- What the tables of a program's code have of its text: its strings, and the rows of parallel constructs. These stand in one
+-- another so many levels deep.
+use Rattle.std.specs.Prelude.{◌≡◌, ℕ, zero, suc, ◌+◌, ◌≤◌, List, slice_get, Some, None}
 use Rattle.typed_tree.specs.Syntax.{Expr, Static, Variable, Constant, Parameter, Target, Group, Unary, Binary, AndThen, OrElse, Relation, Membership, If, Call, Convert, Reduction, Optional, Absent, Present, Selections, Whole, Field, Index, Actuals, NoActual, In, InOut, Out, CompositeInOut, CompositeOut, Value, Number, Cells, Composite, WholeVariable, WholeConstant, WholeTarget, CompositeIf, Aggregate, Associations, NoAssociation, Association, Iteration, Range, Components, Chunk, NoChunk, Count, Each, Pieces, NoPiece, Text, Image, Padded, Decls, NoDecl, DeclareDefault, DeclareVariable, DeclareConstant, Mentions, Stmt, Null, Assign, CallProcedure, Exit, Return, ReturnValue, Raise, Reraise, IfThen, Case, Loop, For, ParallelFor, Parallel, Block, Put, Get, Stmts, End, Then, Alternatives, NoAlternative, Alternative, Arms, NoArm, Arm, Handlers, NoHandler, Handler, Sub, Program}
-use Rattle.ada_meaning.specs.Meaning.{arms_of, sub_at}
+use Rattle.ada_meaning.specs.Meaning.{sub_at}
+use Rattle.stack_code.specs.declared.code.Around.{Around}
 use Rattle.stack_code.specs.declared.code.Code.{Code}
 use Rattle.stack_code.specs.declared.code.CodeSite.{CodeSite}
 use Rattle.stack_code.specs.declared.code.SiteKind.{SiteKind}
-use Rattle.stack_code.specs.declared.code.SiteKind.TheVariants as kind
 use Rattle.stack_code.specs.declared.instr.Instr.TheVariants as i
-use Rattle.ada_lower.specs.Emission.{loop_kind, reduction_kind}
 
--- cells 0 to 3 of a thread's frame are the thread's, and cell 4 is the component's address
-abbrev pub least_frame : Iteration → ℕ
-least_frame (Range k reverse low high check filter) = 4
-least_frame (Components k constant at from selections number stride dimensions filter) = 5
-
--- a site is in the code with its kind and a frame of so many cells at least, and its threads' code stands two behind each
--- fork that names it
-pub record HasSite (c : Code) (frames : ℕ → ℕ) (site : ℕ) (of : SiteKind) (least : ℕ) : Type 0 where
+-- A construct has its row in the table, with its kind; its threads' code stands two behind the forks that name it, and their
+-- frame has at least five cells: cells 0 to 3 are the thread's, and cell 4 is a component's address.
+pub record HasSite (c : Code) (frames : ℕ → ℕ) (site : ℕ) (of : SiteKind) (body : Around) : Type 0 where
   pub row : CodeSite
   pub is : slice_get c.sites site ≡ Some row
   pub frame : frames site ≡ row.frame
-  pub enough : least ≤ row.frame
+  pub enough : 5 ≤ row.frame
   pub kind : row.kind ≡ of
+  pub around : row.around ≡ body
   pub entry : (q : ℕ) → slice_get c.instrs q ≡ Some (i.Fork site) → row.entry ≡ q + 1 + 1
 
--- numbers of loops are of 32 bits
-abbrev pub loop_limit : ℕ
-loop_limit = 4294967296
-
-module _ (T : List ℕ → Type 0) (S : ℕ → SiteKind → ℕ → Type 0) where
+module _ (T : List ℕ → Type 0) where
   abbrev mutual
     pub TabledExpr : ℕ → Expr → Type 0
     TabledExpr n (Static at value literal mentions) = Unit {0}
@@ -50,7 +41,7 @@ module _ (T : List ℕ → Type 0) (S : ℕ → SiteKind → ℕ → Type 0) whe
     TabledExpr n (Reduction at attribute by initial None chunk iteration value) = TabledExpr n initial × TabledIteration n iteration × TabledExpr n value
     TabledExpr zero (Reduction at attribute by initial (Some site) chunk iteration value) = ⊥
     TabledExpr (suc n) (Reduction at attribute by initial (Some site) chunk iteration value) =
-        S site (reduction_kind by chunk) (least_frame iteration) × TabledExpr n initial × TabledChunk n chunk × TabledIteration n iteration × TabledExpr n value
+        TabledExpr n initial × TabledChunk n chunk × TabledIteration n iteration × TabledExpr n value
 
     pub TabledOptional : ℕ → Optional → Type 0
     TabledOptional n Absent = Unit {0}
@@ -111,7 +102,7 @@ module _ (T : List ℕ → Type 0) (S : ℕ → SiteKind → ℕ → Type 0) whe
     TabledStmt n Null = Unit {0}
     TabledStmt n (Assign at from selections value) = TabledSelections n selections × TabledValue n value
     TabledStmt n (CallProcedure at callee sub actuals) = TabledActuals n actuals
-    TabledStmt n (Exit loop condition) = (loop < loop_limit) × TabledOptional n condition
+    TabledStmt n (Exit loop condition) = TabledOptional n condition
     TabledStmt n Return = Unit {0}
     TabledStmt n (ReturnValue value) = TabledValue n value
     TabledStmt n (Raise reason) = Unit {0}
@@ -121,9 +112,9 @@ module _ (T : List ℕ → Type 0) (S : ℕ → SiteKind → ℕ → Type 0) whe
     TabledStmt n (Loop number condition stmts) = TabledOptional n condition × TabledAll n stmts
     TabledStmt n (For number iteration stmts) = TabledIteration n iteration × TabledAll n stmts
     TabledStmt zero (ParallelFor number site chunk iteration stmts) = ⊥
-    TabledStmt (suc n) (ParallelFor number site chunk iteration stmts) = S site (loop_kind chunk) (least_frame iteration) × TabledChunk n chunk × TabledIteration n iteration × TabledAll n stmts
+    TabledStmt (suc n) (ParallelFor number site chunk iteration stmts) = TabledChunk n chunk × TabledIteration n iteration × TabledAll n stmts
     TabledStmt zero (Parallel site count arms) = ⊥
-    TabledStmt (suc n) (Parallel site count arms) = S site (kind.Block (arms_of arms)) 4 × TabledOptional n count × TabledArms n arms
+    TabledStmt (suc n) (Parallel site count arms) = TabledOptional n count × TabledArms n arms
     TabledStmt n (Block decls stmts handlers) = TabledDecls n decls × TabledAll n stmts × TabledHandlers n handlers
     TabledStmt n (Put at callee pieces line) = TabledPieces n pieces
     TabledStmt n (Get at callee first from selections scalar) = TabledSelections n selections
@@ -144,14 +135,9 @@ module _ (T : List ℕ → Type 0) (S : ℕ → SiteKind → ℕ → Type 0) whe
     TabledHandlers n NoHandler = Unit {0}
     TabledHandlers n (Handler handled stmts rest) = TabledAll n stmts × TabledHandlers n rest
 
--- each construct of a program has its row in the code's table; constructs stand in one another so many levels deep, and numbers
--- of loops are of 32 bits
-pub record HasRows (program : Program) (c : Code) (frames : ℕ → ℕ) (depth : ℕ) : Type 0 where
-  pub main : TabledStmt (λ bytes. Unit {0}) (HasSite c frames) depth (Block program.body.decls program.body.stmts program.body.handlers)
-  pub subs : (k : ℕ) (unit : Sub) → sub_at program.subs k ≡ Some unit → TabledStmt (λ bytes. Unit {0}) (HasSite c frames) depth (Block unit.body.decls unit.body.stmts unit.body.handlers)
-
--- and its strings are in the table, at the numbers that the emission gives them
-pub record IsTabled (program : Program) (text : List ℕ → ℕ) (c : Code) (frames : ℕ → ℕ) (depth : ℕ) : Type 0 where
-  pub main : TabledStmt (λ bytes. slice_get c.texts (text bytes) ≡ Some bytes) (HasSite c frames) depth (Block program.body.decls program.body.stmts program.body.handlers)
+-- the strings of a program are in the table, at the numbers that the emission gives them, and constructs stand in one another
+-- so many levels deep
+pub record IsTabled (program : Program) (text : List ℕ → ℕ) (c : Code) (depth : ℕ) : Type 0 where
+  pub main : TabledStmt (λ bytes. slice_get c.texts (text bytes) ≡ Some bytes) depth (Block program.body.decls program.body.stmts program.body.handlers)
   pub subs : (k : ℕ) (unit : Sub) → sub_at program.subs k ≡ Some unit
-      → TabledStmt (λ bytes. slice_get c.texts (text bytes) ≡ Some bytes) (HasSite c frames) depth (Block unit.body.decls unit.body.stmts unit.body.handlers)
+      → TabledStmt (λ bytes. slice_get c.texts (text bytes) ≡ Some bytes) depth (Block unit.body.decls unit.body.stmts unit.body.handlers)

@@ -22,7 +22,7 @@ use Rattle.lower_tables.proofs.Steps.{drop_at, none_past}
 
 -- ---- whose body it is
 
-same_number : (k : ℕ) → nat_eq k k ≡ true
+pub same_number : (k : ℕ) → nat_eq k k ≡ true
 same_number k = eq-eqb k k refl
 
 in_sub : (j k : ℕ) (b : Around) → b ≡ Sub j → is_body (Sub k) b ≡ nat_eq k j
@@ -31,10 +31,10 @@ in_sub j k b e = ap (is_body (Sub k)) e
 in_site : (j k : ℕ) (b : Around) → b ≡ Site j → is_body (Site k) b ≡ nat_eq k j
 in_site j k b e = ap (is_body (Site k)) e
 
-forks_by : (j k : ℕ) (i : Instr) → i ≡ Fork j → is_fork k i ≡ nat_eq k j
+pub forks_by : (j k : ℕ) (i : Instr) → i ≡ Fork j → is_fork k i ≡ nat_eq k j
 forks_by j k i e = ap (is_fork k) e
 
-forks_none : (k : ℕ) (i : Instr) → ((n : ℕ) → i ≡ Fork n → ⊥) → is_fork k i ≡ false
+pub forks_none : (k : ℕ) (i : Instr) → ((n : ℕ) → i ≡ Fork n → ⊥) → is_fork k i ≡ false
 forks_none k (Fork n) h = absurd (h n refl)
 forks_none k i h = refl
 

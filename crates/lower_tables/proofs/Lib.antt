@@ -1,4 +1,5 @@
 -- Lemmas.
 pub mod Each
+pub mod Flags
 pub mod Grown
 pub mod Steps

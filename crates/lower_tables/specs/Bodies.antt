@@ -1,5 +1,5 @@
 -- The tables of bodies, as they grow by one instruction after another.
-use Rattle.std.specs.Prelude.{ℕ, ◌+◌, replicate, get_or, List, [], ◌∷◌, ◌++◌, cond}
+use Rattle.std.specs.Prelude.{ℕ, ◌+◌, replicate, get_or, List, [], ◌∷◌, ◌++◌, Bool, true, false, cond}
 use Rattle.stack_code.specs.declared.code.Around.TheVariants as body
 use Rattle.stack_code.specs.declared.code.CodeSite.{CodeSite}
 use Rattle.stack_code.specs.declared.code.CodeSub.{CodeSub}
@@ -58,3 +58,16 @@ sites_from leases k (b ∷ bs) = site_by b.fork b.need (get_or leases k []) ∷ 
 -- the table of so many
 abbrev pub site_table : List Placed → List (List Lease) → ℕ → List CodeSite
 site_table c leases count = sites_from leases 0 (each (λ k b. site_after 0 c k b) 0 (replicate count fresh))
+
+-- ---- which constructs have a fork
+
+abbrev pub flagging : Placed → ℕ → Bool → Bool
+flagging p k b = cond (is_fork k p.instr) true b
+
+abbrev pub flag_after : List Placed → ℕ → Bool → Bool
+flag_after [] k b = b
+flag_after (p ∷ ps) k b = flag_after ps k (flagging p k b)
+
+-- of so many
+abbrev pub fork_flags : List Placed → ℕ → List Bool
+fork_flags c count = each (λ k b. flag_after c k b) 0 (replicate count false)

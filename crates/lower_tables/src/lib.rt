@@ -1,10 +1,12 @@
-//! The tables of the code of a program: its instructions, the spots of each, and its unwind entries.
+//! The tables of the code of a program: its instructions, the spots of each, its unwind entries, and which constructs have a
+//! fork.
 #![tactic(auto)]
 
 ghost use Rattle.std.specs.Prelude.{◌≡◌, ◌+◌, ◌<◌, ◌++◌, ◌∷◌, [], None, Some, cond, drop, slice_get, IfOk, OnOk, IfSome};
 ghost use Rattle.lower_emission.specs.Tables as spec;
 
 pub mod bodies;
+pub mod forks;
 
 use ada_base::Items;
 use lower_emission::types::Placed;

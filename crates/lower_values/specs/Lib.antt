@@ -1,3 +1,4 @@
 -- What emitting functions say.
+pub mod Runs
 pub mod Texts
 pub mod Words

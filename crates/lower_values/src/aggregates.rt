@@ -9,6 +9,7 @@ ghost use Rattle.stack_code.specs.declared.instr.Instr.TheVariants as i;
 
 use crate::cells::{cells_of, composite_width, product, width};
 use crate::exprs::{address, checked, emit, put_into, selected};
+use crate::runs::turnings;
 use crate::types::{Emitter, Env, Names};
 use ada_meaning::turns::{is_plain, takes_turns};
 use lower_emission::types::{Level, Named, Where};
@@ -128,7 +129,7 @@ fn associated(env: &Env<'_>, h: u32, to: u32, id: u32, out: &mut Emitter)
 #[cycle(emit)]
 #[inline(never)]
 fn given(env: &Env<'_>, h: u32, to: u32, association: Association, out: &mut Emitter)
-    ensures { Emits (cond (spec.takes_turns (as_runs (part_at (nodes env.now) association.runs)) association.iterated (value_at (nodes env.now) association.value)) (spec.turnings (env_of env.now) h to (spec.turned_low association.iterated) (spec.component (tables env.now) (spec.turned_scope (env_of env.now) association.iterated) h (env.now.free + 1 + 1) (value_at (nodes env.now) association.value)) (as_runs (part_at (nodes env.now) association.runs))) (spec.fillings (env_of env.now) h to (spec.width (tables env.now) (value_at (nodes env.now) association.value)) (spec.is_plain (value_at (nodes env.now) association.value)) (λ n. spec.put_into (tables env.now) (env_of env.now) h (to + n) (value_at (nodes env.now) association.value)) (as_runs (part_at (nodes env.now) association.runs)))) out.old out.new }
+    ensures { Emits (cond (spec.takes_turns (as_runs (part_at (nodes env.now) association.runs)) association.iterated (value_at (nodes env.now) association.value)) (spec.turnings (env_of env.now) h to (spec.turned_low association.iterated) (spec.component (tables env.now) (spec.turned_scope (env_of env.now) association.iterated) (spec.turn_height (as_runs (part_at (nodes env.now) association.runs)) h) (env.now.free + 1 + 1) (value_at (nodes env.now) association.value)) (as_runs (part_at (nodes env.now) association.runs))) (spec.fillings (env_of env.now) h to (spec.width (tables env.now) (value_at (nodes env.now) association.value)) (spec.is_plain (value_at (nodes env.now) association.value)) (λ n. spec.put_into (tables env.now) (env_of env.now) h (to + n) (value_at (nodes env.now) association.value)) (as_runs (part_at (nodes env.now) association.runs)))) out.old out.new }
 {
     if takes_turns(&env.typed.nodes, association) {
         let turned = Turned {
@@ -228,33 +229,15 @@ fn filling(env: &Env<'_>, h: u32, to: u32, value: u32, run: Run, out: &mut Emitt
 
 /// A value that takes turns, and the parameter of its association (4.3.3).
 #[derive(Clone, Copy)]
-struct Turned {
-    parameter: Option<Iterated>,
-    value: u32,
-}
-
-#[cycle(emit)]
-#[inline(never)]
-fn turnings(env: &Env<'_>, h: u32, to: u32, turned: Turned, runs: u32, out: &mut Emitter)
-    ensures { Emits (spec.turnings (env_of env.now) h to (spec.turned_low turned.parameter) (spec.component (tables env.now) (spec.turned_scope (env_of env.now) turned.parameter) h (env.now.free + 1 + 1) (value_at (nodes env.now) turned.value)) (as_runs (part_at (nodes env.now) runs))) out.old out.new }
-{
-    if let Some(cell) = env.typed.nodes.leaf(runs) {
-        match cell.leaf {
-            Leaf::Run(run) => {
-                if run.count != 0 {
-                    turning(env, h, to, turned, run, out);
-                }
-                turnings(env, h, to, turned, cell.rest, out);
-            }
-            _ => turnings(env, h, to, turned, cell.rest, out),
-        }
-    }
+pub struct Turned {
+    pub parameter: Option<Iterated>,
+    pub value: u32,
 }
 
 /// A loop through the components of a run.
 #[cycle(emit)]
 #[inline(never)]
-fn turning(env: &Env<'_>, h: u32, to: u32, turned: Turned, run: Run, out: &mut Emitter)
+pub fn turning(env: &Env<'_>, h: u32, to: u32, turned: Turned, run: Run, out: &mut Emitter)
     ensures { Emits (spec.turning (env_of env.now) h to (spec.turned_low turned.parameter) (spec.component (tables env.now) (spec.turned_scope (env_of env.now) turned.parameter) h (env.now.free + 1 + 1) (value_at (nodes env.now) turned.value)) run.count run.first run.stride) out.old out.new }
 {
     let first = out.sum(to, run.first);
@@ -265,7 +248,7 @@ fn turning(env: &Env<'_>, h: u32, to: u32, turned: Turned, run: Run, out: &mut E
 }
 
 /// The parameter, its last value and the address of the first component go to the first free cells.
-fn before_turns(env: &Env<'_>, h: u32, first: u32, low: i64, high: i64, out: &mut Emitter)
+pub fn before_turns(env: &Env<'_>, h: u32, first: u32, low: i64, high: i64, out: &mut Emitter)
     ensures { Emits (one (env_of env.now) h (i.Push low) ⨟ keep (env_of env.now) (h + 1) env.now.free ⨟ one (env_of env.now) h (i.Push high) ⨟ keep (env_of env.now) (h + 1) (env.now.free + 1) ⨟ one (env_of env.now) h (i.Local first) ⨟ keep (env_of env.now) (h + 1) (env.now.free + 1 + 1)) out.old out.new }
 {
     let h1 = out.sum(h, 1);
@@ -304,7 +287,7 @@ fn turns(env: &Env<'_>, h: u32, turned: Turned, stride: u32, out: &mut Emitter)
 /// The value goes to where the address in a cell says.
 #[cycle(emit)]
 #[inline(never)]
-fn turned_component(env: &Env<'_>, h: u32, turned: Turned, address: u32, out: &mut Emitter)
+pub fn turned_component(env: &Env<'_>, h: u32, turned: Turned, address: u32, out: &mut Emitter)
     ensures { Emits (spec.component (tables env.now) (spec.turned_scope (env_of env.now) turned.parameter) h address (value_at (nodes env.now) turned.value)) out.old out.new }
 {
     let free = out.sum(env.free, 3);
@@ -332,7 +315,7 @@ fn turned_component(env: &Env<'_>, h: u32, turned: Turned, address: u32, out: &m
 }
 
 /// The first value of a parameter; a count from 0 stands where there is none.
-fn low_of(parameter: Option<Iterated>) -> i64
+pub fn low_of(parameter: Option<Iterated>) -> i64
     ensures { result ≡ spec.turned_low parameter }
 {
     match parameter {
@@ -351,7 +334,8 @@ pub fn own(cell: u32) -> Where
     }
 }
 
-fn last_value(first: i64, count: u32, out: &mut Emitter) -> i64
+/// The last value of a parameter that has so many.
+pub fn last_value(first: i64, count: u32, out: &mut Emitter) -> i64
     ensures { Learns (first +ℤ pos count -ℤ pos 1) out.old result out.new }
 {
     let behind = first.checked_add(i64::from(count));

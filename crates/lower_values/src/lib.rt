@@ -11,5 +11,6 @@ pub mod instrs;
 pub mod iterations;
 pub mod kinds;
 pub mod reductions;
+pub mod runs;
 pub mod texts;
 pub mod types;

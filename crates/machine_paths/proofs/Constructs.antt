@@ -19,7 +19,7 @@ use Rattle.ada_lower.proofs.ForkFuel.{goes_by, by_notes_more, in_order_more}
 use Rattle.machine_paths.specs.Silent.{silently, Leads, Reaches}
 use Rattle.machine_paths.specs.Threads.{ThreadPath, enough, runs}
 use Rattle.machine_paths.specs.Noting.{note_by, turns_of, LeftBy, AnswerOf}
-use Rattle.machine_paths.specs.Constructing.{shares_of, starts_at, with_schedule, answered_by}
+use Rattle.machine_paths.specs.Constructing.{shares_of, starts_at, with_schedule, ForksTo, came_to, answered_by}
 use Rattle.machine_paths.proofs.Worlds.{silently_goes}
 use Rattle.machine_paths.proofs.Started.{as_threads}
 use Rattle.machine_paths.proofs.Ordered.{joined_by_note, joined_in_order}
@@ -102,6 +102,18 @@ module _ (limit : ℕ) (c : Code) (plan : Plan) (q : Asked) (p : Path) (site : C
             (answer_one chosen os (noted ns chosen os ds joined).0 h.0 (noted ns chosen os ds joined).1 h.1) (noted_comes ns chosen os ds joined),
       )
 
+  -- what its threads come to by that note
+  pub joined_forks : (chosen : Option ℕ) (os : List (Over ThreadPath)) (ds : List Cell) → Joined runs (starts_at limit c plan site q p.state) p.state.cells chosen os ds →
+      (how : Result Gave Stop) × AnswerOf chosen os how × ((ns : List ConstructNote) → ForksTo limit c q (with_schedule (ByNotes (note_by chosen os ∷ ns)) p) (came_to c site q (with_schedule (ByNotes ns) p) ds (turns_of p.state.turns os) how))
+  joined_forks chosen os ds joined =
+      let h = noted [] chosen os ds joined in (
+        h.0,
+        h.1,
+        λ ns m le. subst (λ l. fork c (λ x. goes limit c m x) q (with_schedule (ByNotes (note_by chosen os ∷ ns)) p) ≡ Some (record { dyn = record { cells = ds; turns = turns_of p.state.turns os; left = l; world = record p.world { notes = ByNotes ns } }; how = with_answer c (answer_of c site.kind q) h.0 })) (sym left)
+            (subst (λ how. fork c (λ x. goes limit c m x) q (with_schedule (ByNotes (note_by chosen os ∷ ns)) p) ≡ Some (came (record p.world { notes = ByNotes ns }) ds (turns_of p.state.turns os) (with_answer c (answer_of c site.kind q) how)))
+            (answer_one chosen os (noted ns chosen os ds joined).0 h.0 (noted ns chosen os ds joined).1 h.1) (forks_so ns chosen os ds joined m le)),
+      )
+
   -- ---- a construct whose threads ran in order
   module _ (run : Step → Option Final) (more : (x : Step) (e : Final) → silently limit c (enough limit c) x ≡ Some e → run x ≡ Some e) (notes : p.world.notes ≡ InOrder) where
     ordered_so : (chosen : Option ℕ) (os : List (Over ThreadPath)) (ds : List Cell) → FineInOrder runs (starts_at limit c plan site q p.state) p.state.cells → IsOrdered runs (starts_at limit c plan site q p.state) p.state.cells chosen os ds →
@@ -122,6 +134,19 @@ module _ (limit : ℕ) (c : Code) (plan : Plan) (q : Asked) (p : Path) (site : C
   ordered_leads notes chosen os ds fine is =
       let h = ordered_so (silently limit c (enough limit c)) (λ x e g. g) notes chosen os ds fine is in
       (h.0, h.1, fork_leads limit c q p site (record { dyn = record { cells = ds; turns = turns_of p.state.turns os; left = p.state.left; world = p.world }; how = h.0 }) at notes (enough limit c, h.2))
+
+  -- what its threads come to where a path runs its constructs in order
+  pub ordered_forks : p.world.notes ≡ InOrder → (chosen : Option ℕ) (os : List (Over ThreadPath)) (ds : List Cell) → FineInOrder runs (starts_at limit c plan site q p.state) p.state.cells → IsOrdered runs (starts_at limit c plan site q p.state) p.state.cells chosen os ds →
+      (how : Result Gave Stop) × AnswerOf chosen os how × ForksTo limit c q p (came_to c site q p ds (turns_of p.state.turns os) how)
+  ordered_forks notes chosen os ds fine is =
+      let h = ordered_so (goes limit c (enough limit c)) (λ x e g. silently_goes limit c (enough limit c) x e g) notes chosen os ds fine is in
+      let e : Forked = record { dyn = record { cells = ds; turns = turns_of p.state.turns os; left = p.state.left; world = p.world }; how = h.0 } in (
+        h.0,
+        h.1,
+        λ m le. ap (λ s. at_site c s (goes limit c m) q p) at
+            ∙ ap (λ n. answering c (answer_of c site.kind q) (by_notes (goes limit c m) (λ d j. begins d j) top n (deal 0 0 (sizes_for p.world.plan site.kind q)) (raw_of p.state p.world))) notes
+            ∙ ap (answering c (answer_of c site.kind q)) (in_order_more (goes limit c (enough limit c)) (goes limit c m) (λ x f g. goes_by limit c (enough limit c) m x f le g) (λ d j. begins d j) top p.state.turns (deal 0 0 (sizes_for p.world.plan site.kind q)) (raw_of p.state p.world) p.state.turns false [] e h.2),
+      )
 
   -- of a path that runs its constructs in order
   pub ordered_comes : p.world.notes ≡ InOrder → (chosen : Option ℕ) (os : List (Over ThreadPath)) (ds : List Cell) → FineInOrder runs (starts_at limit c plan site q p.state) p.state.cells → IsOrdered runs (starts_at limit c plan site q p.state) p.state.cells chosen os ds →

@@ -16,4 +16,4 @@ mod Leavers
 pub mod Stoppings
 pub mod Hushes
 pub mod Enough
-mod Sums
+pub mod Sums

@@ -28,6 +28,10 @@ with_schedule notes p = record p { world = record p.world { notes = notes } }
 abbrev pub ForksTo : ℕ → Code → Asked → Path → Forked → Type 0
 ForksTo limit c q p r = (m : ℕ) → enough limit c ≤ m → fork c (goes limit c m) q p ≡ Some r
 
+-- the threads came to these cells, that count of turns, and that answer
+abbrev pub came_to : Code → CodeSite → Asked → Path → List Cell → ℕ → Result Gave Stop → Forked
+came_to c site q p ds turns how = record { dyn = record { cells = ds; turns = turns; left = p.state.left; world = p.world }; how = with_answer c (answer_of c site.kind q) how }
+
 -- the path goes on, when the threads came to these cells, that count of turns, and that answer
 abbrev pub answered_by : Code → CodeSite → Asked → Path → List Cell → ℕ → Result Gave Stop → Step
-answered_by c site q p ds turns how = fork_ended c (record { dyn = record { cells = ds; turns = turns; left = p.state.left; world = p.world }; how = with_answer c (answer_of c site.kind q) how }) p
+answered_by c site q p ds turns how = fork_ended c (came_to c site q p ds turns how) p

@@ -30,7 +30,7 @@ use Rattle.stack_code.specs.Stands.{IsForward, Stands, Forked}
 use Rattle.stack_code.specs.Valid.{IsValid}
 use Rattle.machine_paths.specs.Hushed.{IsHushed, BeginsLater, LeavesWell, GaveWell}
 use Rattle.machine_paths.specs.Starting.{thread_start, thread_starts}
-use Rattle.machine_paths.specs.Constructing.{starts_at, with_schedule, answered_by}
+use Rattle.machine_paths.specs.Constructing.{starts_at, with_schedule, ForksTo, came_to, answered_by}
 
 -- ---- a thread keeps to its view
 abbrev pub FrameLaw : Type 0
@@ -94,6 +94,15 @@ NestedLaw = (limit : ℕ) (c : Code) (plan : Plan) (q : Asked) (p : Path) (site 
     → (chosen : Option ℕ) (os : List (Over ThreadPath)) (ds : List Cell) → FineInOrder runs (starts_at limit c plan site q p.state) p.state.cells → IsOrdered runs (starts_at limit c plan site q p.state) p.state.cells chosen os ds
     → (how : Result Gave Stop) × AnswerOf chosen os how
     × Reaches limit c (Forks q p) (answered_by c site q p ds (turns_of p.state.turns os) how) × Leads limit c (Forks q p) (answered_by c site q p ds (turns_of p.state.turns os) how)
+
+-- what the threads of an outermost fork come to by that note, and what they come to in order, with so many steps and more
+abbrev pub ForkLaw : Type 0
+ForkLaw = (limit : ℕ) (c : Code) (plan : Plan) (q : Asked) (p : Path) (site : CodeSite) → slice_get c.sites q.site ≡ Some site → p.state.left ≡ None → p.world.plan ≡ cuts_of plan
+    → (chosen : Option ℕ) (os : List (Over ThreadPath)) (ds : List Cell)
+    → (Joined runs (starts_at limit c plan site q p.state) p.state.cells chosen os ds → (how : Result Gave Stop) × AnswerOf chosen os how
+    × ((ns : List ConstructNote) → ForksTo limit c q (with_schedule (ByNotes (note_by chosen os ∷ ns)) p) (came_to c site q (with_schedule (ByNotes ns) p) ds (turns_of p.state.turns os) how)))
+    × (p.world.notes ≡ InOrder → FineInOrder runs (starts_at limit c plan site q p.state) p.state.cells → IsOrdered runs (starts_at limit c plan site q p.state) p.state.cells chosen os ds
+    → (how : Result Gave Stop) × AnswerOf chosen os how × ForksTo limit c q p (came_to c site q p ds (turns_of p.state.turns os) how))
 
 -- ---- threads of hushed code
 -- where the machine's thread comes to an end in some number of steps, `runs` comes to it

@@ -3,7 +3,7 @@
 //! what is proved.
 #![tactic(auto)]
 
-ghost use Rattle.machine_paths.specs.Law.{AnswerLaw, AskLaw, ConstructLaw, EndLaw, EnoughLaw, FrameLaw, LeaveLaw, NestedLaw, NoteLaw, OrderLaw, RunLaw, StartLaw, StepLaw, StopLaw, WorldLaw};
+ghost use Rattle.machine_paths.specs.Law.{AnswerLaw, AskLaw, ConstructLaw, EndLaw, EnoughLaw, ForkLaw, FrameLaw, LeaveLaw, NestedLaw, NoteLaw, OrderLaw, RunLaw, StartLaw, StepLaw, StopLaw, WorldLaw};
 
 /// Laws of a thread's path of the machine (5.5, 5.6.1, 9.5), which runs the constructs in it in order and does no input or
 /// output: where it asks for some, it comes to nothing.
@@ -15,6 +15,7 @@ ghost use Rattle.machine_paths.specs.Law.{AnswerLaw, AskLaw, ConstructLaw, EndLa
 /// - starts: the machine's threads of a construct are such paths.
 /// - notes, orders: what workers answer of threads is what the machine does by the note that is told, or in order.
 /// - constructs, nested: so from a fork the path goes on with the answer that the workers gave.
+/// - forks: what the threads of a fork come to by that note, and in order.
 /// - enough: in valid, forward code whose threads ask for nothing, where the machine's thread comes to an end, this path
 ///   comes to it.
 /// - leaves, answers: no other than a raise leaves a reduction's thread, and the answer of a construct is of its kind.
@@ -31,6 +32,7 @@ pub fn laws()
     ensures orders { OrderLaw }
     ensures constructs { ConstructLaw }
     ensures nested { NestedLaw }
+    ensures forks { ForkLaw }
     ensures enough { EnoughLaw }
     ensures leaves { LeaveLaw }
     ensures answers { AnswerLaw }

@@ -5,7 +5,7 @@ use Rattle.typed_tree.specs.declared.program.Formal.{Formal}
 use Rattle.typed_tree.specs.declared.program.Mode.TheVariants as mode
 use Rattle.typed_tree.specs.declared.scalars.Scalar.{Scalar}
 use Rattle.typed_tree.specs.Syntax.{Value, Number, Cells, Stmt, ReturnValue, Reraise, IfThen, Case, Loop, For, ParallelFor, Parallel, Block, Stmts, End, Then, Alternatives, NoAlternative, Alternative, Arms, NoArm, Arm, Handlers, NoHandler, Handler, Sub, Program}
-use Rattle.ada_meaning.specs.Meaning.{arms_of, sub_at}
+use Rattle.ada_meaning.specs.Meaning.{arms_of, sub_at, most_threads}
 use Rattle.typed_scopes.specs.Scopes.{IsForward, IsLast, IsLastHandler}
 
 -- functions give scalars (6.5)
@@ -23,7 +23,7 @@ abbrev mutual
   OrderedStmt h (Loop number condition stmts) = OrderedAll h stmts
   OrderedStmt h (For number iteration stmts) = OrderedAll h stmts
   OrderedStmt h (ParallelFor number site chunk iteration stmts) = IsForward iteration × OrderedAll h stmts
-  OrderedStmt h (Parallel site count arms) = (1 ≤ arms_of arms) × (arms_of arms ≤ 4096) × OrderedArms h arms
+  OrderedStmt h (Parallel site count arms) = (1 ≤ arms_of arms) × (arms_of arms ≤ most_threads) × OrderedArms h arms
   OrderedStmt h (Block decls stmts handlers) = OrderedAll h stmts × OrderedHandlers handlers
   OrderedStmt h _ = Unit {0}
 

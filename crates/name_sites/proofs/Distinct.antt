@@ -1,4 +1,5 @@
--- The numbers of parallel constructs are distinct, since each is given out once and what is found is used once.
+-- The numbers of parallel constructs are distinct, since each is given out once and what is found is used once; and they are
+-- greater within the threads of others, since that is judged behind them.
 use Rattle.std.proofs.Common.{Some, arith, length, subst, ℕ, ◌+◌, ◌<◌, ◌≡◌, ◌≤◌}
 use Rattle.syntax_tree.specs.Syntax.{Program}
 use Rattle.typed_tree.specs.Syntax as typed
@@ -11,7 +12,9 @@ use Rattle.name_sites.proofs.Measures.{option-of}
 use Rattle.name_sites.proofs.Records.{whole-of}
 use Rattle.name_sites.proofs.SpendsPrograms.{s-program}
 use Rattle.name_sites.specs.Law.{SitesLaw}
-use Rattle.name_sites.specs.Sites.{in_program}
+use Rattle.name_sites.proofs.Counts.{in_program}
+use Rattle.name_sites.proofs.Nested.{nested-program}
+use Rattle.name_sites.proofs.Plain.{p-program}
 
 -- what is found holds a number at most once, and not at all where the number isn't given out in the end
 judged-once : (s : ℕ) (names : Names) (text : Program) → (option-of (whole-of s)).size (judged names text).0 + left s (judged names text).1 ≤ 1
@@ -26,9 +29,10 @@ program-once s names text program e =
 
 pub sites_law : SitesLaw
 sites_law = record {
-  distinct = λ names text program e s. omega (arith, program-once s names text program e);
+  distinct = λ names text program e s. omega (arith, p-program s program, program-once s names text program e);
   listed = λ names text program e s h.
       let log = (judged names text).1 in
       let r = typed-from log.faults log (judged names text).0 program e in
-      subst (λ p. s < length p.sites) r.2 (left-none s log (omega (arith, program-once s names text program e, h)));
+      subst (λ p. s < length p.sites) r.2 (left-none s log (omega (arith, p-program s program, program-once s names text program e, h)));
+  nested = λ names text program e. nested-program program (λ s. omega (arith, program-once s names text program e));
 }

@@ -11,7 +11,7 @@ use Rattle.name_rules.specs.declared.log.Rule.TheVariants.{Limit}
 use Rattle.name_rules.specs.declared.log.Rule.{Rule}
 use Rattle.name_laws.proofs.Walk.{Walk, Wide}
 use Rattle.name_laws.proofs.Walked.{WalksProfiles}
-use Rattle.name_sites.specs.Sites.{in_number}
+use Rattle.typed_sites.specs.Sites.{in_number}
 
 -- 1 where a number isn't given out yet
 abbrev pub left : ℕ → Log → ℕ

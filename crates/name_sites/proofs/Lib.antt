@@ -1,3 +1,4 @@
+pub mod Counts
 pub mod Measures
 pub mod Parts
 pub mod Leaving
@@ -22,4 +23,6 @@ pub mod SpendsCases
 pub mod SpendsDeclarations
 pub mod SpendsStatements
 pub mod SpendsPrograms
+pub mod Plain
+pub mod Nested
 pub mod Distinct

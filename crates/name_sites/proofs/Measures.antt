@@ -4,7 +4,7 @@ use Rattle.std.proofs.Common.{List, None, Option, Some, [], ℕ, ◌+◌, ◌∷
 use Rattle.typed_tree.specs.Decoded.{TypedPart, Cons, LeafCons, AnExpr, ASelection, AnActual, AValue, AComposite, AnAssociation, AnIteration, AChunk, APiece, ADecl, AStmt, AnAlternative, AHandler, ABody}
 use Rattle.typed_tree.specs.Syntax.{Actuals, Alternatives, Associations, Decls, Handlers, NoActual, NoAlternative, NoAssociation, NoDecl, NoHandler, NoPiece, Pieces, Selections, Whole}
 use Rattle.name_rules.specs.Found.{With}
-use Rattle.name_sites.specs.Sites.{in_actuals, in_alternatives, in_associations, in_body, in_chunk, in_composite, in_decls, in_expr, in_handlers, in_iteration, in_pieces, in_selections, in_stmt, in_value}
+use Rattle.name_sites.proofs.Counts.{in_actuals, in_alternatives, in_associations, in_body, in_chunk, in_composite, in_decls, in_expr, in_handlers, in_iteration, in_pieces, in_selections, in_stmt, in_value}
 
 abbrev pub part-size : ℕ → TypedPart → ℕ
 part-size s (Cons p q) = part-size s p + part-size s q

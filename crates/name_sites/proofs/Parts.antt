@@ -10,7 +10,7 @@ use Rattle.typed_tree.specs.declared.expressions.Reducer.TheVariants as reducer'
 use Rattle.typed_tree.specs.declared.scalars.Class.{Class}
 use Rattle.name_rules.specs.Iterations.{with_filter}
 use Rattle.name_rules.specs.TypedParts.{also_all, exprs_of, left_of, nested_stmts, right_of, selections_of}
-use Rattle.name_sites.specs.Sites.{in_actuals, in_alternatives, in_arms, in_associations, in_body, in_chunk, in_composite, in_decls, in_expr, in_exprs, in_handlers, in_iteration, in_optional, in_pieces, in_selections, in_stmt, in_stmts, in_value}
+use Rattle.name_sites.proofs.Counts.{again, again-more, in_actuals, in_alternatives, in_arms, in_associations, in_body, in_chunk, in_composite, in_decls, in_expr, in_exprs, in_filter, in_handlers, in_iteration, in_optional, in_pieces, in_selections, in_stmt, in_stmts, in_value}
 use Rattle.name_sites.proofs.Measures.{Formed, part-size}
 
 pub n-expr : (s : ℕ) (p : TypedPart) → in_expr s (as_expr p) ≤ part-size s p
@@ -173,10 +173,17 @@ n-with_class s c (typed.Group e) = n-with_class s c e
 n-with_class s c (typed.Unary at o b e) = n-with_class s c e
 n-with_class s c (typed.Binary at o b l r) = omega (arith, n-with_class s c l, n-with_class s c r)
 n-with_class s c (typed.If x v o) = omega (arith, n-with_class s c v, n-with_class s c o)
-n-with_class s c (typed.Reduction at a (reducer'.Operator n o b) initial site chunk iteration v) = omega (arith, n-with_class s c initial, n-with_class s c v)
+n-with_class s c (typed.Reduction at a (reducer'.Operator n o b) initial site chunk iteration v) =
+    let l = n-with_class s c v in
+    omega (arith, n-with_class s c initial, l, again-more s site (in_filter s iteration + in_expr s (with_class c v)) (in_filter s iteration + in_expr s v) (omega (arith, l)))
 n-with_class s c (typed.Reduction at a (reducer'.Function n x y z) initial site chunk iteration v) = omega arith
 n-with_class s c e = omega arith
 
 pub n-with_filter : (s : ℕ) (i : Iteration) (f : Optional) → in_iteration s (with_filter i f) ≤ in_iteration s i + in_optional s f
 n-with_filter s (typed.Range n b l h c g) f = omega arith
 n-with_filter s (typed.Components n c at r ss m d e g) f = omega arith
+
+-- a filter is part of what it stands in
+pub n-filter : (s : ℕ) (i : Iteration) → in_filter s i ≤ in_iteration s i
+n-filter s (typed.Range n b l h c f) = omega arith
+n-filter s (typed.Components n c at r ss m d e f) = omega arith

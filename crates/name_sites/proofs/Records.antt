@@ -16,7 +16,8 @@ use Rattle.name_rules.specs.declared.scope.Context.{Context}
 use Rattle.name_rules.specs.declared.types.Wanted.{Wanted}
 use Rattle.name_laws.proofs.Walk.{Keeps}
 use Rattle.name_laws.proofs.Walked.{KeepsAround, KeepsInside}
-use Rattle.name_sites.specs.Sites.{in_body, in_number, in_subs}
+use Rattle.typed_sites.specs.Sites.{in_number}
+use Rattle.name_sites.proofs.Counts.{in_body, in_subs}
 use Rattle.name_sites.proofs.Leaving.{leaving}
 use Rattle.name_sites.proofs.Measures.{ListWhole, Measure, counted-by, list-size, option-of, part-measure, with-part}
 use Rattle.name_sites.proofs.Spends.{Spends}

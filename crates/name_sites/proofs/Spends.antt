@@ -1,20 +1,27 @@
 -- Judging that gives out sites: what it finds holds a number no more often than what it was given, and once more where the
 -- number is given out on the way.
-use Rattle.std.proofs.Common.{Bool, None, Option, Some, arith, false, if◌then◌else◌, length, length-append, option_map, true, ℕ, ◌+◌, ◌≤◌}
+use Rattle.std.proofs.Common.{Bool, None, Option, Some, arith, false, if◌then◌else◌, leb-true, length, length-append, nat_le, option_map, refl, true, ℕ, ◌+◌, ◌<◌, ◌∷◌, ◌≡◌, ◌≤◌, []}
 use Rattle.typed_tree.specs.declared.program.SiteKind.{SiteKind}
 use Rattle.name_rules.specs.Judging.{Judging, ◌>>=◌, both, clean, fault, given, joined, pure, read, some, where_clean}
 use Rattle.name_rules.specs.Parts.{new_site}
 use Rattle.name_rules.specs.declared.log.Log.{Log}
 use Rattle.name_rules.specs.declared.log.Rule.{Rule}
 use Rattle.name_rules.specs.declared.scope.Context.{Context}
-use Rattle.name_sites.specs.Sites.{in_number}
+use Rattle.typed_sites.specs.Sites.{in_number}
 use Rattle.name_rules.specs.Iterations.{only_reduce_rules}
 use Rattle.name_laws.proofs.Walk.{Keeps}
 use Rattle.name_sites.proofs.Leaving.{leaving, left, left-falls, number-given}
 use Rattle.name_sites.proofs.Measures.{Measure, counted-by, first-of, option-of}
 
+abbrev pub SpendsAt : (s : ℕ) {A : Type 0} → Measure A → ℕ → Judging A → Log → Type 0
+SpendsAt s m n p log = m.Whole (p log).0 × (m.size (p log).0 + left s (p log).1 ≤ n + left s log)
+
 pub record Spends (s : ℕ) {A : Type 0} (m : Measure A) (n : ℕ) (p : Judging A) : Type 0 where
-  pub at : (log : Log) → m.Whole (p log).0 × (m.size (p log).0 + left s (p log).1 ≤ n + left s log)
+  pub at : (log : Log) → SpendsAt s m n p log
+
+pub at-if : (s : ℕ) {A : Type 0} (m : Measure A) (n : ℕ) (b : Bool) (p q : Judging A) (log : Log) → SpendsAt s m n p log → SpendsAt s m n q log → SpendsAt s m n (if b then p else q) log
+at-if s m n true p q log h k = h
+at-if s m n false p q log h k = k
 
 -- what holds no more than so many
 abbrev pub Holds : {A : Type 0} → Measure A → ℕ → A → Type 0
@@ -155,3 +162,15 @@ h-joined-any r k g (Some a) (Some b) f = f a b
 
 pub s-new_site : (s : ℕ) (here : Context) (at : ℕ) (k : SiteKind) → Spends s (counted-by (λ n. in_number s n)) 0 (new_site here at k)
 s-new_site s here at k = record { at = λ log. (tt, omega (arith, number-given s (length log.sites) (length (new_site here at k log).1.sites) (length-append log.sites _))) }
+
+-- a number is given out no more once it is that of a site
+pub left-given : (s n : ℕ) (log : Log) → n < length log.sites → s ≤ n → left s log ≤ 0
+left-given s n log h l = by (nat_le (length log.sites) s) refl
+  where
+    by : (b : Bool) → nat_le (length log.sites) s ≡ b → (if b then 1 else 0) ≤ 0
+    by true e = absurd (omega (arith, leb-true (length log.sites) s e, h, l))
+    by false e = omega arith
+
+-- a number that is given out is that of a site
+pub number-next : (here : Context) (at : ℕ) (k : SiteKind) (log : Log) → length log.sites < length (new_site here at k log).1.sites
+number-next here at k log = omega (arith, length-append log.sites (record { at = at; around = here.owner; kind = k } ∷ []))

@@ -47,7 +47,7 @@ use Rattle.name_sites.proofs.Measures.{counted-by, list-of, maybe-known, maybe-p
 use Rattle.name_sites.proofs.Parts.{n-also_all, n-expr, n-indexes_in, n-selections_of, w-also_all, w-indexes_in}
 use Rattle.name_sites.proofs.Records.{SpendsInside}
 use Rattle.name_sites.proofs.Spends.{Holds, Spends, h-joined, h-map, s-bind, s-fault, s-given, s-given-any, s-if, s-le, s-pure, s-some, s-then, s-where_clean}
-use Rattle.name_sites.specs.Sites.{in_expr}
+use Rattle.name_sites.proofs.Counts.{in_expr}
 
 pub s-attribute_found : (which : ℕ) (x0 : Denoted) (x1 : ℕ) (x2 : Option Attribute) → (with-part which).Whole x0 → Spends which (maybe-known which) (part-size which x0.part) (attribute_found x0 x1 x2)
 s-attribute_found which d at None h0 = s-fault which (with-part which) _ at Unknown

@@ -43,7 +43,7 @@ use Rattle.name_sites.proofs.Measures.{counted-by, list-of, maybe-known, maybe-p
 use Rattle.name_sites.proofs.Parts.{n-actuals, n-expr, n-selections_of, n-turned, n-value, w-turned}
 use Rattle.name_sites.proofs.Records.{SpendsInside, calling-of, list-sum, list-whole}
 use Rattle.name_sites.proofs.Spends.{Holds, Spends, h-joined, s-bind, s-fault, s-given, s-if, s-le, s-pure, s-some, s-then, s-where_clean}
-use Rattle.name_sites.specs.Sites.{in_selections}
+use Rattle.name_sites.proofs.Counts.{in_selections}
 
 pub z-scalar_actual : (which : ℕ) (t : Taken) (s : Scalar) (p : ObjectName) (ss : Selections) (u : Scalar) → Unit {0} → Holds (part-measure which) (in_selections which ss) (scalar_actual t s p ss u)
 z-scalar_actual which t s p ss u h = by (is_out t.mode)

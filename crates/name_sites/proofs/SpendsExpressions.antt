@@ -37,7 +37,7 @@ use Rattle.name_sites.proofs.Measures.{counted-by, maybe-known, maybe-part, part
 use Rattle.name_sites.proofs.Parts.{n-expr}
 use Rattle.name_sites.proofs.Records.{SpendsInside}
 use Rattle.name_sites.proofs.Spends.{Holds, Spends, h-joined, h-map, s-bind, s-fault, s-given, s-if, s-le, s-pure, s-some, s-then}
-use Rattle.name_sites.specs.Sites.{in_expr}
+use Rattle.name_sites.proofs.Counts.{in_expr}
 
 pub s-factor : (which : ℕ) (x0 : Inside) (x1 : Context) (x2 : Wanted) (x3 : Factor) → SpendsInside which x0 → Spends which (maybe-known which) 0 (factor x0 x1 x2 x3)
 unfolding factor

@@ -10,7 +10,7 @@ use Rattle.name_rules.specs.Found.{Found, composite, denote, opened, parameter_f
 use Rattle.std.proofs.Common.{arith}
 use Rattle.name_sites.proofs.Measures.{counted-by, part-measure, part-size, with-part}
 use Rattle.name_sites.proofs.Spends.{Holds}
-use Rattle.name_sites.specs.Sites.{in_composite, in_expr}
+use Rattle.name_sites.proofs.Counts.{in_composite, in_expr}
 
 pub z-universal : (which : ℕ) (x0 : ℕ) (x1 : ℤ) (x2 : Bool) (x3 : TypedPart) → (part-measure which).Whole x3 → Holds (with-part which) (part-size which x3) (universal x0 x1 x2 x3)
 z-universal which first z alone ms h3 = (h3, omega arith)

@@ -6,13 +6,14 @@ use Rattle.name_rules.specs.Judging.{both, breaks, given, joined, pure, unless, 
 use Rattle.name_rules.specs.Names.{denoted_first, index, is_array}
 use Rattle.name_rules.specs.Parts.{array_shape, new_parameter, new_site}
 use Rattle.name_rules.specs.Ranges.{range}
-use Rattle.name_rules.specs.Reducers.{reducer_of}
+use Rattle.name_rules.specs.Reducers.{folded_by, reducer_of}
 use Rattle.name_rules.specs.Symbols.{symbol}
 use Rattle.name_rules.specs.declared.found.Attribute.{Attribute}
 use Rattle.name_rules.specs.declared.found.Denoted.TheVariants as denoted
 use Rattle.name_rules.specs.declared.found.Denoted.{Denoted as KnownDenoted}
 use Rattle.name_rules.specs.declared.found.Folding.{Folding}
 use Rattle.name_rules.specs.declared.found.Found.TheVariants as known
+use Rattle.name_rules.specs.declared.found.Found.{Found as Known}
 use Rattle.name_rules.specs.declared.found.ObjectName.{ObjectName}
 use Rattle.name_rules.specs.declared.log.Log.{Log}
 use Rattle.name_rules.specs.declared.log.Rule.TheVariants.{ReduceRule, Unknown, WrongType}
@@ -26,7 +27,7 @@ use Rattle.typed_tree.specs.Syntax as typed
 use Rattle.typed_tree.specs.Syntax.{Selections}
 use Rattle.typed_tree.specs.declared.program.SiteKind.TheVariants as site
 use Rattle.typed_tree.specs.declared.program.SiteKind.{SiteKind}
-use Rattle.std.specs.Prelude.{Bool, None, Option, Some, if◌then◌else◌, is_some, length, not, option_map, ℕ, ◌+◌, ◌||◌}
+use Rattle.std.specs.Prelude.{Bool, None, Option, Some, if◌then◌else◌, is_some, length, not, option_map, ℕ, ◌+◌, ◌<◌, ◌≤◌, ◌||◌}
 use Rattle.typed_tree.specs.Decoded as part
 use Rattle.name_rules.specs.TypedParts.{selections_of}
 use Rattle.typed_tree.specs.Decoded.{TypedPart, as_iteration, as_optional}
@@ -40,14 +41,15 @@ use Rattle.name_laws.proofs.Walk.{k-breaks, k-unless}
 use Rattle.name_sites.proofs.SpendsExpressions.{s-condition, s-expr, s-simple}
 use Rattle.name_sites.proofs.SpendsParts.{z-through}
 use Rattle.name_sites.proofs.SpendsRanges.{s-range}
-use Rattle.name_sites.proofs.SpendsReducers.{s-folded_by}
+use Rattle.name_sites.proofs.SpendsReducers.{t-folded_by}
 use Rattle.name_sites.proofs.SpendsValues.{s-any_integer}
-use Rattle.name_sites.proofs.Leaving.{leaving}
+use Rattle.name_sites.proofs.Leaving.{leaving, left, left-falls}
 use Rattle.name_sites.proofs.Measures.{counted-by, first-of, maybe-known, maybe-part, part-measure, part-size, second-of, with-part}
-use Rattle.name_sites.proofs.Parts.{n-expr, n-iteration, n-optional, n-selections_of, n-sides, n-with_filter}
+use Rattle.name_sites.proofs.Parts.{n-expr, n-filter, n-iteration, n-optional, n-selections_of, n-sides, n-with_filter}
 use Rattle.name_sites.proofs.Records.{SpendsInside, chunked-of, entered-of, site-of, walked-of}
-use Rattle.name_sites.proofs.Spends.{Holds, Spends, h-joined, h-map, s-bind, s-both, s-given, s-given-any, s-if, s-le, s-log, s-new_site, s-only_reduce_rules, s-pure, s-some, s-then}
-use Rattle.name_sites.specs.Sites.{in_number, in_selections}
+use Rattle.name_sites.proofs.Spends.{Holds, Spends, SpendsAt, h-joined, h-map, left-given, number-next, s-bind, s-given, s-none, s-if, s-le, s-log, s-new_site, s-only_reduce_rules, s-pure, s-some, s-then}
+use Rattle.typed_sites.specs.Sites.{in_number}
+use Rattle.name_sites.proofs.Counts.{again, again-more, again-none, in_filter, in_selections}
 
 pub z-counted : (which : ℕ) (x0 : TypedPart) → (part-measure which).Whole x0 → Holds (part-measure which) (part-size which x0) (counted x0)
 z-counted which e h0 = (tt, omega (arith, n-expr which e))
@@ -148,21 +150,62 @@ s-entered which names level inner here k (syntax.PresentParallel p) i h1 h2 =
     s-bind which (chunked-of which) (entered-of which) 0 (in_number which n) _ (chunked_by inner here p) _ (s-le which (chunked-of which) _ _ _ (s-chunked_by which inner here p h2) (omega arith)) (omega arith) (λ c held2.
     s-le which (entered-of which) _ _ _ (s-entered_with which names level here (Some n) (length here.scope) c i h1 held1 held2) (omega arith)))
 
-pub s-sequence_given : (which : ℕ) (x0 : ℕ) (x1 : ℕ) (x2 : Entered) (x3 : Folding) (x4 : Found) (x5 : Found) → (site-of which).Whole x2.construct → (maybe-part which).Whole x2.chunk → (maybe-part which).Whole x2.iteration → (with-part which).Whole x4 → (with-part which).Whole x5 → Spends which (maybe-known which) ((site-of which).size x2.construct + (maybe-part which).size x2.chunk + (maybe-part which).size x2.iteration + part-size which x4.part + part-size which x5.part) (sequence_given x0 x1 x2 x3 x4 x5)
-s-sequence_given which bracket attribute e f x v h2-construct h2-chunk h2-iteration h4 h5 =
-    s-both which (part-measure which) (part-measure which) (with-part which) ((site-of which).size e.construct + part-size which x.part + part-size which v.part) _ e.chunk e.iteration _ h2-chunk h2-iteration (omega arith) (λ c held1 i held2.
-    s-le which (maybe-known which) _ _ _ (s-folded_by which (record { at = bracket; attribute = attribute; site = e.construct }) c i f x v h2-construct held1 held2 h4 h5) (omega arith))
+-- what stands in the threads of a construct that is entered, and what is judged from then on, has greater numbers alone
+pub late-entered : (which : ℕ) (x0 : Names) (x1 : Inside) (x2 : Inside) (x3 : Context) (x4 : SiteKind) (x5 : OptionalParallel) (x6 : Iter) → SpendsInside which x1 → SpendsInside which x2 → (log : Log)
+    → again which (entered x0 x1 x2 x3 x4 x5 x6 log).0.construct ((maybe-part which).size (entered x0 x1 x2 x3 x4 x5 x6 log).0.iteration + left which (entered x0 x1 x2 x3 x4 x5 x6 log).1) ≤ 0
+unfolding entered entered_with
+late-entered which names level inner here k syntax.AbsentParallel i h1 h2 log = omega arith
+late-entered which names level inner here k (syntax.PresentParallel p) i h1 h2 log =
+    let n = length log.sites in
+    let log1 = (new_site here (parallel_at p) k log).1 in
+    let two = (s-chunked_by which inner here p h2).at log1 in
+    let c = (chunked_by inner here p log1).0 in
+    let three = (s-entered_with which names level here (Some n) (length here.scope) c i h1 tt two.0).at (chunked_by inner here p log1).1 in
+    let lt : n < length log1.sites = number-next here (parallel_at p) k log in
+    again-none which n _ (λ l. omega (arith, three.1, two.1, left-given which n log1 lt l))
+
+-- the reduction of what was entered, judged where all else is
+pub t-sequence_given : (which : ℕ) (x0 : ℕ) (x1 : ℕ) (x2 : Entered) (x3 : Folding) (x4 : Found) (x5 : Found) → (with-part which).Whole x4 → (with-part which).Whole x5 → (log : Log)
+    → again which x2.construct ((maybe-part which).size x2.iteration + (part-size which x4.part + left which log)) ≤ 0
+    → SpendsAt which (maybe-known which) ((site-of which).size x2.construct + (maybe-part which).size x2.chunk + (maybe-part which).size x2.iteration + part-size which x4.part + part-size which x5.part) (sequence_given x0 x1 x2 x3 x4 x5) log
+t-sequence_given which bracket attribute e f x v h4 h5 log late = go e.chunk e.iteration late
+  where
+    go : (c i : Option TypedPart) → again which e.construct ((maybe-part which).size i + (part-size which x.part + left which log)) ≤ 0
+        → SpendsAt which (maybe-known which) ((site-of which).size e.construct + (maybe-part which).size c + (maybe-part which).size i + part-size which x.part + part-size which v.part) (both c i (λ c i. folded_by (record { at = bracket; attribute = attribute; site = e.construct }) c i f x v)) log
+    go None i l = (s-none which (with-part {K = Known} which) _).at log
+    go (Some c) None l = (s-none which (with-part {K = Known} which) _).at log
+    go (Some c) (Some i) l =
+        t-folded_by which (record { at = bracket; attribute = attribute; site = e.construct }) c i f x v h4 h5 log
+        (let more = again-more which e.construct (in_filter which (as_iteration i) + (part-size which x.part + left which log)) (part-size which i + (part-size which x.part + left which log)) (omega (arith, n-filter which (as_iteration i), n-iteration which i)) in omega (arith, more, l))
+
+t-sequence_both : (which : ℕ) (x0 : ℕ) (x1 : ℕ) (x2 : Entered) (x3 : Option Folding) (x4 : Option Found) (x5 : Option Found) → (maybe-known which).Whole x4 → (maybe-known which).Whole x5 → (log : Log)
+    → again which x2.construct ((maybe-part which).size x2.iteration + ((maybe-known which).size x4 + left which log)) ≤ 0
+    → SpendsAt which (maybe-known which) ((site-of which).size x2.construct + (maybe-part which).size x2.chunk + (maybe-part which).size x2.iteration + (maybe-known which).size x4 + (maybe-known which).size x5) (given x3 (λ g. both x4 x5 (sequence_given x0 x1 x2 g))) log
+t-sequence_both which bracket attribute e None x v h4 h5 log late = (s-none which (with-part {K = Known} which) _).at log
+t-sequence_both which bracket attribute e (Some g) None v h4 h5 log late = (s-none which (with-part {K = Known} which) _).at log
+t-sequence_both which bracket attribute e (Some g) (Some x) None h4 h5 log late = (s-none which (with-part {K = Known} which) _).at log
+t-sequence_both which bracket attribute e (Some g) (Some x) (Some v) h4 h5 log late = t-sequence_given which bracket attribute e g x v h4 h5 log late
 
 pub s-sequence_folded : (which : ℕ) (x0 : Names) (x1 : Inside) (x2 : Context) (x3 : ℕ) (x4 : OptionalParallel) (x5 : Iter) (x6 : Expr) (x7 : ℕ) (x8 : Expr) (x9 : Expr) → SpendsInside which x1 → Spends which (second-of (maybe-known which)) 0 (sequence_folded x0 x1 x2 x3 x4 x5 x6 x7 x8 x9)
-s-sequence_folded which names level here bracket p i value attribute reducer initial h1 =
-    s-then which (second-of (maybe-known which)) _ (reducer_of names level here reducer) _ (k-reducer_of leaving names level here reducer tt h1.keeps) (λ f.
-    s-bind which (entered-of which) (second-of (maybe-known which)) 0 0 _ (entered names level level here site.Reduction p i) _ (s-le which (entered-of which) _ _ _ (s-entered which names level level here site.Reduction p i h1 h1) (omega arith)) (omega arith) (λ e held2.
-    s-bind which (maybe-known which) (second-of (maybe-known which)) 0 ((site-of which).size e.construct + (maybe-part which).size e.chunk + (maybe-part which).size e.iteration) _ (expr names level e.here wanted.Other value) _ (s-le which (maybe-known which) _ _ _ (s-expr which names level e.here wanted.Other value h1) (omega arith)) (omega arith) (λ x held3.
-    s-bind which (maybe-known which) (second-of (maybe-known which)) 0 ((maybe-known which).size x + (site-of which).size e.construct + (maybe-part which).size e.chunk + (maybe-part which).size e.iteration) _ (expr names level here wanted.Other initial) _ (s-le which (maybe-known which) _ _ _ (s-expr which names level here wanted.Other initial h1) (omega arith)) (omega arith) (λ v held4.
-    s-bind which (maybe-known which) (second-of (maybe-known which)) ((maybe-known which).size x + (maybe-known which).size v + (site-of which).size e.construct + (maybe-part which).size e.chunk + (maybe-part which).size e.iteration) 0 _ (given f (λ g. both x v (sequence_given bracket attribute e g))) _ (s-given-any which (with-part which) _ f _ (λ g.
-    s-both which (with-part which) (with-part which) (with-part which) ((site-of which).size e.construct + (maybe-part which).size e.chunk + (maybe-part which).size e.iteration) _ x v _ held3 held4 (omega arith) (λ one held7 other held8.
-    s-le which (maybe-known which) _ _ _ (s-sequence_given which bracket attribute e g one other held2.0 held2.1 held2.2 held7 held8) (omega arith)))) (omega arith) (λ z held5.
-    s-pure which (second-of (maybe-known which)) _ (e.reverse, z) (held5, omega arith))))))
+s-sequence_folded which names level here bracket p i value attribute reducer initial h1 = record {
+  at = λ log.
+      let f = (reducer_of names level here reducer log).0 in
+      let log1 = (reducer_of names level here reducer log).1 in
+      let fall = left-falls which log log1 ((k-reducer_of leaving names level here reducer tt h1.keeps).at log) in
+      let one = (s-entered which names level level here site.Reduction p i h1 h1).at log1 in
+      let e = (entered names level level here site.Reduction p i log1).0 in
+      let log2 = (entered names level level here site.Reduction p i log1).1 in
+      let late = late-entered which names level level here site.Reduction p i h1 h1 log1 in
+      let two = (s-expr which names level e.here wanted.Other value h1).at log2 in
+      let x = (expr names level e.here wanted.Other value log2).0 in
+      let log3 = (expr names level e.here wanted.Other value log2).1 in
+      let three = (s-expr which names level here wanted.Other initial h1).at log3 in
+      let v = (expr names level here wanted.Other initial log3).0 in
+      let log4 = (expr names level here wanted.Other initial log3).1 in
+      let more = again-more which e.construct ((maybe-part which).size e.iteration + ((maybe-known which).size x + left which log4)) ((maybe-part which).size e.iteration + left which log2) (omega (arith, two.1, three.1)) in
+      let four = t-sequence_both which bracket attribute e f x v two.0 three.0 log4 (omega (arith, more, late)) in
+      (four.0, omega (arith, four.1, three.1, two.1, one.1, fall));
+}
 
 pub s-sequence_rules : (which : ℕ) (x0 : ℕ) (x1 : Option Attribute) (x2 : ((Option ℕ) × (Option Found)) × Bool) → (maybe-known which).Whole x2.0.1 → Spends which (maybe-known which) ((maybe-known which).size x2.0.1) (sequence_rules x0 x1 x2)
 s-sequence_rules which attribute a p h2-0-1 =

@@ -30,7 +30,7 @@ use Rattle.name_sites.proofs.Leaving.{leaving}
 use Rattle.name_sites.proofs.Measures.{counted-by, maybe-known, maybe-part, option-of, part-measure, part-size, second-of, with-part}
 use Rattle.name_sites.proofs.Parts.{n-also_all, n-expr, n-exprs_of, w-also_all}
 use Rattle.name_sites.proofs.Spends.{Holds, Spends, h-joined, h-map, s-bind, s-both, s-both-first, s-fault, s-given, s-if, s-le, s-pure, s-some, s-then}
-use Rattle.name_sites.specs.Sites.{in_expr}
+use Rattle.name_sites.proofs.Counts.{in_expr}
 
 pub s-static_of : (which : ℕ) (x0 : ℕ) (x1 : Kind) (x2 : TypedPart) (x3 : Option ℤ) → (part-measure which).Whole x2 → Spends which (maybe-known which) (part-size which x2) (static_of x0 x1 x2 x3)
 unfolding static_of

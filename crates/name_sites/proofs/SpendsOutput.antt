@@ -45,7 +45,7 @@ use Rattle.name_sites.proofs.Measures.{Measure, counted-by, maybe-known, maybe-p
 use Rattle.name_sites.proofs.Parts.{n-expr, n-pieces, n-selections_of, n-turned, w-turned}
 use Rattle.name_sites.proofs.Records.{SpendsInside, putting-of}
 use Rattle.name_sites.proofs.Spends.{Holds, Spends, h-if, h-joined, h-map, s-bind, s-fault, s-given, s-given-any, s-if, s-le, s-pure, s-some, s-then, s-where_clean}
-use Rattle.name_sites.specs.Sites.{in_selections, in_stmt}
+use Rattle.name_sites.proofs.Counts.{in_selections, in_stmt}
 
 pub z-done_by : (which : ℕ) (x0 : ℕ) (x1 : TypedStmt) → (counted-by (λ x. in_stmt which x)).Whole x1 → Holds (with-part which) (in_stmt which x1) (done_by x0 x1)
 z-done_by which first s h1 =

@@ -1,7 +1,7 @@
 -- Judging that gives out sites: parts of names.
 use Rattle.name_rules.specs.Attributes.{attribute_at, bound_with, dimensions_in, is_array_object, is_bound, is_reduction, mentioned, prefix_subtype, settled_attribute}
 use Rattle.name_rules.specs.Expressions.{Inside, expr}
-use Rattle.name_rules.specs.Found.{Denoted, denote, parameter_found, value_denoted}
+use Rattle.name_rules.specs.Found.{Denoted, Found, denote, parameter_found, value_denoted}
 use Rattle.name_rules.specs.Judging.{both, given, read, ◌>>=◌}
 use Rattle.name_rules.specs.Names.{args_alone, denoted_first, wrong_call}
 use Rattle.name_rules.specs.Reducers.{folded_by, reducer_of}
@@ -12,7 +12,9 @@ use Rattle.name_rules.specs.declared.found.Attribute.TheVariants as attribute'
 use Rattle.name_rules.specs.declared.found.Attribute.{Attribute}
 use Rattle.name_rules.specs.declared.found.Denoted.TheVariants as denoted
 use Rattle.name_rules.specs.declared.found.Denoted.{Denoted as KnownDenoted}
+use Rattle.name_rules.specs.declared.found.Folding.{Folding}
 use Rattle.name_rules.specs.declared.found.Found.TheVariants as known
+use Rattle.name_rules.specs.declared.found.Found.{Found as Known}
 use Rattle.name_rules.specs.declared.found.ObjectName.{ObjectName}
 use Rattle.name_rules.specs.declared.found.Prefix.TheVariants as prefix
 use Rattle.name_rules.specs.declared.found.Prefix.{Prefix}
@@ -28,13 +30,13 @@ use Rattle.syntax_tree.specs.Syntax as syntax
 use Rattle.syntax_tree.specs.Syntax.{Args, Expr, Name, NamePart, NameParts}
 use Rattle.typed_tree.specs.Decoded as part
 use Rattle.typed_tree.specs.Syntax as typed
-use Rattle.typed_tree.specs.Syntax.{Optional, Selections}
+use Rattle.typed_tree.specs.Syntax.{Iteration, Optional, Selections}
 use Rattle.typed_tree.specs.declared.program.SiteKind.TheVariants as site
 use Rattle.std.specs.Prelude.{Bool, None, Option, Some, false, option_map, true, ℕ, ◌+◌}
 use Rattle.name_rules.specs.TypedParts.{selections_of}
 use Rattle.typed_tree.specs.Decoded.{TypedPart}
 use Rattle.name_rules.specs.Parts.{array_reduced, array_reduction, array_shape, attribute_with, call, call_form, is_parallel, item_found, name, new_parameter, new_site, next_part, of_array, other_with, part_alone, part_of, parts, reduced_with, site_where, through, value_form, value_named, valued_by, valued_form, wrong_arguments}
-use Rattle.std.proofs.Common.{arith}
+use Rattle.std.proofs.Common.{arith, length, refl, ◌≡◌, ◌≤◌}
 use Rattle.name_laws.proofs.KeepsNames.{k-args_alone}
 use Rattle.name_laws.proofs.KeepsParts.{k-new_parameter}
 use Rattle.name_laws.proofs.KeepsReducers.{k-reducer_of}
@@ -45,14 +47,15 @@ use Rattle.name_sites.proofs.SpendsExpressions.{s-expr}
 use Rattle.name_sites.proofs.SpendsFound.{z-denote, z-parameter_found, z-value_denoted}
 use Rattle.name_sites.proofs.SpendsNames.{s-field, s-object_call, s-wrong_call}
 use Rattle.name_sites.proofs.SpendsOutput.{s-io_call}
-use Rattle.name_sites.proofs.SpendsReducers.{s-folded_by}
+use Rattle.name_sites.proofs.SpendsReducers.{t-folded_by}
 use Rattle.name_sites.proofs.SpendsScope.{s-stands_for}
-use Rattle.name_sites.proofs.Leaving.{leaving}
+use Rattle.name_sites.proofs.Leaving.{leaving, left, left-falls}
 use Rattle.name_sites.proofs.Measures.{counted-by, maybe-known, part-measure, part-size, with-part}
 use Rattle.name_sites.proofs.Parts.{n-selections_of}
 use Rattle.name_sites.proofs.Records.{SpendsInside, site-of}
-use Rattle.name_sites.proofs.Spends.{Holds, Spends, h-map, s-bind, s-both-second, s-fault, s-given, s-if, s-le, s-new_site, s-pure, s-read, s-some, s-then, s-where_clean-any}
-use Rattle.name_sites.specs.Sites.{in_iteration, in_number, in_optional, in_selections}
+use Rattle.name_sites.proofs.Spends.{Holds, Spends, SpendsAt, h-map, left-given, number-next, s-none, s-bind, s-both-second, s-fault, s-given, s-if, s-le, s-new_site, s-pure, s-read, s-some, s-then, s-where_clean-any}
+use Rattle.typed_sites.specs.Sites.{in_number}
+use Rattle.name_sites.proofs.Counts.{again, again-more, again-none, in_filter, in_iteration, in_optional, in_selections}
 
 pub s-site_where : (which : ℕ) (x0 : Context) (x1 : ℕ) (x2 : Bool) → Spends which (site-of which) 0 (site_where x0 x1 x2)
 s-site_where which here at false = s-pure which (site-of which) _ None (tt, omega arith)
@@ -66,21 +69,42 @@ z-through which log p ss t n f h2 h5 = (tt, omega arith)
 pub z-item_found : (which : ℕ) (x0 : ℕ) (x1 : ℕ) (x2 : Bool) (x3 : Option Subtype) → Holds (with-part which) 0 (item_found x0 x1 x2 x3)
 z-item_found which first n v s = (tt, omega arith)
 
+late-where : (which : ℕ) (here : Context) (token : ℕ) (b : Bool) (log : Log) → again which (site_where here token b log).0 (left which (site_where here token b log).1) ≤ 0
+late-where which here token false log = omega arith
+late-where which here token true log = again-none which (length log.sites) _ (λ l. left-given which (length log.sites) (new_site here token site.Reduction log).1 (number-next here token site.Reduction log) l)
+
 pub s-array_reduction : (which : ℕ) (x0 : Names) (x1 : Inside) (x2 : Context) (x3 : ObjectName) (x4 : Selections) (x5 : ℕ) (x6 : Attribute) (x7 : Expr) (x8 : Expr) → SpendsInside which x1 → (counted-by (λ x. in_selections which x)).Whole x4 → Spends which (maybe-known which) (in_selections which x4) (array_reduction x0 x1 x2 x3 x4 x5 x6 x7 x8)
-s-array_reduction which names inside here p ss at a r v h1 h4 =
-    s-bind which (site-of which) (maybe-known which) 0 (in_selections which ss) _ (site_where here p.first (is_parallel a)) _ (s-le which (site-of which) _ _ _ (s-site_where which here p.first (is_parallel a)) (omega arith)) (omega arith) (λ construct held1.
-    s-then which (maybe-known which) _ new_parameter _ (k-new_parameter leaving) (λ n.
-    s-bind which (counted-by (λ x. in_iteration which x)) (maybe-known which) (in_selections which ss) ((site-of which).size construct) _ (read (λ log. through log p ss (array_shape log p.subtype) n typed.Absent)) _ (s-read which (counted-by (λ x. in_iteration which x)) _ (λ log. through log p ss (array_shape log p.subtype) n typed.Absent) (λ log. let made14 = z-through which log p ss (array_shape log p.subtype) n typed.Absent h4 tt in
-    (made14.0, omega (arith, made14.1)))) (omega arith) (λ i held3.
-    s-then which (maybe-known which) _ (read (λ log. component_of (array_shape log p.subtype))) _ (k-read leaving (λ log. component_of (array_shape log p.subtype))) (λ c.
-    s-then which (maybe-known which) _ (reducer_of names inside here r) _ (k-reducer_of leaving names inside here r tt h1.keeps) (λ f.
-    s-bind which (maybe-known which) (maybe-known which) 0 ((site-of which).size construct + in_iteration which i) _ (expr names inside here wanted.Other v) _ (s-le which (maybe-known which) _ _ _ (s-expr which names inside here wanted.Other v h1) (omega arith)) (omega arith) (λ x held6.
-    s-bind which (maybe-known which) (maybe-known which) ((maybe-known which).size x + (site-of which).size construct + in_iteration which i) 0 _ (both f x (λ g. folded_by (record { at = p.first; attribute = at; site = construct }) part.Nothing (part.AnIteration i) g (item_found p.first n p.variable c))) _ (s-both-second which (with-part which) (with-part which) ((site-of which).size construct + in_iteration which i) _ f x _ held6 (omega arith) (λ g other held12.
-    let made13 = z-item_found which p.first n p.variable c in
-    s-le which (maybe-known which) _ _ _ (s-folded_by which (record { at = p.first; attribute = at; site = construct }) part.Nothing (part.AnIteration i) g (item_found p.first n p.variable c) other held1 tt tt made13.0 held12) (omega (arith, made13.1)))) (omega arith) (λ y held7.
-    s-pure which (maybe-known which) _ (option_map value_denoted y) (let made10 = h-map (with-part which) (with-part which) 0 value_denoted y held7 (λ item held8. let made9 = z-value_denoted which item held8 in
-    (made9.0, omega (arith, made9.1))) in
-    (made10.0, omega (arith, made10.1))))))))))
+s-array_reduction which names inside here p ss at a r v h1 h4 = record {
+  at = λ log.
+      let one = (s-site_where which here p.first (is_parallel a)).at log in
+      let construct = (site_where here p.first (is_parallel a) log).0 in
+      let log1 = (site_where here p.first (is_parallel a) log).1 in
+      let late = late-where which here p.first (is_parallel a) log in
+      let n = (new_parameter log1).0 in
+      let log2 = (new_parameter log1).1 in
+      let i = through log2 p ss (array_shape log2 p.subtype) n typed.Absent in
+      let s = component_of (array_shape log2 p.subtype) in
+      let f = (reducer_of names inside here r log2).0 in
+      let log3 = (reducer_of names inside here r log2).1 in
+      let fall = left-falls which log2 log3 ((k-reducer_of leaving names inside here r tt h1.keeps).at log2) in
+      let two = (s-expr which names inside here wanted.Other v h1).at log3 in
+      let x = (expr names inside here wanted.Other v log3).0 in
+      let log4 = (expr names inside here wanted.Other v log3).1 in
+      let more = again-more which construct (0 + (0 + left which log4)) (left which log1) (omega (arith, two.1, fall)) in
+      let three = go construct n i s f x two.0 log4 (omega (arith, more, late)) refl (omega arith) in
+      let y = both f x (λ g. folded_by (record { at = p.first; attribute = at; site = construct }) part.Nothing (part.AnIteration i) g (item_found p.first n p.variable s)) in
+      let made10 = h-map (with-part which) (with-part which) 0 value_denoted (y log4).0 three.0 (λ item held8. let made9 = z-value_denoted which item held8 in (made9.0, omega (arith, made9.1))) in
+      (made10.0, omega (arith, made10.1, three.1, two.1, one.1, fall));
+}
+  where
+    go : (construct : Option ℕ) (n : ℕ) (i : Iteration) (s : Option Subtype) (f : Option Folding) (x : Option Found) → (maybe-known which).Whole x → (log : Log) → again which construct (0 + (0 + left which log)) ≤ 0 → in_filter which i ≡ 0 → in_iteration which i ≤ in_selections which ss
+        → SpendsAt which (maybe-known which) ((site-of which).size construct + in_selections which ss + (maybe-known which).size x) (both f x (λ g. folded_by (record { at = p.first; attribute = at; site = construct }) part.Nothing (part.AnIteration i) g (item_found p.first n p.variable s))) log
+    go construct n i s None x h log l e m = (s-none which (with-part {K = Known} which) _).at log
+    go construct n i s (Some g) None h log l e m = (s-none which (with-part {K = Known} which) _).at log
+    go construct n i s (Some g) (Some x) h log l e m =
+        let more = again-more which construct (in_filter which i + (0 + left which log)) (0 + (0 + left which log)) (omega (arith, e)) in
+        let made = t-folded_by which (record { at = p.first; attribute = at; site = construct }) part.Nothing (part.AnIteration i) g (item_found p.first n p.variable s) x tt h log (omega (arith, more, l)) in
+        (made.0, omega (arith, made.1, m))
 
 pub s-wrong_arguments : (which : ℕ) (x0 : Names) (x1 : Inside) (x2 : Context) (x3 : ℕ) (x4 : Args) → SpendsInside which x1 → Spends which (maybe-known which) 0 (wrong_arguments x0 x1 x2 x3 x4)
 s-wrong_arguments which names inside here bracket as' h1 =

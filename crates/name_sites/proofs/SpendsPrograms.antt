@@ -28,7 +28,7 @@ use Rattle.name_sites.proofs.Measures.{counted-by, maybe-part, option-of, part-m
 use Rattle.name_sites.proofs.Parts.{n-body, n-value}
 use Rattle.name_sites.proofs.Records.{SpendsInside, declared-of, sub-of, subs-sum, whole-of}
 use Rattle.name_sites.proofs.Spends.{Holds, Spends, h-joined, h-joined-second, h-map, s-bind, s-le, s-pure, s-then}
-use Rattle.name_sites.specs.Sites.{in_body, in_subs}
+use Rattle.name_sites.proofs.Counts.{in_body, in_subs}
 
 pub z-typed_sub : (which : ℕ) (x0 : Profiled) (x1 : Bool) (x2 : TypedPart) → (part-measure which).Whole x2 → Holds (sub-of which) (part-size which x2) (typed_sub x0 x1 x2)
 z-typed_sub which p nonblocking b h2 = (tt, omega (arith, n-body which b))

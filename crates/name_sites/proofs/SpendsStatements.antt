@@ -6,7 +6,8 @@ use Rattle.name_rules.specs.Expressions.{Inside, condition, expr, judged_alone}
 use Rattle.syntax_tree.specs.FirstTokens as first_token
 use Rattle.name_rules.specs.Found.{Denoted, Found}
 use Rattle.name_rules.specs.Iterations.{entered}
-use Rattle.name_rules.specs.Judging.{clean, fault, given, joined, pure, some, ◌>>=◌}
+use Rattle.name_rules.specs.Judging.{both, clean, fault, given, joined, pure, some, ◌>>=◌}
+use Rattle.name_rules.specs.declared.log.Log.{Log}
 use Rattle.name_rules.specs.Names.{denoted_first, exception}
 use Rattle.name_rules.specs.Parts.{name, new_site, valued_by}
 use Rattle.name_rules.specs.Primaries.{inside}
@@ -35,10 +36,10 @@ use Rattle.typed_tree.specs.Syntax.{Handled as TypedHandled, Selections}
 use Rattle.typed_tree.specs.declared.program.SiteKind.TheVariants as site
 use Rattle.std.specs.Prelude.{Bool, List, None, Option, Some, [], false, length, not, option_map, suc, zero, ℕ, ◌+◌, ◌-◌, ◌==◌, ◌∷◌}
 use Rattle.name_rules.specs.TypedParts.{nested_stmts, selections_of}
-use Rattle.typed_tree.specs.Decoded.{TypedPart}
+use Rattle.typed_tree.specs.Decoded.{TypedPart, as_arms, as_iteration, as_stmts}
 use Rattle.typed_tree.specs.Latest.{turned}
 use Rattle.name_rules.specs.Statements.{Around, Selector, also_alternative, alternative, alts, arm_limit, arms_part, around, as_statement, assign, assign_form, assign_other, assign_place, assign_to, assigned, assigned_alone, assigned_place, backwards_rule, block, block_decls, block_of, block_part, body, body_made, body_part, branch_count, branches, call_stmt, case_part, case_stmt, closed_where, condition_where, count_where, elsifs, exit_from, exit_part, exited, for_loop, for_made, for_part, handler, handlers, if_stmt, if_stmt_made, if_stmt_part, in_handler_of, in_loop, in_threads, innermost, is_last, is_last_handler, loop_by, loop_ends, loop_entered, loop_part, loop_stmt, loop_with, new_loop, no_choosing, no_decls, no_stmts, optional_parallel, otherwise_where, parallel, parallel_part, raise_from, raised, return_alone, return_from, return_value, returned, selecting, selector, selector_kind, selector_of, stmt, stmt_form, stmts, stmts_from, stored_place, value_at, value_of_nothing, with_alternative, with_arm, with_elsif, with_elsif_if, with_handler, with_handler_if, with_stmt, with_target}
-use Rattle.std.proofs.Common.{arith}
+use Rattle.std.proofs.Common.{arith, ◌<◌, ◌≤◌}
 use Rattle.name_laws.proofs.KeepsCases.{k-handled_by}
 use Rattle.name_laws.proofs.KeepsExpressions.{k-expr, k-judged_alone}
 use Rattle.name_laws.proofs.KeepsNames.{k-exception}
@@ -46,16 +47,17 @@ use Rattle.name_laws.proofs.KeepsStatements.{k-arm_limit, k-around, k-assigned_a
 use Rattle.name_sites.proofs.SpendsCases.{s-case_choices}
 use Rattle.name_sites.proofs.SpendsDeclarations.{s-declarations}
 use Rattle.name_sites.proofs.SpendsExpressions.{s-condition, s-expr}
-use Rattle.name_sites.proofs.SpendsIterations.{s-chunk_count, s-entered}
+use Rattle.name_sites.proofs.SpendsIterations.{late-entered, s-chunk_count, s-entered}
 use Rattle.name_sites.proofs.SpendsParts.{s-valued_by}
 use Rattle.name_sites.proofs.SpendsPrimaries.{spends-inside, spends-level_above}
 use Rattle.name_sites.proofs.SpendsValues.{s-settled_found, s-stored}
-use Rattle.name_sites.proofs.Leaving.{leaving, leaving-wide}
+use Rattle.name_sites.proofs.Leaving.{leaving, leaving-wide, left, left-falls}
 use Rattle.name_sites.proofs.Measures.{counted-by, first-of, maybe-known, maybe-part, part-measure, part-size, second-of, with-part}
-use Rattle.name_sites.proofs.Parts.{n-alternatives, n-arms, n-body, n-chunk, n-decls, n-expr, n-exprs_of, n-handlers, n-iteration, n-nested_stmts, n-optional, n-selections_of, n-stmts, n-turned, n-value, w-turned}
+use Rattle.name_sites.proofs.Parts.{n-alternatives, n-arms, n-body, n-chunk, n-decls, n-expr, n-exprs_of, n-filter, n-handlers, n-iteration, n-nested_stmts, n-optional, n-selections_of, n-stmts, n-turned, n-value, w-turned}
 use Rattle.name_sites.proofs.Records.{SpendsAround, SpendsInside, choosing-of, entered-of, site-of}
-use Rattle.name_sites.proofs.Spends.{Holds, Spends, h-joined, h-joined-second, h-map, h-map-any, s-bind, s-both, s-clean, s-fault, s-given, s-given-any, s-if, s-le, s-new_site, s-pure, s-some, s-then, s-where_clean, s-where_clean-any}
-use Rattle.name_sites.specs.Sites.{in_number, in_selections}
+use Rattle.name_sites.proofs.Spends.{Holds, Spends, h-joined, left-given, number-next, s-none, h-joined-second, h-map, h-map-any, s-bind, s-both, s-clean, s-fault, s-given, s-given-any, s-if, s-le, s-new_site, s-pure, s-some, s-then, s-where_clean, s-where_clean-any}
+use Rattle.typed_sites.specs.Sites.{in_number}
+use Rattle.name_sites.proofs.Counts.{again, again-more, again-none, in_arms, in_filter, in_selections, in_stmts}
 
 pub z-with_stmt : (which : ℕ) (x0 : TypedPart) (x1 : TypedPart) → (part-measure which).Whole x0 → (part-measure which).Whole x1 → Holds (part-measure which) (part-size which x0 + part-size which x1) (with_stmt x0 x1)
 z-with_stmt which made s h0 h1 = ((h1, h0), omega arith)
@@ -291,17 +293,27 @@ s-case_stmt which a here at e xs h0 =
 pub z-for_part : (which : ℕ) (x0 : ℕ) (x1 : TypedPart) (x2 : TypedPart) → (part-measure which).Whole x1 → (part-measure which).Whole x2 → Holds (part-measure which) (part-size which x1 + part-size which x2) (for_part x0 x1 x2)
 z-for_part which n i ss h1 h2 = (tt, omega (arith, n-iteration which i, n-stmts which ss))
 
-pub z-parallel_part : (which : ℕ) (x0 : ℕ) (x1 : ℕ) (x2 : TypedPart) (x3 : TypedPart) (x4 : TypedPart) → (counted-by (λ x. in_number which x)).Whole x1 → (part-measure which).Whole x2 → (part-measure which).Whole x3 → (part-measure which).Whole x4 → Holds (part-measure which) (in_number which x1 + part-size which x2 + part-size which x3 + part-size which x4) (parallel_part x0 x1 x2 x3 x4)
-z-parallel_part which n s i ss c h1 h2 h3 h4 = (tt, omega (arith, n-chunk which c, n-iteration which i, n-stmts which ss))
+pub z-parallel_part : (which : ℕ) (x0 : ℕ) (x1 : ℕ) (x2 : TypedPart) (x3 : TypedPart) (x4 : TypedPart) → again which (Some x1) (part-size which x2 + part-size which x3) ≤ 0 → Holds (part-measure which) (in_number which x1 + part-size which x2 + part-size which x3 + part-size which x4) (parallel_part x0 x1 x2 x3 x4)
+z-parallel_part which n s i ss c late =
+    let l = n-iteration which i in
+    let m = n-stmts which ss in
+    let more = again-more which (Some s) (in_filter which (as_iteration i) + in_stmts which (as_stmts ss)) (part-size which i + part-size which ss) (omega (arith, n-filter which (as_iteration i), l, m)) in
+    (tt, omega (arith, n-chunk which c, l, m, more, late))
 
-pub s-for_made : (which : ℕ) (x0 : ℕ) (x1 : Option ℕ) (x2 : Option TypedPart) (x3 : TypedPart) (x4 : TypedPart) → (site-of which).Whole x1 → (maybe-part which).Whole x2 → (part-measure which).Whole x3 → (part-measure which).Whole x4 → Spends which (maybe-part which) ((site-of which).size x1 + (maybe-part which).size x2 + part-size which x3 + part-size which x4) (for_made x0 x1 x2 x3 x4)
-s-for_made which n None c i ss h1 h2 h3 h4 =
+pub s-for_made : (which : ℕ) (x0 : ℕ) (x1 : Option ℕ) (x2 : Option TypedPart) (x3 : TypedPart) (x4 : TypedPart) → (maybe-part which).Whole x2 → (part-measure which).Whole x3 → (part-measure which).Whole x4 → again which x1 (part-size which x3 + part-size which x4) ≤ 0 → Spends which (maybe-part which) ((site-of which).size x1 + (maybe-part which).size x2 + part-size which x3 + part-size which x4) (for_made x0 x1 x2 x3 x4)
+s-for_made which n None c i ss h2 h3 h4 late =
     s-some which (part-measure which) _ (for_part n i ss) (let made1 = z-for_part which n i ss h3 h4 in
     (made1.0, omega (arith, made1.1)))
-s-for_made which n (Some s) c i ss h1 h2 h3 h4 =
-    s-pure which (maybe-part which) _ (option_map (parallel_part n s i ss) c) (let made3 = h-map (part-measure which) (part-measure which) (in_number which s + part-size which i + part-size which ss) (parallel_part n s i ss) c h2 (λ item held1. let made2 = z-parallel_part which n s i ss item h1 h3 h4 held1 in
+s-for_made which n (Some s) c i ss h2 h3 h4 late =
+    s-pure which (maybe-part which) _ (option_map (parallel_part n s i ss) c) (let made3 = h-map (part-measure which) (part-measure which) (in_number which s + part-size which i + part-size which ss) (parallel_part n s i ss) c h2 (λ item held1. let made2 = z-parallel_part which n s i ss item late in
     (made2.0, omega (arith, made2.1))) in
     (made3.0, omega (arith, made3.1)))
+
+s-for_both : (which : ℕ) (n : ℕ) (construct : Option ℕ) (c i ss : Option TypedPart) → (maybe-part which).Whole c → (maybe-part which).Whole i → (maybe-part which).Whole ss → again which construct ((maybe-part which).size i + (maybe-part which).size ss) ≤ 0
+    → Spends which (maybe-part which) ((site-of which).size construct + (maybe-part which).size c + (maybe-part which).size i + (maybe-part which).size ss) (both i ss (for_made n construct c))
+s-for_both which n construct c None ss h2 h3 h4 late = s-none which (part-measure which) _
+s-for_both which n construct c (Some i) None h2 h3 h4 late = s-none which (part-measure which) _
+s-for_both which n construct c (Some i) (Some ss) h2 h3 h4 late = s-for_made which n construct c i ss h2 h3 h4 late
 
 pub s-loop_entered : (which : ℕ) (x0 : Around) (x1 : Context) (x2 : OptionalParallel) (x3 : Iter) → SpendsAround which x0 → Spends which (entered-of which) 0 (loop_entered x0 x1 x2 x3)
 unfolding loop_entered
@@ -310,13 +322,33 @@ s-loop_entered which a here p i h0 =
     s-then which (entered-of which) _ (backwards_rule e.1 e.0.construct e.0.reverse) _ (k-backwards_rule leaving e.1 e.0.construct e.0.reverse) (λ u.
     s-pure which (entered-of which) _ e.0 ((held1.0, held1.1, held1.2), omega arith)))
 
+late-loop : (which : ℕ) (x0 : Around) (x1 : Context) (x2 : OptionalParallel) (x3 : Iter) → SpendsAround which x0 → (log : Log)
+    → again which (loop_entered x0 x1 x2 x3 log).0.construct ((maybe-part which).size (loop_entered x0 x1 x2 x3 log).0.iteration + left which (loop_entered x0 x1 x2 x3 log).1) ≤ 0
+unfolding loop_entered
+late-loop which a here p i h0 log =
+    let e = (clean (entered a.names a.level a.inner here site.Loop p i) log).0 in
+    let log1 = (clean (entered a.names a.level a.inner here site.Loop p i) log).1 in
+    let late = late-entered which a.names a.level a.inner here site.Loop p i h0.level h0.inner log in
+    let log2 = (backwards_rule e.1 e.0.construct e.0.reverse log1).1 in
+    let fall = left-falls which log1 log2 ((k-backwards_rule leaving e.1 e.0.construct e.0.reverse).at log1) in
+    let more = again-more which e.0.construct ((maybe-part which).size e.0.iteration + left which log2) ((maybe-part which).size e.0.iteration + left which log1) (omega (arith, fall)) in
+    omega (arith, more, late)
+
 pub s-for_loop : (which : ℕ) (x0 : Around) (x1 : Context) (x2 : Option ℕ) (x3 : ℕ) (x4 : Stmts) (x5 : OptionalParallel) (x6 : Iter) → SpendsAround which x0 → Spends which (maybe-part which) 0 (for_loop x0 x1 x2 x3 x4 x5 x6)
 unfolding for_loop
-s-for_loop which a here label n s p i h0 =
-    s-bind which (entered-of which) (maybe-part which) 0 0 _ (loop_entered a here p i) _ (s-le which (entered-of which) _ _ _ (s-loop_entered which a here p i h0) (omega arith)) (omega arith) (λ e held1.
-    s-bind which (maybe-part which) (maybe-part which) 0 ((maybe-part which).size e.iteration + (site-of which).size e.construct + (maybe-part which).size e.chunk) _ (stmts a (in_loop a.names e.here label n) s) _ (s-le which (maybe-part which) _ _ _ (s-stmts which a (in_loop a.names e.here label n) s h0) (omega arith)) (omega arith) (λ ss held2.
-    s-both which (part-measure which) (part-measure which) (part-measure which) ((site-of which).size e.construct + (maybe-part which).size e.chunk) _ e.iteration ss _ held1.2 held2 (omega arith) (λ one held3 other held4.
-    s-le which (maybe-part which) _ _ _ (s-for_made which n e.construct e.chunk one other held1.0 held1.1 held3 held4) (omega arith))))
+s-for_loop which a here label n s p i h0 = record {
+  at = λ log.
+      let one = (s-loop_entered which a here p i h0).at log in
+      let e = (loop_entered a here p i log).0 in
+      let log1 = (loop_entered a here p i log).1 in
+      let late = late-loop which a here p i h0 log in
+      let two = (s-stmts which a (in_loop a.names e.here label n) s h0).at log1 in
+      let ss = (stmts a (in_loop a.names e.here label n) s log1).0 in
+      let log2 = (stmts a (in_loop a.names e.here label n) s log1).1 in
+      let more = again-more which e.construct ((maybe-part which).size e.iteration + (maybe-part which).size ss) ((maybe-part which).size e.iteration + left which log1) (omega (arith, two.1)) in
+      let three = (s-for_both which n e.construct e.chunk e.iteration ss one.0.1 one.0.2 two.0 (omega (arith, more, late))).at log2 in
+      (three.0, omega (arith, three.1, two.1, one.1));
+}
 
 pub z-loop_part : (which : ℕ) (x0 : ℕ) (x1 : TypedPart) (x2 : TypedPart) → (part-measure which).Whole x1 → (part-measure which).Whole x2 → Holds (part-measure which) (part-size which x1 + part-size which x2) (loop_part x0 x1 x2)
 z-loop_part which n c ss h1 h2 = (tt, omega (arith, n-optional which c, n-stmts which ss))
@@ -417,19 +449,35 @@ s-branches which a here made (syntax.AlsoBranch s ss) h0 h2 =
     (made4.0, omega (arith, made4.1))) in
     s-le which (maybe-part which) _ _ _ (s-branches which a here (joined with_arm made x) ss h0 made5.0) (omega (arith, made5.1)))
 
-pub z-arms_part : (which : ℕ) (x0 : ℕ) (x1 : TypedPart) (x2 : TypedPart) → (counted-by (λ x. in_number which x)).Whole x0 → (part-measure which).Whole x1 → (part-measure which).Whole x2 → Holds (part-measure which) (in_number which x0 + part-size which x1 + part-size which x2) (arms_part x0 x1 x2)
-z-arms_part which n c xs h0 h1 h2 = (tt, omega (arith, n-optional which c, n-arms which (turned xs), n-turned which xs))
+pub z-arms_part : (which : ℕ) (x0 : ℕ) (x1 : TypedPart) (x2 : TypedPart) → again which (Some x0) (part-size which x2) ≤ 0 → Holds (part-measure which) (in_number which x0 + part-size which x1 + part-size which x2) (arms_part x0 x1 x2)
+z-arms_part which n c xs late =
+    let l : in_arms which (as_arms (turned xs)) ≤ part-size which xs = omega (arith, n-arms which (turned xs), n-turned which xs) in
+    let more = again-more which (Some n) (in_arms which (as_arms (turned xs))) (part-size which xs) l in
+    (tt, omega (arith, n-optional which c, l, more, late))
+
+arms-joined : (which : ℕ) (n : ℕ) (c xs : Option TypedPart) → again which (Some n) ((maybe-part which).size xs) ≤ 0 → Holds (maybe-part which) (in_number which n + (maybe-part which).size c + (maybe-part which).size xs) (joined (arms_part n) c xs)
+arms-joined which n None xs late = (tt, omega arith)
+arms-joined which n (Some c) None late = (tt, omega arith)
+arms-joined which n (Some c) (Some xs) late = z-arms_part which n c xs late
 
 pub s-parallel : (which : ℕ) (x0 : Around) (x1 : Context) (x2 : ℕ) (x3 : Option Simple) (x4 : Branches) → SpendsAround which x0 → Spends which (maybe-part which) 0 (parallel x0 x1 x2 x3 x4)
 unfolding parallel
-s-parallel which a here at e ss h0 =
-    s-bind which (counted-by (λ x. in_number which x)) (maybe-part which) 0 0 _ (new_site here at (site.Block (branch_count ss))) _ (s-le which (counted-by (λ x. in_number which x)) _ _ _ (s-new_site which here at (site.Block (branch_count ss))) (omega arith)) (omega arith) (λ n held1.
-    s-bind which (maybe-part which) (maybe-part which) 0 (in_number which n) _ (count_where a.inner here e) _ (s-le which (maybe-part which) _ _ _ (s-count_where which a.inner here e h0.inner) (omega arith)) (omega arith) (λ c held2.
-    s-bind which (maybe-part which) (maybe-part which) 0 ((maybe-part which).size c + in_number which n) _ (branches a (in_threads a.names here n) (Some part.Nothing) ss) _ (s-le which (maybe-part which) _ _ _ (s-branches which a (in_threads a.names here n) (Some part.Nothing) ss h0 tt) (omega arith)) (omega arith) (λ xs held3.
-    s-then which (maybe-part which) _ (arm_limit at (branch_count ss)) _ (k-arm_limit leaving at (branch_count ss)) (λ u.
-    s-pure which (maybe-part which) _ (joined (arms_part n) c xs) (let made8 = h-joined (part-measure which) (part-measure which) (part-measure which) (in_number which n) (arms_part n) c xs held2 held3 (λ one held5 other held6. let made7 = z-arms_part which n one other held1 held5 held6 in
-    (made7.0, omega (arith, made7.1))) in
-    (made8.0, omega (arith, made8.1)))))))
+s-parallel which a here token e ss h0 = record {
+  at = λ log.
+      let zero' = (s-new_site which here token (site.Block (branch_count ss))).at log in
+      let n = length log.sites in
+      let log1 = (new_site here token (site.Block (branch_count ss)) log).1 in
+      let one = (s-count_where which a.inner here e h0.inner).at log1 in
+      let c = (count_where a.inner here e log1).0 in
+      let log2 = (count_where a.inner here e log1).1 in
+      let two = (s-branches which a (in_threads a.names here n) (Some part.Nothing) ss h0 tt).at log2 in
+      let xs = (branches a (in_threads a.names here n) (Some part.Nothing) ss log2).0 in
+      let log3 = (branches a (in_threads a.names here n) (Some part.Nothing) ss log2).1 in
+      let fall = left-falls which log3 (arm_limit token (branch_count ss) log3).1 ((k-arm_limit leaving token (branch_count ss)).at log3) in
+      let lt : n < length log1.sites = number-next here token (site.Block (branch_count ss)) log in
+      let made = arms-joined which n c xs (again-none which n _ (λ l. omega (arith, two.1, one.1, left-given which n log1 lt l))) in
+      (made.0, omega (arith, made.1, fall, two.1, one.1, zero'.1));
+}
 
 pub s-stmt_form : (which : ℕ) (x0 : Around) (x1 : Context) (x2 : Stmt) → SpendsAround which x0 → Spends which (maybe-part which) 0 (stmt_form x0 x1 x2)
 s-stmt_form which a here (syntax.Null at) h0 = s-some which (part-measure which) _ (part.AStmt typed.Null) (tt, omega arith)

@@ -23,7 +23,7 @@ use Rattle.std.proofs.Common.{arith}
 use Rattle.name_sites.proofs.Measures.{counted-by, maybe-part, part-measure, part-size, with-part}
 use Rattle.name_sites.proofs.Parts.{n-composite, n-expr, n-exprs_of, n-selections_of, n-with_class}
 use Rattle.name_sites.proofs.Spends.{Holds, Spends, s-bind, s-fault, s-given, s-if, s-le, s-some}
-use Rattle.name_sites.specs.Sites.{in_composite, in_expr, in_selections}
+use Rattle.name_sites.proofs.Counts.{in_composite, in_expr, in_selections}
 
 pub z-mentions_in : (which : ℕ) (x0 : Known) (x1 : TypedPart) → (part-measure which).Whole x1 → Holds (part-measure which) (part-size which x1) (mentions_in x0 x1)
 z-mentions_in which (known.Object p) x h1 = (tt, omega arith)

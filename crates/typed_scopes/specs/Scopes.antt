@@ -1,6 +1,6 @@
 -- What is in scope where a part of a typed program stands (8.2, 8.3), and that values have as many cells as what they go to
 -- (3.6, 3.8, 5.2, 6.4.1).
-use Rattle.std.specs.Prelude.{◌≡◌, ℕ, ◌+◌, ◌*◌, ◌<◌, ◌≤◌, nat_eq, List, [], ◌∷◌, length, Option, Some, None, Bool, true, false, cond}
+use Rattle.std.specs.Prelude.{◌≡◌, ◌⊎◌, ℕ, ◌+◌, ◌*◌, ◌<◌, ◌≤◌, nat_eq, List, [], ◌∷◌, length, Option, Some, None, Bool, true, false, cond}
 use Rattle.behaviours.specs.Paths.{Entity, VariableOf, ConstantOf, entity_eq}
 use Rattle.typed_tree.specs.declared.scalars.Scalar.{Scalar}
 use Rattle.typed_tree.specs.declared.expressions.Root.{Root}
@@ -13,7 +13,7 @@ use Rattle.typed_tree.specs.declared.program.Formal.{Formal}
 use Rattle.typed_tree.specs.declared.program.Mode.{Mode}
 use Rattle.typed_tree.specs.declared.program.Mode.TheVariants as mode
 use Rattle.typed_tree.specs.Syntax.{Expr, Static, Variable, Constant, Parameter, Target, Group, Unary, Binary, AndThen, OrElse, Relation, Membership, If, Call, Convert, Reduction, Optional, Absent, Present, Selections, Whole, Field, Index, Actuals, NoActual, In, InOut, Out, CompositeInOut, CompositeOut, Value, Number, Cells, Composite, WholeVariable, WholeConstant, WholeTarget, CompositeIf, Aggregate, Associations, NoAssociation, Association, Iteration, Range, Components, Chunk, NoChunk, Count, Each, Pieces, NoPiece, Text, Image, Padded, Decls, NoDecl, DeclareDefault, DeclareVariable, DeclareConstant, Mentions, Stmt, Null, Assign, CallProcedure, Exit, Return, ReturnValue, Raise, Reraise, IfThen, Case, Loop, For, ParallelFor, Parallel, Block, Put, Get, Stmts, End, Then, Alternatives, NoAlternative, Alternative, Arms, NoArm, Arm, Handled, Others, Handlers, NoHandler, Handler, Sub, Program}
-use Rattle.ada_meaning.specs.Meaning.{sub_at, object_layout, arms_of}
+use Rattle.ada_meaning.specs.Meaning.{sub_at, object_layout, arms_of, most_threads}
 use Rattle.ada_meaning.specs.Shapes.{cells_of}
 
 -- what is in scope: objects; those that may not be declared again; the main procedure's objects that are there; parameters;
@@ -83,6 +83,11 @@ abbrev pub LieWithin : ℕ → ℕ → List Run → Type 0
 LieWithin n m [] = Unit {0}
 LieWithin n m (r ∷ rs) = (1 ≤ r.count) × ((k : ℕ) → k < r.count → r.first + k * r.stride + m ≤ n) × LieWithin n m rs
 
+-- one of a list, and the others in order
+abbrev pub Without : {A : Type 0} → A → List A → List A → Type 0
+Without x [] zs = ⊥
+Without {A} x (y ∷ ys) zs = ((y ≡ x) × (zs ≡ ys)) ⊎ ((ws : List A) × (zs ≡ y ∷ ws) × Without x ys ws)
+
 abbrev pub formal_of : ℕ → Mode → Formal
 formal_of x m = record { object = x; mode = m }
 
@@ -151,10 +156,10 @@ module _ (program : Program) (shown : ℕ → Entity → Bool) where
     ScopedSelections v (Field number offset rest) = ScopedSelections v rest
     ScopedSelections v (Index at e low high stride rest) = ScopedExpr v e × ScopedSelections v rest
 
-    -- actual parameters of a function, one for each formal (6.4.1)
+    -- actual parameters of a function, one for each formal, in the order of the text (6.4.1)
     pub ScopedIn : Around → List Formal → Actuals → Type 0
     ScopedIn v fs NoActual = fs ≡ []
-    ScopedIn v fs (In x value rest) = (gs : List Formal) × (fs ≡ formal_of x mode.In ∷ gs) × ScopedValue v (object_cells program x) value × ScopedIn v gs rest
+    ScopedIn v fs (In x value rest) = (gs : List Formal) × Without (formal_of x mode.In) fs gs × ScopedValue v (object_cells program x) value × ScopedIn v gs rest
     ScopedIn v fs (InOut x at from selections inner outer rest) = ⊥
     ScopedIn v fs (Out x at from selections inner outer rest) = ⊥
     ScopedIn v fs (CompositeInOut x at from selections subtype rest) = ⊥
@@ -189,18 +194,18 @@ module _ (program : Program) (shown : ℕ → Entity → Bool) where
     ScopedChunk v (Count e) = ScopedExpr v e
     ScopedChunk v (Each k low high check) = ScopedExpr v low × ScopedExpr v high
 
-  -- actual parameters of a procedure
+  -- actual parameters of a procedure, one for each formal, in the order of the text (6.4.1)
   abbrev pub ScopedActuals : Around → List Formal → Actuals → Type 0
   ScopedActuals v fs NoActual = fs ≡ []
-  ScopedActuals v fs (In x value rest) = (gs : List Formal) × (fs ≡ formal_of x mode.In ∷ gs) × ScopedValue v (object_cells program x) value × ScopedActuals v gs rest
+  ScopedActuals v fs (In x value rest) = (gs : List Formal) × Without (formal_of x mode.In) fs gs × ScopedValue v (object_cells program x) value × ScopedActuals v gs rest
   ScopedActuals v fs (InOut x at from selections inner outer rest) =
-      (gs : List Formal) × (fs ≡ formal_of x mode.InOut ∷ gs) × (object_cells program x ≡ 1) × VariableSeen v from × ScopedSelections v selections × ScopedActuals v gs rest
+      (gs : List Formal) × Without (formal_of x mode.InOut) fs gs × (object_cells program x ≡ 1) × VariableSeen v from × ScopedSelections v selections × ScopedActuals v gs rest
   ScopedActuals v fs (Out x at from selections inner outer rest) =
-      (gs : List Formal) × (fs ≡ formal_of x mode.Out ∷ gs) × (object_cells program x ≡ 1) × VariableSeen v from × ScopedSelections v selections × ScopedActuals v gs rest
+      (gs : List Formal) × Without (formal_of x mode.Out) fs gs × (object_cells program x ≡ 1) × VariableSeen v from × ScopedSelections v selections × ScopedActuals v gs rest
   ScopedActuals v fs (CompositeInOut x at from selections subtype rest) =
-      (gs : List Formal) × (fs ≡ formal_of x mode.InOut ∷ gs) × (object_cells program x ≡ cells_of program.subtypes subtype) × VariableSeen v from × ScopedSelections v selections × ScopedActuals v gs rest
+      (gs : List Formal) × Without (formal_of x mode.InOut) fs gs × (object_cells program x ≡ cells_of program.subtypes subtype) × VariableSeen v from × ScopedSelections v selections × ScopedActuals v gs rest
   ScopedActuals v fs (CompositeOut x at from selections subtype rest) =
-      (gs : List Formal) × (fs ≡ formal_of x mode.Out ∷ gs) × (object_cells program x ≡ cells_of program.subtypes subtype) × VariableSeen v from × ScopedSelections v selections × ScopedActuals v gs rest
+      (gs : List Formal) × Without (formal_of x mode.Out) fs gs × (object_cells program x ≡ cells_of program.subtypes subtype) × VariableSeen v from × ScopedSelections v selections × ScopedActuals v gs rest
 
   -- the width of a field is static (A.10.8)
   abbrev pub ScopedPieces : Around → Pieces → Type 0
@@ -242,7 +247,7 @@ module _ (program : Program) (shown : ℕ → Entity → Bool) where
     ScopedStmt v (Loop number condition stmts) = ScopedOptional v condition × ScopedAll v stmts
     ScopedStmt v (For number iteration stmts) = ScopedIteration v v iteration (λ u. ScopedAll u stmts)
     ScopedStmt v (ParallelFor number site chunk iteration stmts) = ScopedChunk v chunk × IsForward iteration × ScopedIteration v (with_chunk chunk v) iteration (λ u. ScopedAll u stmts)
-    ScopedStmt v (Parallel site count arms) = ScopedOptional v count × (1 ≤ arms_of arms) × (arms_of arms ≤ 4096) × ScopedArms v arms
+    ScopedStmt v (Parallel site count arms) = ScopedOptional v count × (1 ≤ arms_of arms) × (arms_of arms ≤ most_threads) × ScopedArms v arms
     ScopedStmt v (Block decls stmts handlers) = ScopedDecls v decls (λ u. ScopedAll u stmts × ScopedHandlers (handling u) handlers)
     ScopedStmt v (Put at callee pieces line) = ScopedPieces v pieces
     ScopedStmt v (Get at callee first from selections scalar) = VariableSeen v from × ScopedSelections v selections

@@ -68,8 +68,14 @@ decreases-aggregates::fillings l = 17179869184 * l.value + (l.runs + 30)
 abbrev pub decreases-aggregates::filling : goal.decreases-aggregates::filling
 decreases-aggregates::filling l = 17179869184 * l.value + 25
 
-abbrev pub decreases-aggregates::turnings : goal.decreases-aggregates::turnings
-decreases-aggregates::turnings l = 17179869184 * l.turned.value + (l.runs + 30)
+abbrev pub decreases-runs::turnings : goal.decreases-runs::turnings
+decreases-runs::turnings l = 17179869184 * l.turned.value + (l.runs + 30)
+
+abbrev pub decreases-runs::run_turnings : goal.decreases-runs::run_turnings
+decreases-runs::run_turnings l = 17179869184 * l.turned.value + (l.left.runs + 27)
+
+abbrev pub decreases-runs::run_loop : goal.decreases-runs::run_loop
+decreases-runs::run_loop l = 17179869184 * l.turned.value + 25
 
 abbrev pub decreases-aggregates::turning : goal.decreases-aggregates::turning
 decreases-aggregates::turning l = 17179869184 * l.turned.value + 26

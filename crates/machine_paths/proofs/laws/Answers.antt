@@ -1,5 +1,5 @@
 use Rattle.machine_paths.proofs.laws.Goals as goal
-use Rattle.machine_paths.proofs.Constructs.{joined_comes}
+use Rattle.machine_paths.proofs.Constructs.{joined_comes, joined_forks, ordered_forks}
 use Rattle.machine_paths.proofs.Framed.{machine_frames}
 use Rattle.machine_paths.proofs.Leading.{comes_goes, comes_stops, leads_goes, leads_stops, asks_nothing, went_by}
 use Rattle.machine_paths.proofs.Ordered.{joined_by_note, joined_in_order}
@@ -42,6 +42,9 @@ returns-clause-constructs c = joined_comes
 
 pub returns-clause-nested : goal.returns-clause-nested
 returns-clause-nested c = nested_law
+
+pub returns-clause-forks : goal.returns-clause-forks
+returns-clause-forks c = λ limit c plan q p site at left planned chosen os ds. ((λ joined. joined_forks limit c plan q p site at left planned chosen os ds joined), λ notes fine is. ordered_forks limit c plan q p site at left planned notes chosen os ds fine is)
 
 pub returns-clause-enough : goal.returns-clause-enough
 returns-clause-enough c = enough_law

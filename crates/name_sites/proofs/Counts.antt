@@ -1,16 +1,14 @@
--- How often a number stands in a part of a typed program as that of a parallel construct: of a parallel loop (5.5), of a
--- parallel block (5.6.1), or of a parallel reduction (4.5.10). What is mentioned and not evaluated counts too.
+-- How often a number stands in a part of a typed program as that of a construct, where it counts once more if it stands in
+-- the threads of a construct whose number isn't smaller. So a number that counts at most once stands at most once, and in the
+-- threads of smaller ones alone.
+use Rattle.std.proofs.Common.{List, None, Option, Some, [], if◌then◌else◌, nat_le, leb-true, true, false, Bool, refl, arith, ℕ, ◌+◌, ◌≤◌, ◌≡◌, ◌∷◌}
 use Rattle.typed_tree.specs.Syntax.{Absent, Actuals, Aggregate, Alternative, Alternatives, AlsoExpr, AndThen, Arm, Arms, Assign, Association, Associations, Binary, Block, Body, Call, CallProcedure, Case, Cells, Chunk, Components, Composite, CompositeIf, CompositeInOut, CompositeOut, Constant, Convert, Count, DeclareConstant, DeclareDefault, DeclareVariable, Decls, Each, End, Exit, Expr, Exprs, Field, For, Get, Group, Handler, Handlers, If, IfThen, Image, In, InOut, Index, Iteration, Loop, Membership, Mentions, NoActual, NoAlternative, NoArm, NoAssociation, NoChunk, NoDecl, NoExpr, NoHandler, NoPiece, Null, Number, Optional, OrElse, Out, Padded, Parallel, ParallelFor, Parameter, Pieces, Present, Program, Put, Raise, Range, Reduction, Relation, Reraise, Return, ReturnValue, Selections, Static, Stmt, Stmts, Sub, Target, Text, Then, Unary, Value, Variable, Whole, WholeConstant, WholeTarget, WholeVariable}
-use Rattle.std.specs.Prelude.{List, None, Option, Some, [], if◌then◌else◌, ℕ, ◌+◌, ◌==◌, ◌∷◌}
+use Rattle.typed_sites.specs.Sites.{in_number, in_site}
 
--- a construct has the number that is counted, or another
-abbrev pub in_number : ℕ → ℕ → ℕ
-in_number s n = if n == s then 1 else 0
-
--- a reduction that isn't parallel has no number
-abbrev pub in_site : ℕ → Option ℕ → ℕ
-in_site s None = 0
-in_site s (Some n) = in_number s n
+-- once more where the construct's number isn't smaller
+abbrev pub again : ℕ → Option ℕ → ℕ → ℕ
+again s None n = 0
+again s (Some site) n = if nat_le s site then n else 0
 
 abbrev mutual
   pub in_expr : ℕ → Expr → ℕ
@@ -29,7 +27,7 @@ abbrev mutual
   in_expr s (If c v o) = in_expr s c + (in_expr s v + in_expr s o)
   in_expr s (Call at callee n as') = in_actuals s as'
   in_expr s (Convert check e) = in_expr s e
-  in_expr s (Reduction at a by initial site chunk iteration v) = in_site s site + (in_expr s initial + (in_chunk s chunk + (in_iteration s iteration + in_expr s v)))
+  in_expr s (Reduction at a by initial site chunk iteration v) = in_site s site + (in_expr s initial + (in_chunk s chunk + (in_iteration s iteration + in_expr s v))) + again s site (in_filter s iteration + in_expr s v)
 
   pub in_exprs : ℕ → Exprs → ℕ
   in_exprs s NoExpr = 0
@@ -71,6 +69,11 @@ abbrev mutual
   in_iteration s (Range n backwards low high check filter) = in_expr s low + (in_expr s high + in_optional s filter)
   in_iteration s (Components item constant at root ss count stride dimensions filter) = in_selections s ss + in_optional s filter
 
+  -- the filter stands in the threads of a construct
+  pub in_filter : ℕ → Iteration → ℕ
+  in_filter s (Range n backwards low high check filter) = in_optional s filter
+  in_filter s (Components item constant at root ss count stride dimensions filter) = in_optional s filter
+
   pub in_chunk : ℕ → Chunk → ℕ
   in_chunk s NoChunk = 0
   in_chunk s (Count e) = in_expr s e
@@ -103,8 +106,8 @@ abbrev mutual
   in_stmt s (Case e as') = in_expr s e + in_alternatives s as'
   in_stmt s (Loop n condition ss) = in_optional s condition + in_stmts s ss
   in_stmt s (For n iteration ss) = in_iteration s iteration + in_stmts s ss
-  in_stmt s (ParallelFor n site chunk iteration ss) = in_number s site + (in_chunk s chunk + (in_iteration s iteration + in_stmts s ss))
-  in_stmt s (Parallel site count arms) = in_number s site + (in_optional s count + in_arms s arms)
+  in_stmt s (ParallelFor number site chunk iteration ss) = in_number s site + (in_chunk s chunk + (in_iteration s iteration + in_stmts s ss)) + again s (Some site) (in_filter s iteration + in_stmts s ss)
+  in_stmt s (Parallel site count arms) = in_number s site + (in_optional s count + in_arms s arms) + again s (Some site) (in_arms s arms)
   in_stmt s (Block ds ss hs) = in_decls s ds + (in_stmts s ss + in_handlers s hs)
   in_stmt s (Put at callee ps line) = in_pieces s ps
   in_stmt s (Get at callee first root ss scalar) = in_selections s ss
@@ -135,3 +138,21 @@ in_subs s (u ∷ us) = in_body s u.body + in_subs s us
 -- how often it stands in a program
 abbrev pub in_program : ℕ → Program → ℕ
 in_program s p = in_subs s p.subs + in_body s p.body
+
+-- ---- once more
+
+again-by : (b : Bool) (n m : ℕ) → n ≤ m → (if b then n else 0) ≤ (if b then m else 0)
+again-by true n m h = omega (arith, h)
+again-by false n m h = omega arith
+
+pub again-more : (s : ℕ) (site : Option ℕ) (n m : ℕ) → n ≤ m → again s site n ≤ again s site m
+again-more s None n m h = omega arith
+again-more s (Some site) n m h = again-by (nat_le s site) n m h
+
+none-by : (b : Bool) (n : ℕ) → (b ≡ true → n ≤ 0) → (if b then n else 0) ≤ 0
+none-by true n h = h refl
+none-by false n h = omega arith
+
+-- none does where what stands in the threads has no number that isn't greater
+pub again-none : (s site n : ℕ) → (s ≤ site → n ≤ 0) → again s (Some site) n ≤ 0
+again-none s site n h = none-by (nat_le s site) n (λ e. h (leb-true s site e))

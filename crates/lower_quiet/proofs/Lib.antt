@@ -1,0 +1,2 @@
+mod QuietCode
+pub mod Hushing

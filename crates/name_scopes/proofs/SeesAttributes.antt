@@ -1,0 +1,206 @@
+-- What is found is in scope: attributes.
+use Rattle.std.proofs.Common.{ℕ, ℤ, pos, List, [], ◌∷◌, length, Option, Some, None, Bool, true, false, if◌then◌else◌, option_map, ◌&&◌, ◌-◌, int_le, slice_get}
+use Rattle.std.specs.Prelude.{unsigned_abs}
+use Rattle.ada_base.specs.declared.operation.Op.TheVariants as op
+use Rattle.ada_base.specs.declared.operation.Op.{Op}
+use Rattle.syntax_tree.specs.Syntax.{Args}
+use Rattle.typed_tree.specs.Indexes.{indexes_in}
+use Rattle.typed_tree.specs.Decoded as part
+use Rattle.typed_tree.specs.Decoded.{TypedPart, as_expr}
+use Rattle.typed_tree.specs.Syntax.{Expr as TypedExpr}
+use Rattle.name_rules.specs.Attributes.{alone, attribute_found, bound_alone, bound_in, bound_with, dimension_at, dimension_bound, dimension_given, dimensions_in, extreme, first_named, image_text, is_array_object, is_bound, is_reduction, mentioned, object_image, one_argument, one_dimension, one_given, one_named, prefix_of, prefix_subtype, reduced_alone, scalar_bound, scalar_with, settled_attribute, settled_form, step, stepped, two_arguments_of, two_given, two_named}
+use Rattle.name_rules.specs.Calls.{arg_names, operands}
+use Rattle.name_rules.specs.Expressions.{Inside}
+use Rattle.name_rules.specs.Found.{Denoted, Found, denote, parameter_found, static, universal, value_denoted}
+use Rattle.name_rules.specs.Judging.{◌>>=◌, fault, given, joined, read}
+use Rattle.name_rules.specs.Names.{denoted_first, wrong_call}
+use Rattle.name_rules.specs.Operators.{limit_of}
+use Rattle.name_rules.specs.TypedParts.{also_all}
+use Rattle.name_rules.specs.Types.{extent, is_integer}
+use Rattle.name_rules.specs.Values.{asked, first_of, is_number, mentions_of, own_kind, static_of_kind}
+use Rattle.name_rules.specs.declared.found.Attribute.TheVariants as attribute'
+use Rattle.name_rules.specs.declared.found.Attribute.{Attribute}
+use Rattle.name_rules.specs.declared.found.Denoted.TheVariants as denoted
+use Rattle.name_rules.specs.declared.found.Denoted.{Denoted as KnownDenoted}
+use Rattle.name_rules.specs.declared.found.Found.TheVariants as known
+use Rattle.name_rules.specs.declared.found.ObjectName.{ObjectName}
+use Rattle.name_rules.specs.declared.found.Prefix.TheVariants as prefix
+use Rattle.name_rules.specs.declared.found.Prefix.{Prefix}
+use Rattle.name_rules.specs.declared.log.Dimension.{Dimension}
+use Rattle.name_rules.specs.declared.log.Rule.TheVariants.{ReduceRule, StaticRange, Unknown, WrongType}
+use Rattle.name_rules.specs.declared.scope.Context.{Context}
+use Rattle.name_rules.specs.declared.scope.Names.{Names}
+use Rattle.name_rules.specs.declared.types.Kind.{Kind}
+use Rattle.name_rules.specs.declared.types.Scalar.{Scalar}
+use Rattle.name_rules.specs.declared.types.Subtype.{Subtype}
+use Rattle.name_rules.specs.declared.types.Subtype.TheVariants as subtype
+use Rattle.name_rules.specs.TypedParts.{selections_of}
+use Rattle.name_scopes.proofs.Sees.{Any, Sees, Maybe, Sight, World, v-bind, v-fault, v-given, v-if, v-pure, v-read, v-some, v-where_clean, joint, mapped}
+use Rattle.name_scopes.proofs.SeesCalls.{AllFound, v-operands}
+use Rattle.name_scopes.proofs.SeesFound.{Around, DenotedOf, DenotesOf, ExprOf, FoundOf, LevelSees, MentionsOf, PrefixOf}
+use Rattle.name_scopes.proofs.SeesNames.{v-wrong_call}
+use Rattle.name_scopes.proofs.Seen.{SeenExpr}
+use Rattle.name_scopes.proofs.SeesValues.{v-asked, v-static_of_kind}
+
+module _ (W : World) (V : Sight) where
+  prefix-formed : (k : KnownDenoted) (x : TypedPart) → DenotesOf W V k x → PrefixOf W V (prefix_of k) x
+  prefix-formed (denoted.Value (known.Object p)) x h = h
+  prefix-formed (denoted.Type first t) x h = h
+  prefix-formed (denoted.Parameter first s) x h = h
+  prefix-formed (denoted.Sub first last n) x h = tt
+  prefix-formed k x h = tt
+
+  pub v-attribute_found : (d : Denoted) (at : ℕ) (a : Option Attribute) → DenotedOf W V d → Sees W V (Maybe (DenotedOf W V)) (attribute_found d at a)
+  v-attribute_found d at None h = v-fault W V (DenotedOf W V) at Unknown
+  v-attribute_found d at (Some a) h = v-some W V (DenotedOf W V) (denote (denoted.Attribute (denoted_first d.known) (prefix_of d.known) at a) d.part) (prefix-formed d.known d.part h)
+
+  -- ---- First, Last, Length, Range
+
+  v-scalar_bound : (first : ℕ) (s : Scalar) (a : Attribute) → Sees W V (Maybe (DenotedOf W V)) (scalar_bound first s a)
+  v-scalar_bound first s attribute'.First = v-some W V (DenotedOf W V) (value_denoted (static first s.kind s.low part.Nothing)) tt
+  v-scalar_bound first s attribute'.Last = v-some W V (DenotedOf W V) (value_denoted (static first s.kind s.high part.Nothing)) tt
+  v-scalar_bound first s a = v-fault W V (DenotedOf W V) first WrongType
+
+  v-dimension_bound : (first : ℕ) (ms : TypedPart) (a : Attribute) (d : Dimension) → MentionsOf W V ms → Sees W V (Maybe (DenotedOf W V)) (dimension_bound first ms a d)
+  v-dimension_bound first ms attribute'.First d h = v-some W V (DenotedOf W V) (value_denoted (static first d.kind d.low ms)) h
+  v-dimension_bound first ms attribute'.Last d h = v-some W V (DenotedOf W V) (value_denoted (static first d.kind d.high ms)) h
+  v-dimension_bound first ms attribute'.Length d h = v-some W V (DenotedOf W V) (value_denoted (universal first (pos (extent d)) false ms)) h
+  v-dimension_bound first ms attribute'.Range d h = v-some W V (DenotedOf W V) (denote (denoted.Range first d) ms) h
+  v-dimension_bound first ms a d h = v-fault W V (DenotedOf W V) first WrongType
+
+  v-bound_in : (first : ℕ) (ms : TypedPart) (a : Attribute) (d : Option Dimension) → MentionsOf W V ms → Sees W V (Maybe (DenotedOf W V)) (bound_in first ms a d)
+  v-bound_in first ms a None h = v-fault W V (DenotedOf W V) first WrongType
+  v-bound_in first ms a (Some d) h = v-dimension_bound first ms a d h
+
+  -- the indexes in the prefix are formed
+  pub mentioned-formed : (p : Prefix) (x : TypedPart) → PrefixOf W V p x → MentionsOf W V (mentioned p x)
+  mentioned-formed p x h = tt
+
+  v-bound_by : (first : ℕ) (p : Prefix) (x : TypedPart) (a : Attribute) → PrefixOf W V p x → Sees W V (Maybe (DenotedOf W V)) (read (λ log. slice_get (dimensions_in log (prefix_subtype p)) 0) >>= bound_in first (mentioned p x) a)
+  v-bound_by first p x a h =
+      v-bind W V Any (Maybe (DenotedOf W V)) (read (λ log. slice_get (dimensions_in log (prefix_subtype p)) 0)) (bound_in first (mentioned p x) a) (v-read W V Any (λ log. slice_get (dimensions_in log (prefix_subtype p)) 0) (λ log g. tt)) (λ d q.
+      v-bound_in first (mentioned p x) a d (mentioned-formed p x h))
+
+  v-bound_alone : (first : ℕ) (p : Prefix) (x : TypedPart) (a : Attribute) → PrefixOf W V p x → Sees W V (Maybe (DenotedOf W V)) (bound_alone first p x a)
+  v-bound_alone first (prefix.Type (subtype.Scalar s)) x a h = v-scalar_bound first s a
+  v-bound_alone first p x a h = v-bound_by first p x a h
+
+  v-dimension_at : (first : ℕ) (ms : TypedPart) (a : Attribute) (ds : List Dimension) (at : ℕ) (z : ℤ) → MentionsOf W V ms → Sees W V (Maybe (DenotedOf W V)) (dimension_at first ms a ds at z)
+  v-dimension_at first ms a ds at z h =
+      v-if W V (Maybe (DenotedOf W V)) (int_le (pos 1) z && int_le z (pos (length ds))) (bound_in first ms a (slice_get ds (unsigned_abs z - 1))) (fault at StaticRange) (v-bound_in first ms a (slice_get ds (unsigned_abs z - 1)) h) (v-fault W V (DenotedOf W V) at StaticRange)
+
+  v-dimension_given : (first : ℕ) (ms : TypedPart) (a : Attribute) (ds : List Dimension) (f : Found) → MentionsOf W V ms → FoundOf W V f → Sees W V (Maybe (DenotedOf W V)) (dimension_given first ms a ds f)
+  v-dimension_given first ms a ds f h g =
+      v-if W V (Maybe (DenotedOf W V)) (is_number f.known) _ (fault (first_of f.known) WrongType)
+      (v-bind W V (Maybe Any) (Maybe (DenotedOf W V)) (static_of_kind (own_kind f.known) f) _ (v-static_of_kind W V (own_kind f.known) f g) (λ v q.
+      v-given W V Any (DenotedOf W V) v (dimension_at first (also_all ms (mentions_of f)) a ds (first_of f.known)) q (λ z s.
+      v-dimension_at first (also_all ms (mentions_of f)) a ds (first_of f.known) z tt)))
+      (v-fault W V (DenotedOf W V) (first_of f.known) WrongType)
+
+  v-one_dimension : (first bracket : ℕ) (ms : TypedPart) (a : Attribute) (ds : List Dimension) (ns : List (Option ℕ)) (fs : List Found) → MentionsOf W V ms → AllFound W V fs → Sees W V (Maybe (DenotedOf W V)) (one_dimension first bracket ms a ds ns fs)
+  v-one_dimension first bracket ms a ds (None ∷ []) (f ∷ []) h g = v-dimension_given first ms a ds f h g.0
+  v-one_dimension first bracket ms a ds (Some name ∷ []) fs h g = v-fault W V (DenotedOf W V) name WrongType
+  v-one_dimension first bracket ms a ds ns fs h g = v-fault W V (DenotedOf W V) bracket WrongType
+
+  pub v-bound_with : (names : Names) (inside : Inside) (here : Context) (first : ℕ) (ms : TypedPart) (a : Attribute) (bracket : ℕ) (as' : Args) (ds : List Dimension) → LevelSees W inside → Around W V here → MentionsOf W V ms
+      → Sees W V (Maybe (DenotedOf W V)) (bound_with names inside here first ms a bracket as' ds)
+  v-bound_with names inside here first ms a bracket as' [] l r h = v-fault W V (DenotedOf W V) first WrongType
+  v-bound_with names inside here first ms a bracket as' (d ∷ ds) l r h =
+      v-where_clean W V (Maybe (AllFound W V)) (DenotedOf W V) (operands names inside here (Some []) as') _ (v-operands W V names inside here (Some []) as' l r tt) (λ fs q.
+      v-given W V (AllFound W V) (DenotedOf W V) fs (one_dimension first bracket ms a (d ∷ ds) (arg_names as')) q (λ gs s. v-one_dimension first bracket ms a (d ∷ ds) (arg_names as') gs h s))
+
+  -- ---- Image, Max, Min, Succ, Pred
+
+  abbrev Takes : Kind → (TypedExpr → Denoted) → Type 0
+  Takes k make = (x : TypedExpr) → SeenExpr W.program W.shown V.around x → DenotedOf W V (make x)
+
+  abbrev TakesTwo : Kind → (TypedExpr → TypedExpr → Denoted) → Type 0
+  TakesTwo k make = (x y : TypedExpr) → SeenExpr W.program W.shown V.around x → SeenExpr W.program W.shown V.around y → DenotedOf W V (make x y)
+
+  v-one_given : (k : Kind) (make : TypedExpr → Denoted) (f : Found) → Takes k make → FoundOf W V f → Sees W V (Maybe (DenotedOf W V)) (one_given k make f)
+  v-one_given k make f t h =
+      v-bind W V (Maybe (ExprOf W V)) (Maybe (DenotedOf W V)) (asked k f) _ (v-asked W V k f h) (λ e q. v-pure W V (Maybe (DenotedOf W V)) (option_map (λ x. make (as_expr x)) e) (mapped (ExprOf W V) (DenotedOf W V) (λ x. make (as_expr x)) e q (λ x s. t (as_expr x) s)))
+
+  v-two_given : (k : Kind) (make : TypedExpr → TypedExpr → Denoted) (f g : Found) → TakesTwo k make → FoundOf W V f → FoundOf W V g → Sees W V (Maybe (DenotedOf W V)) (two_given k make f g)
+  v-two_given k make f g t h i =
+      v-bind W V (Maybe (ExprOf W V)) (Maybe (DenotedOf W V)) (asked k f) _ (v-asked W V k f h) (λ x p.
+      v-bind W V (Maybe (ExprOf W V)) (Maybe (DenotedOf W V)) (asked k g) _ (v-asked W V k g i) (λ y q.
+      v-pure W V (Maybe (DenotedOf W V)) (joined (λ d e. make (as_expr d) (as_expr e)) x y) (joint (ExprOf W V) (ExprOf W V) (DenotedOf W V) (λ d e. make (as_expr d) (as_expr e)) x y p q (λ a b s u. t (as_expr a) (as_expr b) s u))))
+
+  v-one_named : (bracket : ℕ) (k : Kind) (make : TypedExpr → Denoted) (n : Option ℕ) (fs : List Found) → Takes k make → AllFound W V fs → Sees W V (Maybe (DenotedOf W V)) (one_named bracket k make n fs)
+  v-one_named bracket k make (Some name) fs t h = v-fault W V (DenotedOf W V) name Unknown
+  v-one_named bracket k make None (f ∷ []) t h = v-one_given k make f t h.0
+  v-one_named bracket k make None fs t h = v-fault W V (DenotedOf W V) bracket WrongType
+
+  v-two_named : (bracket : ℕ) (k : Kind) (make : TypedExpr → TypedExpr → Denoted) (n : Option ℕ) (fs : List Found) → TakesTwo k make → AllFound W V fs → Sees W V (Maybe (DenotedOf W V)) (two_named bracket k make n fs)
+  v-two_named bracket k make (Some name) fs t h = v-fault W V (DenotedOf W V) name Unknown
+  v-two_named bracket k make None (f ∷ g ∷ []) t h = v-two_given k make f g t h.0 h.1.0
+  v-two_named bracket k make None fs t h = v-fault W V (DenotedOf W V) bracket WrongType
+
+  v-one_argument : (names : Names) (inside : Inside) (here : Context) (bracket : ℕ) (k : Kind) (make : TypedExpr → Denoted) (as' : Args) → LevelSees W inside → Around W V here → Takes k make
+      → Sees W V (Maybe (DenotedOf W V)) (one_argument names inside here bracket k make as')
+  unfolding one_argument
+  v-one_argument names inside here bracket k make as' l r t =
+      v-where_clean W V (Maybe (AllFound W V)) (DenotedOf W V) (operands names inside here (Some []) as') _ (v-operands W V names inside here (Some []) as' l r tt) (λ fs q.
+      v-given W V (AllFound W V) (DenotedOf W V) fs (one_named bracket k make (first_named (arg_names as'))) q (λ gs s. v-one_named bracket k make (first_named (arg_names as')) gs t s))
+
+  v-two_arguments_of : (names : Names) (inside : Inside) (here : Context) (bracket : ℕ) (k : Kind) (make : TypedExpr → TypedExpr → Denoted) (as' : Args) → LevelSees W inside → Around W V here → TakesTwo k make
+      → Sees W V (Maybe (DenotedOf W V)) (two_arguments_of names inside here bracket k make as')
+  unfolding two_arguments_of
+  v-two_arguments_of names inside here bracket k make as' l r t =
+      v-where_clean W V (Maybe (AllFound W V)) (DenotedOf W V) (operands names inside here (Some []) as') _ (v-operands W V names inside here (Some []) as' l r tt) (λ fs q.
+      v-given W V (AllFound W V) (DenotedOf W V) fs (two_named bracket k make (first_named (arg_names as'))) q (λ gs s. v-two_named bracket k make (first_named (arg_names as')) gs t s))
+
+  takes-image : (first : ℕ) (k : Kind) → Takes k (image_text first k)
+  takes-image first k x h = ((λ ps r. (h, r)), tt)
+
+  takes-extreme : (first : ℕ) (k : Kind) (o : Op) → TakesTwo k (extreme first k o)
+  takes-extreme first k o x y g h = (g, h)
+
+  takes-step : (first : ℕ) (k : Kind) (o : Op) → Takes k (step first k o)
+  takes-step first k o x h = takes-extreme first k o x (limit_of first (pos 1)) h tt
+
+  v-stepped : (names : Names) (inside : Inside) (here : Context) (first : ℕ) (s : Scalar) (o : Op) (bracket : ℕ) (as' : Args) → LevelSees W inside → Around W V here → Sees W V (Maybe (DenotedOf W V)) (stepped names inside here first s o bracket as')
+  v-stepped names inside here first s o bracket as' l r =
+      v-if W V (Maybe (DenotedOf W V)) (is_integer s.kind) (one_argument names inside here bracket s.kind (step first s.kind o) as') (fault first WrongType) (v-one_argument names inside here bracket s.kind (step first s.kind o) as' l r (takes-step first s.kind o)) (v-fault W V (DenotedOf W V) first WrongType)
+
+  v-bound_called : (names : Names) (inside : Inside) (here : Context) (first : ℕ) (s : Scalar) (a : Attribute) (as' : Args) → LevelSees W inside → Around W V here → Sees W V (Maybe (DenotedOf W V)) (scalar_bound first s a >>= λ d. given d (λ x. wrong_call names inside here first as'))
+  v-bound_called names inside here first s a as' l r = v-bind W V (Maybe (DenotedOf W V)) (Maybe (DenotedOf W V)) (scalar_bound first s a) _ (v-scalar_bound first s a) (λ d q. v-given W V (DenotedOf W V) (DenotedOf W V) d _ q (λ x t. v-wrong_call W V names inside here first as' l r))
+
+  pub v-scalar_with : (names : Names) (inside : Inside) (here : Context) (first : ℕ) (s : Scalar) (a : Attribute) (bracket : ℕ) (as' : Args) → LevelSees W inside → Around W V here → Sees W V (Maybe (DenotedOf W V)) (scalar_with names inside here first s a bracket as')
+  v-scalar_with names inside here first s attribute'.Image bracket as' l r = v-one_argument names inside here bracket s.kind (image_text first s.kind) as' l r (takes-image first s.kind)
+  v-scalar_with names inside here first s attribute'.Max bracket as' l r = v-two_arguments_of names inside here bracket s.kind (extreme first s.kind op.Max) as' l r (takes-extreme first s.kind op.Max)
+  v-scalar_with names inside here first s attribute'.Min bracket as' l r = v-two_arguments_of names inside here bracket s.kind (extreme first s.kind op.Min) as' l r (takes-extreme first s.kind op.Min)
+  v-scalar_with names inside here first s attribute'.Succ bracket as' l r = v-stepped names inside here first s op.Add bracket as' l r
+  v-scalar_with names inside here first s attribute'.Pred bracket as' l r = v-stepped names inside here first s op.Sub bracket as' l r
+  v-scalar_with names inside here first s a bracket as' l r = v-bound_called names inside here first s a as' l r
+
+  v-object_image : (first : ℕ) (p : ObjectName) (x : TypedPart) (t : Subtype) → PrefixOf W V (prefix.Object p) x → Sees W V (Maybe (DenotedOf W V)) (object_image first p x t)
+  v-object_image first p x (subtype.Scalar s) h = v-one_given s.kind (image_text first s.kind) (record { known = known.Object p; part = x }) (takes-image first s.kind) h
+  v-object_image first p x (subtype.Composite n) h = v-fault W V (DenotedOf W V) first WrongType
+
+  -- ---- an attribute alone
+
+  v-reduced_alone : (first at : ℕ) (b : Bool) → Sees W V (Maybe (DenotedOf W V)) (reduced_alone first at b)
+  v-reduced_alone first at true = v-fault W V (DenotedOf W V) first WrongType
+  v-reduced_alone first at false = v-fault W V (DenotedOf W V) at ReduceRule
+
+  v-others_alone : (first : ℕ) (p : Prefix) (x : TypedPart) (at : ℕ) (a : Attribute) → PrefixOf W V p x
+      → Sees W V (Maybe (DenotedOf W V)) (if is_bound a then bound_alone first p x a else if is_reduction a then (read (λ log. is_array_object log p) >>= reduced_alone first at) else fault first WrongType)
+  v-others_alone first p x at a h =
+      v-if W V (Maybe (DenotedOf W V)) (is_bound a) (bound_alone first p x a) _ (v-bound_alone first p x a h)
+      (v-if W V (Maybe (DenotedOf W V)) (is_reduction a) (read (λ log. is_array_object log p) >>= reduced_alone first at) (fault first WrongType)
+      (v-bind W V Any (Maybe (DenotedOf W V)) (read (λ log. is_array_object log p)) (reduced_alone first at) (v-read W V Any (λ log. is_array_object log p) (λ log g. tt)) (λ b q. v-reduced_alone first at b)) (v-fault W V (DenotedOf W V) first WrongType))
+
+  v-alone : (first : ℕ) (p : Prefix) (x : TypedPart) (at : ℕ) (a : Attribute) → PrefixOf W V p x → Sees W V (Maybe (DenotedOf W V)) (alone first p x at a)
+  v-alone first (prefix.Object p) x at attribute'.Image h = v-object_image first p x p.subtype h
+  v-alone first (prefix.Parameter s) x at attribute'.Image h = v-one_given s.kind (image_text first s.kind) (parameter_found first s x) (takes-image first s.kind) h
+  v-alone first p x at a h = v-others_alone first p x at a h
+
+  v-settled_form : (k : KnownDenoted) (x : TypedPart) → DenotesOf W V k x → Sees W V (Maybe (DenotedOf W V)) (settled_form k x)
+  v-settled_form (denoted.Attribute first p at a) x h = v-alone first p x at a h
+  v-settled_form k x h = v-some W V (DenotedOf W V) (denote k x) h
+
+  pub v-settled_attribute : (d : Denoted) → DenotedOf W V d → Sees W V (Maybe (DenotedOf W V)) (settled_attribute d)
+  unfolding settled_attribute
+  v-settled_attribute d h = v-settled_form d.known d.part h

@@ -1,0 +1,259 @@
+-- What is found is in scope: operators.
+use Rattle.std.proofs.Common.{◌≡◌, refl, ℕ, ℤ, Option, Some, None, Bool, false, option_map, ◌&&◌}
+use Rattle.std.specs.Prelude.{not}
+use Rattle.ada_base.specs.declared.operation.Op.{Op}
+use Rattle.ada_base.specs.declared.operation.Op.TheVariants as op
+use Rattle.typed_tree.specs.Decoded.{TypedPart, as_expr}
+use Rattle.typed_tree.specs.Syntax as typed
+use Rattle.typed_tree.specs.declared.expressions.Sign.TheVariants as unary'
+use Rattle.typed_tree.specs.declared.expressions.Sign.{Sign}
+use Rattle.typed_tree.specs.declared.scalars.Class.TheVariants as class
+use Rattle.ada_base.specs.declared.operation.Comparison.{Comparison}
+use Rattle.name_rules.specs.Found.{Found, scalar, static, text_found, universal}
+use Rattle.name_rules.specs.Judging.{fault, pure, some}
+use Rattle.name_rules.specs.Operators.{binary, both_mentions, by_kinds, common_kind, compared, compared_at, compared_by, first_kind, joined_text, joined_texts, leaf, limit_of, logical, member, member_of, membership, negation, not_of, of_subtype, open_binary, open_form, open_of, open_power, open_two, open_unary, operand_blamed, operation, operation_by, operation_on, plain, plain_by, plain_open, plain_typed, power, power_to, signed, static_of, static_operation, static_power, static_unary, static_universal, typed_operation, unary, unary_by, unary_open, unary_typed, universal_by, universal_operation, universal_power, universal_to, within_bounds}
+use Rattle.name_rules.specs.TypedParts.{also_all}
+use Rattle.name_rules.specs.Types.{class_of, in_base, same}
+use Rattle.name_rules.specs.Values.{asked, exact, first_of, fitting, is_kind, is_number, is_scalar, kind_of, mentions_of, suits, value_of}
+use Rattle.name_rules.specs.declared.found.Found.TheVariants as known
+use Rattle.name_rules.specs.declared.found.Found.{Found as Known}
+use Rattle.name_rules.specs.declared.found.Limits.{Limits}
+use Rattle.name_rules.specs.declared.log.Rule.TheVariants.{StaticRange, WrongType}
+use Rattle.name_rules.specs.declared.types.Kind.{Kind}
+use Rattle.name_rules.specs.declared.types.Kind.TheVariants as kind
+use Rattle.name_rules.specs.declared.types.Scalar.{Scalar}
+use Rattle.name_scopes.proofs.Sees.{Any, Sees, Maybe, Sight, World, any, v-bind, v-both, v-fault, v-given, v-if, v-none, v-pure, v-some, joint, mapped}
+use Rattle.name_scopes.proofs.SeesFound.{ExprOf, FoundOf, IsPiece, KnownOf, OpenOf, each-all}
+use Rattle.name_scopes.proofs.SeesValues.{v-asked, v-fitting, scoped-class}
+
+module _ (W : World) (V : Sight) where
+  -- ---- static results
+
+  v-static_of : (first : ℕ) (k : Kind) (ms : TypedPart) (z : Option ℤ) → Sees W V (Maybe (FoundOf W V)) (static_of first k ms z)
+  unfolding static_of
+  v-static_of first k ms None = v-fault W V (FoundOf W V) first StaticRange
+  v-static_of first k ms (Some z) = v-if W V (Maybe (FoundOf W V)) (in_base k z) (some (static first k z ms)) (fault first StaticRange) (v-some W V (FoundOf W V) (static first k z ms) tt) (v-fault W V (FoundOf W V) first StaticRange)
+
+  v-static_universal : (first : ℕ) (ms : TypedPart) (z : Option ℤ) → Sees W V (Maybe (FoundOf W V)) (static_universal first ms z)
+  unfolding static_universal
+  v-static_universal first ms None = v-fault W V (FoundOf W V) first StaticRange
+  v-static_universal first ms (Some z) = v-some W V (FoundOf W V) (universal first z false ms) tt
+
+  v-static_operation : (o : Op) (k j : Kind) (a : Found) (u : ℤ) (b : Found) (v : ℤ) → Sees W V (Maybe (FoundOf W V)) (static_operation o k j a u b v)
+  unfolding static_operation
+  v-static_operation o k j a u b v =
+      v-bind W V Any (Maybe (FoundOf W V)) (fitting k (first_of a.known) u) _ (v-fitting W V k (first_of a.known) u) (λ x p.
+      v-bind W V Any (Maybe (FoundOf W V)) (fitting j (first_of b.known) v) _ (v-fitting W V j (first_of b.known) v) (λ y q.
+      v-if W V (Maybe (FoundOf W V)) (x && y) (static_of (first_of a.known) k (both_mentions a b) (exact o u v)) (pure None) (v-static_of (first_of a.known) k (both_mentions a b) (exact o u v)) (v-none W V (FoundOf W V))))
+
+  -- ---- binary operators on values of a type
+
+  v-operation_on : (o : Op) (at : ℕ) (k j : Kind) (a b : Found) → FoundOf W V a → FoundOf W V b → Sees W V (Maybe (FoundOf W V)) (operation_on o at k j a b)
+  unfolding operation_on
+  v-operation_on o at k j a b g h =
+      v-bind W V (Maybe (ExprOf W V)) (Maybe (FoundOf W V)) (asked k a) _ (v-asked W V k a g) (λ x q.
+      v-bind W V (Maybe (ExprOf W V)) (Maybe (FoundOf W V)) (asked j b) _ (v-asked W V j b h) (λ y r.
+      v-both W V (ExprOf W V) (ExprOf W V) (FoundOf W V) x y _ q r (λ m n s t.
+      v-some W V (FoundOf W V) (scalar (first_of a.known) k None (typed.Binary at o (class_of k) (as_expr m) (as_expr n))) (s, t))))
+
+  v-operation_by : (o : Op) (at : ℕ) (k j : Kind) (a b : Found) (x y : Option ℤ) → FoundOf W V a → FoundOf W V b → Sees W V (Maybe (FoundOf W V)) (operation_by o at k j a b x y)
+  v-operation_by o at k j a b (Some u) (Some v) g h = v-static_operation o k j a u b v
+  v-operation_by o at k j a b (Some u) None g h = v-operation_on o at k j a b g h
+  v-operation_by o at k j a b None y g h = v-operation_on o at k j a b g h
+
+  v-typed_operation : (o : Op) (at : ℕ) (k j : Kind) (a b : Found) → FoundOf W V a → FoundOf W V b → Sees W V (Maybe (FoundOf W V)) (typed_operation o at k j a b)
+  unfolding typed_operation
+  v-typed_operation o at k j a b g h = v-operation_by o at k j a b (value_of a.known) (value_of b.known) g h
+
+  -- ---- on universal values
+
+  -- a part that waits for its type
+  abbrev pub WaitsOf : Limits × TypedPart → Type 0
+  WaitsOf x = OpenOf W V (as_expr x.1)
+
+  open-form : (f : Known) (x : TypedPart) → KnownOf W V f x → Maybe WaitsOf (open_form f x)
+  open-form (known.Universal first z alone) x h = λ c. tt
+  open-form (known.Open first l) x h = h
+  open-form f x h = tt
+
+  pub open-found : (f : Found) → FoundOf W V f → Maybe WaitsOf (open_of f)
+  unfolding open_of
+  open-found f h = open-form f.known f.part h
+
+  open-two : (o : Op) (at first : ℕ) (x y : Limits × TypedPart) → WaitsOf x → WaitsOf y → FoundOf W V (open_two o at first x y)
+  open-two o at first x y g h c = (g c, h c)
+
+  v-open_binary : (o : Op) (at : ℕ) (a b : Found) → FoundOf W V a → FoundOf W V b → Maybe (FoundOf W V) (open_binary o at a b)
+  unfolding open_binary
+  v-open_binary o at a b g h = joint WaitsOf WaitsOf (FoundOf W V) (open_two o at (first_of a.known)) (open_of a) (open_of b) (open-found a g) (open-found b h) (λ x y p q. open-two o at (first_of a.known) x y p q)
+
+  v-universal_by : (o : Op) (at : ℕ) (a b : Found) (x y : Option ℤ) → FoundOf W V a → FoundOf W V b → Sees W V (Maybe (FoundOf W V)) (universal_by o at a b x y)
+  v-universal_by o at a b (Some u) (Some v) g h = v-static_universal (first_of a.known) (both_mentions a b) (exact o u v)
+  v-universal_by o at a b (Some u) None g h = v-pure W V (Maybe (FoundOf W V)) (open_binary o at a b) (v-open_binary o at a b g h)
+  v-universal_by o at a b None y g h = v-pure W V (Maybe (FoundOf W V)) (open_binary o at a b) (v-open_binary o at a b g h)
+
+  v-universal_operation : (o : Op) (at : ℕ) (a b : Found) → FoundOf W V a → FoundOf W V b → Sees W V (Maybe (FoundOf W V)) (universal_operation o at a b)
+  unfolding universal_operation
+  v-universal_operation o at a b g h = v-universal_by o at a b (value_of a.known) (value_of b.known) g h
+
+  v-by_kinds : (o : Op) (at : ℕ) (a b : Found) (x y : Option Kind) → FoundOf W V a → FoundOf W V b → Sees W V (Maybe (FoundOf W V)) (by_kinds o at a b x y)
+  v-by_kinds o at a b None None g h = v-universal_operation o at a b g h
+  v-by_kinds o at a b None (Some k) g h = v-typed_operation o at k k a b g h
+  v-by_kinds o at a b (Some k) None g h = v-typed_operation o at k k a b g h
+  v-by_kinds o at a b (Some j) (Some k) g h = v-if W V (Maybe (FoundOf W V)) (same j k) (typed_operation o at k k a b) (fault at WrongType) (v-typed_operation o at k k a b g h) (v-fault W V (FoundOf W V) at WrongType)
+
+  v-operation : (o : Op) (at : ℕ) (a b : Found) → FoundOf W V a → FoundOf W V b → Sees W V (Maybe (FoundOf W V)) (operation o at a b)
+  unfolding operation
+  v-operation o at a b g h =
+      v-if W V (Maybe (FoundOf W V)) (is_number a.known && is_number b.known) (by_kinds o at a b (kind_of a.known) (kind_of b.known)) (fault (operand_blamed a.known at) WrongType)
+      (v-by_kinds o at a b (kind_of a.known) (kind_of b.known) g h) (v-fault W V (FoundOf W V) (operand_blamed a.known at) WrongType)
+
+  pub v-binary : (o : Op) (at : ℕ) (x y : Option Found) → Maybe (FoundOf W V) x → Maybe (FoundOf W V) y → Sees W V (Maybe (FoundOf W V)) (binary o at x y)
+  unfolding binary
+  v-binary o at x y g h = v-both W V (FoundOf W V) (FoundOf W V) (FoundOf W V) x y (operation o at) g h (λ a b p q. v-operation o at a b p q)
+
+  -- ---- powers
+
+  open-power : (at first : ℕ) (n : TypedPart) (x : Limits × TypedPart) → ExprOf W V n → WaitsOf x → FoundOf W V (open_power at first n x)
+  open-power at first n x g h c = (h c, scoped-class W.program W.shown V.around c (as_expr n) g)
+
+  v-universal_power : (at : ℕ) (a b : Found) → FoundOf W V a → FoundOf W V b → Sees W V (Maybe (FoundOf W V)) (universal_power at a b)
+  unfolding universal_power
+  v-universal_power at a b g h =
+      v-bind W V (Maybe (ExprOf W V)) (Maybe (FoundOf W V)) (asked kind.Integer b) _ (v-asked W V kind.Integer b h) (λ y q.
+      v-given W V (ExprOf W V) (FoundOf W V) y _ q (λ n r.
+      v-pure W V (Maybe (FoundOf W V)) (option_map (open_power at (first_of a.known) n) (open_of a)) (mapped WaitsOf (FoundOf W V) (open_power at (first_of a.known) n) (open_of a) (open-found a g) (λ x p. open-power at (first_of a.known) n x r p))))
+
+  v-static_power : (a : Found) (u : ℤ) (b : Found) (v : ℤ) → Sees W V (Maybe (FoundOf W V)) (static_power a u b v)
+  unfolding static_power
+  v-static_power a u b v =
+      v-bind W V Any (Maybe (FoundOf W V)) (fitting kind.Integer (first_of b.known) v) _ (v-fitting W V kind.Integer (first_of b.known) v) (λ y q.
+      v-if W V (Maybe (FoundOf W V)) y (static_universal (first_of a.known) (both_mentions a b) (exact op.Pow u v)) (pure None) (v-static_universal (first_of a.known) (both_mentions a b) (exact op.Pow u v)) (v-none W V (FoundOf W V)))
+
+  v-universal_to : (at : ℕ) (a b : Found) (x y : Option ℤ) → FoundOf W V a → FoundOf W V b → Sees W V (Maybe (FoundOf W V)) (universal_to at a b x y)
+  v-universal_to at a b (Some u) (Some v) g h = v-static_power a u b v
+  v-universal_to at a b (Some u) None g h = v-universal_power at a b g h
+  v-universal_to at a b None y g h = v-universal_power at a b g h
+
+  v-power_to : (at : ℕ) (a b : Found) (k : Option Kind) → FoundOf W V a → FoundOf W V b → Sees W V (Maybe (FoundOf W V)) (power_to at a b k)
+  v-power_to at a b (Some k) g h = v-typed_operation op.Pow at k kind.Integer a b g h
+  v-power_to at a b None g h = v-universal_to at a b (value_of a.known) (value_of b.known) g h
+
+  pub v-power : (at : ℕ) (x y : Option Found) → Maybe (FoundOf W V) x → Maybe (FoundOf W V) y → Sees W V (Maybe (FoundOf W V)) (power at x y)
+  unfolding power
+  v-power at x y g h = v-both W V (FoundOf W V) (FoundOf W V) (FoundOf W V) x y _ g h (λ a b p q.
+      v-if W V (Maybe (FoundOf W V)) (is_number a.known && suits kind.Integer b.known) (power_to at a b (kind_of a.known)) (fault at WrongType) (v-power_to at a b (kind_of a.known) p q) (v-fault W V (FoundOf W V) at WrongType))
+
+  -- ---- unary operators
+
+  v-static_unary : (s : Sign) (at : ℕ) (k : Kind) (a : Found) (z : ℤ) → Sees W V (Maybe (FoundOf W V)) (static_unary s at k a z)
+  v-static_unary s at k a z =
+      v-bind W V Any (Maybe (FoundOf W V)) (fitting k (first_of a.known) z) _ (v-fitting W V k (first_of a.known) z) (λ x q.
+      v-if W V (Maybe (FoundOf W V)) x (static_of at k a.part (signed s z)) (pure None) (v-static_of at k a.part (signed s z)) (v-none W V (FoundOf W V)))
+
+  v-unary_typed : (s : Sign) (at : ℕ) (k : Kind) (a : Found) (z : Option ℤ) → FoundOf W V a → Sees W V (Maybe (FoundOf W V)) (unary_typed s at k a z)
+  v-unary_typed s at k a (Some z) g = v-static_unary s at k a z
+  v-unary_typed s at k a None g =
+      v-bind W V (Maybe (ExprOf W V)) (Maybe (FoundOf W V)) (asked k a) _ (v-asked W V k a g) (λ x q.
+      v-given W V (ExprOf W V) (FoundOf W V) x _ q (λ n r. v-some W V (FoundOf W V) (scalar at k None (typed.Unary at s (class_of k) (as_expr n))) r))
+
+  v-unary_open : (s : Sign) (at : ℕ) (a : Found) (z : Option ℤ) → FoundOf W V a → Sees W V (Maybe (FoundOf W V)) (unary_open s at a z)
+  v-unary_open s at a (Some z) g = v-static_universal at a.part (signed s z)
+  v-unary_open s at a None g = v-pure W V (Maybe (FoundOf W V)) (option_map (open_unary s at) (open_of a)) (mapped WaitsOf (FoundOf W V) (open_unary s at) (open_of a) (open-found a g) (λ x p. p))
+
+  v-unary_by : (s : Sign) (at : ℕ) (a : Found) (k : Option Kind) → FoundOf W V a → Sees W V (Maybe (FoundOf W V)) (unary_by s at a k)
+  v-unary_by s at a (Some k) g = v-unary_typed s at k a (value_of a.known) g
+  v-unary_by s at a None g = v-unary_open s at a (value_of a.known) g
+
+  pub v-unary : (s : Sign) (at : ℕ) (x : Option Found) → Maybe (FoundOf W V) x → Sees W V (Maybe (FoundOf W V)) (unary s at x)
+  unfolding unary
+  v-unary s at x g = v-given W V (FoundOf W V) (FoundOf W V) x _ g (λ a p.
+      v-if W V (Maybe (FoundOf W V)) (is_number a.known) (unary_by s at a (kind_of a.known)) (fault at WrongType) (v-unary_by s at a (kind_of a.known) p) (v-fault W V (FoundOf W V) at WrongType))
+
+  v-plain_typed : (at : ℕ) (k : Kind) (a : Found) (z : Option ℤ) → FoundOf W V a → Sees W V (Maybe (FoundOf W V)) (plain_typed at k a z)
+  v-plain_typed at k a (Some z) g = v-static_of at k a.part (Some z)
+  v-plain_typed at k a None g =
+      v-bind W V (Maybe (ExprOf W V)) (Maybe (FoundOf W V)) (asked k a) _ (v-asked W V k a g) (λ x q.
+      v-given W V (ExprOf W V) (FoundOf W V) x _ q (λ n r. v-some W V (FoundOf W V) (record { known = known.Scalar at k None; part = n }) r))
+
+  v-plain_open : (at : ℕ) (a : Found) (z : Option ℤ) → FoundOf W V a → Sees W V (Maybe (FoundOf W V)) (plain_open at a z)
+  v-plain_open at a (Some z) g = v-some W V (FoundOf W V) (universal at z false a.part) tt
+  v-plain_open at a None g = v-pure W V (Maybe (FoundOf W V)) _ (mapped WaitsOf (FoundOf W V) (λ x. record { known = known.Open at x.0; part = x.1 }) (open_of a) (open-found a g) (λ x p. p))
+
+  v-plain_by : (at : ℕ) (a : Found) (k : Option Kind) → FoundOf W V a → Sees W V (Maybe (FoundOf W V)) (plain_by at a k)
+  v-plain_by at a (Some k) g = v-plain_typed at k a (value_of a.known) g
+  v-plain_by at a None g = v-plain_open at a (value_of a.known) g
+
+  pub v-plain : (at : ℕ) (x : Option Found) → Maybe (FoundOf W V) x → Sees W V (Maybe (FoundOf W V)) (plain at x)
+  unfolding plain
+  v-plain at x g = v-given W V (FoundOf W V) (FoundOf W V) x _ g (λ a p.
+      v-if W V (Maybe (FoundOf W V)) (is_number a.known) (plain_by at a (kind_of a.known)) (fault at WrongType) (v-plain_by at a (kind_of a.known) p) (v-fault W V (FoundOf W V) at WrongType))
+
+  v-negation : (at : ℕ) (a : Found) → FoundOf W V a → Sees W V (Maybe (FoundOf W V)) (negation at a)
+  v-negation at a g =
+      v-bind W V (Maybe (ExprOf W V)) (Maybe (FoundOf W V)) (asked kind.Boolean a) _ (v-asked W V kind.Boolean a g) (λ x q.
+      v-given W V (ExprOf W V) (FoundOf W V) x _ q (λ e r. v-some W V (FoundOf W V) (scalar at kind.Boolean None (typed.Unary at unary'.Not class.Boolean (as_expr e))) r))
+
+  pub v-not_of : (at : ℕ) (x : Option Found) → Maybe (FoundOf W V) x → Sees W V (Maybe (FoundOf W V)) (not_of at x)
+  unfolding not_of
+  v-not_of at x g = v-given W V (FoundOf W V) (FoundOf W V) x _ g (λ a p.
+      v-if W V (Maybe (FoundOf W V)) (is_kind kind.Boolean (kind_of a.known)) (negation at a) (fault at WrongType) (v-negation at a p) (v-fault W V (FoundOf W V) at WrongType))
+
+  -- ---- strings, logical operators, relations, membership
+
+  v-joined_texts : (at : ℕ) (j : Known) (ps : TypedPart) (k : Known) (qs : TypedPart) → KnownOf W V j ps → KnownOf W V k qs → Sees W V (Maybe (FoundOf W V)) (joined_texts at j ps k qs)
+  v-joined_texts at (known.Text first) ps (known.Text second) qs g h = v-some W V (FoundOf W V) (text_found first (also_all ps qs)) (each-all (IsPiece W V) ps qs g h)
+  v-joined_texts at j ps k qs g h = v-fault W V (FoundOf W V) at WrongType
+
+  pub v-joined_text : (at : ℕ) (x y : Option Found) → Maybe (FoundOf W V) x → Maybe (FoundOf W V) y → Sees W V (Maybe (FoundOf W V)) (joined_text at x y)
+  unfolding joined_text
+  v-joined_text at x y g h = v-both W V (FoundOf W V) (FoundOf W V) (FoundOf W V) x y _ g h (λ a b p q. v-joined_texts at a.known a.part b.known b.part p q)
+
+  pub v-logical : (o : Op) (at : ℕ) (x y : Option Found) → Maybe (FoundOf W V) x → Maybe (FoundOf W V) y → Sees W V (Maybe (FoundOf W V)) (logical o at x y)
+  unfolding logical
+  v-logical o at x y g h = v-both W V (FoundOf W V) (FoundOf W V) (FoundOf W V) x y _ g h (λ a b p q.
+      v-if W V (Maybe (FoundOf W V)) (is_kind kind.Boolean (kind_of a.known) && is_kind kind.Boolean (kind_of b.known)) (operation_on o at kind.Boolean kind.Boolean a b) (fault at WrongType)
+      (v-operation_on o at kind.Boolean kind.Boolean a b p q) (v-fault W V (FoundOf W V) at WrongType))
+
+  v-compared_at : (k : Kind) (c : Comparison) (a b : Found) → FoundOf W V a → FoundOf W V b → Sees W V (Maybe (FoundOf W V)) (compared_at k c a b)
+  unfolding compared_at
+  v-compared_at k c a b g h =
+      v-bind W V (Maybe (ExprOf W V)) (Maybe (FoundOf W V)) (asked k a) _ (v-asked W V k a g) (λ x q.
+      v-bind W V (Maybe (ExprOf W V)) (Maybe (FoundOf W V)) (asked k b) _ (v-asked W V k b h) (λ y r.
+      v-both W V (ExprOf W V) (ExprOf W V) (FoundOf W V) x y _ q r (λ e f s t. v-some W V (FoundOf W V) (scalar (first_of a.known) kind.Boolean None (typed.Relation (class_of k) c (as_expr e) (as_expr f))) (s, t))))
+
+  v-compared_by : (c : Comparison) (at : ℕ) (a b : Found) (k : Kind) → FoundOf W V a → FoundOf W V b → Sees W V (Maybe (FoundOf W V)) (compared_by c at a b k)
+  v-compared_by c at a b k g h = v-if W V (Maybe (FoundOf W V)) (suits k a.known && suits k b.known) (compared_at k c a b) (fault at WrongType) (v-compared_at k c a b g h) (v-fault W V (FoundOf W V) at WrongType)
+
+  pub v-compared : (c : Comparison) (at : ℕ) (x y : Option Found) → Maybe (FoundOf W V) x → Maybe (FoundOf W V) y → Sees W V (Maybe (FoundOf W V)) (compared c at x y)
+  unfolding compared
+  v-compared c at x y g h = v-both W V (FoundOf W V) (FoundOf W V) (FoundOf W V) x y _ g h (λ a b p q. v-compared_by c at a b (common_kind (kind_of a.known) (kind_of b.known)) p q)
+
+  v-within_bounds : (at : ℕ) (negated : Bool) (k : Kind) (x low high : Found) → FoundOf W V x → FoundOf W V low → FoundOf W V high → Sees W V (Maybe (FoundOf W V)) (within_bounds at negated k x low high)
+  v-within_bounds at negated k x low high f g h =
+      v-if W V (Maybe (FoundOf W V)) (not (suits k x.known)) (fault at WrongType) _ (v-fault W V (FoundOf W V) at WrongType)
+      (v-bind W V (Maybe (ExprOf W V)) (Maybe (FoundOf W V)) (asked k x) _ (v-asked W V k x f) (λ e p.
+      v-bind W V (Maybe (ExprOf W V)) (Maybe (FoundOf W V)) (asked k low) _ (v-asked W V k low g) (λ l q.
+      v-bind W V (Maybe (ExprOf W V)) (Maybe (FoundOf W V)) (asked k high) _ (v-asked W V k high h) (λ m r.
+      v-given W V (ExprOf W V) (FoundOf W V) e _ p (λ u s. v-both W V (ExprOf W V) (ExprOf W V) (FoundOf W V) l m _ q r (λ v w t i.
+      v-some W V (FoundOf W V) (member (first_of x.known) negated k (as_expr u) (as_expr v) (as_expr w)) (s, t, i)))))))
+
+  v-member_of : (at : ℕ) (negated : Bool) (a l h : Found) → FoundOf W V a → FoundOf W V l → FoundOf W V h → Sees W V (Maybe (FoundOf W V)) (member_of at negated a l h)
+  v-member_of at negated a l h p q r =
+      v-if W V (Maybe (FoundOf W V)) (not (is_scalar a.known)) (fault at WrongType) _ (v-fault W V (FoundOf W V) at WrongType)
+      (v-if W V (Maybe (FoundOf W V)) (not (is_scalar l.known)) (fault (first_of l.known) WrongType) _ (v-fault W V (FoundOf W V) (first_of l.known) WrongType)
+      (v-if W V (Maybe (FoundOf W V)) (not (is_scalar h.known)) (fault (first_of h.known) WrongType) _ (v-fault W V (FoundOf W V) (first_of h.known) WrongType)
+      (v-within_bounds at negated (common_kind (first_kind (kind_of a.known) (kind_of l.known)) (kind_of h.known)) a l h p q r)))
+
+  pub v-membership : (at : ℕ) (negated : Bool) (x low high : Option Found) → Maybe (FoundOf W V) x → Maybe (FoundOf W V) low → Maybe (FoundOf W V) high → Sees W V (Maybe (FoundOf W V)) (membership at negated x low high)
+  unfolding membership
+  v-membership at negated x low high f g h = v-given W V (FoundOf W V) (FoundOf W V) x _ f (λ a p. v-both W V (FoundOf W V) (FoundOf W V) (FoundOf W V) low high (member_of at negated a) g h (λ l m q r. v-member_of at negated a l m p q r))
+
+  pub v-of_subtype : (at : ℕ) (negated : Bool) (mark : ℕ) (x : Option Found) (s : Option Scalar) → Maybe (FoundOf W V) x → Sees W V (Maybe (FoundOf W V)) (of_subtype at negated mark x s)
+  unfolding of_subtype
+  v-of_subtype at negated mark x s g = v-both W V (FoundOf W V) Any (FoundOf W V) x s _ g (any s) (λ a t p q.
+      v-if W V (Maybe (FoundOf W V)) (suits t.kind a.known) _ (fault at WrongType)
+      (v-bind W V (Maybe (ExprOf W V)) (Maybe (FoundOf W V)) (asked t.kind a) _ (v-asked W V t.kind a p) (λ e r.
+      v-given W V (ExprOf W V) (FoundOf W V) e _ r (λ u i.
+      v-some W V (FoundOf W V) (member (first_of a.known) negated t.kind (as_expr u) (limit_of mark t.low) (limit_of mark t.high)) (i, tt, tt))))
+      (v-fault W V (FoundOf W V) at WrongType))

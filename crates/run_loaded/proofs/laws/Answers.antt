@@ -1,0 +1,5 @@
+use Rattle.run_loaded.proofs.Loading.{loaded_law}
+use Rattle.run_loaded.proofs.laws.Goals as goal
+
+pub returns : goal.returns
+returns c = record { loaded = loaded_law }

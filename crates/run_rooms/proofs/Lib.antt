@@ -1,0 +1,3 @@
+mod Operations
+mod Constructs
+pub mod Rooms
