@@ -3,3 +3,17 @@ mod Sizes
 mod Onto
 mod Stopping
 mod Clipping
+mod Resuming
+mod Pursued
+mod Forking
+mod InOrder
+mod Bodies
+mod Going
+mod Lending
+mod Sited
+mod Stepping
+mod LeaseCells
+mod Dealing
+mod Inner
+mod Overs
+mod Began

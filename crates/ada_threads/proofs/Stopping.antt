@@ -41,7 +41,7 @@ module _ (limit : ℕ) (c : Code) (plan : Plan) (m m' : Machine) (cells cells' :
   cut_leads to = leads_stops limit c (counting n p) Cut (counting 0 q) (quiet plan) tt to
 
 -- ---- so many looks ahead, and so many more
-ahead_twice : (n k : ℕ) (l : Option ℕ) → ahead n (ahead k l) ≡ ahead (n + k) l
+pub ahead_twice : (n k : ℕ) (l : Option ℕ) → ahead n (ahead k l) ≡ ahead (n + k) l
 ahead_twice n k None = refl
 ahead_twice n k (Some j) = ap Some (omega arith)
 

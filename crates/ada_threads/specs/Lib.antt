@@ -1,2 +1,12 @@
 pub mod Going
 pub mod Shares
+pub mod Came
+pub mod ThreadPaths
+pub mod Tallies
+pub mod Answers
+pub mod Framing
+pub mod Lent
+pub mod Sites
+pub mod Reaching
+pub mod Areas
+pub mod Dealt

@@ -1,5 +1,5 @@
 // The threads of a construct: which iterations each has, and what its frame begins with.
-ghost use Rattle.std.specs.Prelude.{◌≡◌, ◌+ℤ◌, pos, IfSome};
+ghost use Rattle.std.specs.Prelude.{◌≡◌, ◌+◌, ◌<◌, ◌^◌, ◌+ℤ◌, pos, IfSome};
 ghost use Rattle.ada_workers.specs.Threads.{frame_values};
 ghost use Rattle.machine_paths.specs.Starting.{thread_values};
 ghost use Rattle.ada_threads.specs.Shares.{share_of};
@@ -32,7 +32,8 @@ fn further(from: i64, by: u64) -> Option<i64>
 /// its loop values or positions, or 1 and 0 where it has none; and so many more cells of 0. None where one of these numbers
 /// isn't in 64 bits.
 pub fn frame_of(frame: u32, asked: Asked, part: Iterations) -> Option<Frame>
-    ensures { IfSome result (λ f. frame_values f ≡ thread_values frame asked (share_of part)) }
+    ensures values { IfSome result (λ f. frame_values f ≡ thread_values frame asked (share_of part)) }
+    ensures fits { IfSome result (λ f. f.more + 4 < 2 ^ 32) }
 {
     let chunk = further(asked.chunk, u64::from(part.number))?;
     let more = frame.saturating_sub(4);
