@@ -1,12 +1,31 @@
 -- What is done to a machine, as what is done to its state.
-use Rattle.std.proofs.Common.{◌≡◌, ℕ, ◌+◌, ◌-◌, ◌≤◌, ℤ, pos, List, [], ◌∷◌, ◌++◌, length, reverse, take, drop, Some, None, sym, ap, ◌∙◌, arith}
+use Rattle.std.proofs.Common.{◌≡◌, ℕ, ◌+◌, ◌-◌, ◌≤◌, ℤ, pos, List, [], ◌∷◌, ◌++◌, length, reverse, take, drop, Some, None, refl, sym, ap, ◌∙◌, arith}
 use Rattle.std.proofs.Math.Seq.{drop-append_seam}
-use Rattle.std.proofs.lemmas.List.{reverse-append, length-reverse, length-drop, take-append-drop}
+use Rattle.std.proofs.lemmas.Grind.{reverse_onto}
+use Rattle.std.proofs.lemmas.List.{reverse-append, reverse-reverse, length-reverse, length-drop, take-append-drop}
+use Rattle.std.specs.Prelude.{slice_get}
 use Rattle.ada_base.specs.declared.reason.Reason.{Reason}
 use Rattle.stack_code.specs.declared.code.Unwind.{Unwind}
 use Rattle.ada_base.specs.Cells.{Cell}
 use Rattle.stack_code.specs.Listing.{reason_number}
 use Rattle.stack_code.specs.Machine.{Frame, State, cut, failed, handled, ended}
+
+-- the last item of a vector is its stack's top
+at_end : (zs : List ℤ) (y : ℤ) → slice_get (zs ++ y ∷ []) (length zs) ≡ Some y
+at_end [] y = refl
+at_end (z ∷ zs) y = at_end zs y
+
+end_first : (ys : List ℤ) → slice_get (reverse ys) (length (reverse ys) - 1) ≡ slice_get ys 0
+end_first [] = refl
+end_first (y ∷ ys) =
+    let whole : reverse (y ∷ ys) ≡ reverse ys ++ y ∷ [] = reverse_onto ys y [] in
+    let many : length (reverse (y ∷ ys)) - 1 ≡ length (reverse ys) = omega (arith, length-reverse (y ∷ ys), length-reverse ys) in
+    ap (λ n. slice_get (reverse (y ∷ ys)) n) many ∙ ap (λ l. slice_get l (length (reverse ys))) whole ∙ at_end (reverse ys) y
+
+pub top_of : (xs : List ℤ) (v : ℤ) → slice_get xs (length xs - 1) ≡ Some v → slice_get (reverse xs) 0 ≡ Some v
+top_of xs v e =
+    let back : reverse (reverse xs) ≡ xs = reverse-reverse xs in
+    sym (end_first (reverse xs)) ∙ ap (λ l. slice_get l (length l - 1)) back ∙ e
 
 pub cut_take : (xs ys : List ℤ) (n : ℕ) → ys ≡ take n xs → n ≤ length xs → reverse ys ≡ cut n (reverse xs)
 cut_take xs ys n e l =

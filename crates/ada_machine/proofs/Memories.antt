@@ -1,6 +1,7 @@
 -- Cells that are read and written.
-use Rattle.std.proofs.Common.{◌≡◌, ℕ, ◌+◌, ◌+ℤ◌, ◌-ℤ◌, ◌*ℤ◌, cond, ℤ, pos, negsuc, List, [], ◌∷◌, reverse, Option, Some, None, Bool, true, false, refl, sym, ap, ◌∙◌, subst, inl, inr}
-use Rattle.std.specs.Prelude.{IsSome, IsSomeAnd, int_lt}
+use Rattle.std.proofs.Common.{◌≡◌, ℕ, ◌+◌, ◌*◌, ◌<◌, ◌+ℤ◌, ◌-ℤ◌, ◌*ℤ◌, cond, ℤ, pos, negsuc, List, [], ◌∷◌, reverse, Option, Some, None, Bool, true, false, refl, sym, ap, ◌∙◌, subst, inl, inr}
+use Rattle.std.proofs.lemmas.Nat.{mul-lt}
+use Rattle.std.specs.Prelude.{◌^◌, IsSome, IsSomeAnd, int_lt, slice_get}
 use Rattle.ada_base.specs.declared.reason.Reason.{Reason}
 use Rattle.ada_base.specs.declared.reason.Reason.TheVariants.{ConstraintError, Declared}
 use Rattle.std.proofs.lemmas.Bool.{false≢true}
@@ -62,6 +63,17 @@ module _ (pc : ℕ) (cells : List Cell) where
 
 -- ---- components
 
+-- the product of two numbers of 32 bits
+pub within_64 : (a b : ℕ) → a < 2 ^ 32 → b < 2 ^ 32 → a * b < 2 ^ 64
+within_64 a b l m = mul-lt a b (2 ^ 32) (2 ^ 32) l m
+
+-- the top of a stack, where it is taken off
+topped : (st rest : List ℤ) (a x : ℤ) → slice_get st 0 ≡ Some a → st ≡ x ∷ rest → st ≡ a ∷ rest
+topped st rest a x e f =
+    let first : Some x ≡ Some a = ap (λ s. slice_get s 0) (sym f) ∙ e in
+    let same : x ≡ a = cc in
+    f ∙ ap (λ v. v ∷ rest) same
+
 pub placed_in : (lo hi a i to : ℤ) (size : ℕ) → is_between lo i hi ≡ true → to ≡ a +ℤ ((i -ℤ lo) *ℤ pos size) → indexed lo hi size a i ≡ Some to
 placed_in lo hi a i to size b e = ap (λ b. cond b (Some (a +ℤ ((i -ℤ lo) *ℤ pos size))) None) b ∙ ap Some (sym e)
 
@@ -104,24 +116,30 @@ module _ (pc : ℕ) (lo hi : ℤ) (size : ℕ) where
     exceeds_on : (at i : ℤ) (k : ℤ → Deed) → seen cells at ≡ Some i → Exceeds (k i) cells → Exceeds (Loads at k) cells
     exceeds_on at i k s h = inr (subst (λ o. IsSomeAnd o (λ v. Exceeds (k v) cells)) (sym s) h)
 
-    pub index_cell_far : (at : ℤ) (old rest : List ℤ) (a i : ℤ) → seen cells at ≡ Some i → reverse old ≡ a ∷ reverse rest → IsSomeAnd (indexed lo hi size a i) IsFar → Exceeds (Loads at (λ i. unary pc (reverse old) (λ a. indexed lo hi size a i))) cells
-    index_cell_far at old rest a i s e h = exceeds_on at i (λ i. unary pc (reverse old) (λ a. indexed lo hi size a i)) s
-        (subst (λ st. Exceeds (unary pc st (λ a. indexed lo hi size a i)) cells) (sym e) (pushed_far pc (indexed lo hi size a i) (reverse rest) cells h))
+    pub index_cell_far : (at : ℤ) (old : List ℤ) (a i : ℤ) → seen cells at ≡ Some i → slice_get (reverse old) 0 ≡ Some a → IsSomeAnd (indexed lo hi size a i) IsFar → Exceeds (Loads at (λ i. unary pc (reverse old) (λ a. indexed lo hi size a i))) cells
+    index_cell_far at old a i s e h = exceeds_on at i (λ i. unary pc (reverse old) (λ a. indexed lo hi size a i)) s (on_top (reverse old) e)
+      where
+        on_top : (st : List ℤ) → slice_get st 0 ≡ Some a → Exceeds (unary pc st (λ a. indexed lo hi size a i)) cells
+        on_top [] f = cc
+        on_top (x ∷ rest) f = let same : x ≡ a = cc in subst (λ x. Exceeds (pushed pc (indexed lo hi size x i) rest) cells) (sym same) (pushed_far pc (indexed lo hi size a i) rest cells h)
 
     pub item_far : (old mid rest : List ℤ) (a i : ℤ) → reverse old ≡ i ∷ reverse mid → reverse mid ≡ a ∷ reverse rest → IsSomeAnd (indexed lo hi size a i) IsFar → Exceeds (on_two (reverse old) (λ a i st. item_at pc (indexed lo hi size a i) st)) cells
     item_far old mid rest a i e f h = subst (λ st. Exceeds (on_two st (λ a i st. item_at pc (indexed lo hi size a i) st)) cells) (sym (e ∙ ap (λ st. i ∷ st) f)) (item_exceeds pc (indexed lo hi size a i) (reverse rest) cells h)
 
-    pub item_cell_far : (at : ℤ) (old rest : List ℤ) (a i : ℤ) → seen cells at ≡ Some i → reverse old ≡ a ∷ reverse rest → IsSomeAnd (indexed lo hi size a i) IsFar → Exceeds (Loads at (λ i. on_one (reverse old) (λ a st. item_at pc (indexed lo hi size a i) st))) cells
-    item_cell_far at old rest a i s e h = exceeds_on at i (λ i. on_one (reverse old) (λ a st. item_at pc (indexed lo hi size a i) st)) s
-        (subst (λ st. Exceeds (on_one st (λ a st. item_at pc (indexed lo hi size a i) st)) cells) (sym e) (item_exceeds pc (indexed lo hi size a i) (reverse rest) cells h))
+    pub item_cell_far : (at : ℤ) (old : List ℤ) (a i : ℤ) → seen cells at ≡ Some i → slice_get (reverse old) 0 ≡ Some a → IsSomeAnd (indexed lo hi size a i) IsFar → Exceeds (Loads at (λ i. on_one (reverse old) (λ a st. item_at pc (indexed lo hi size a i) st))) cells
+    item_cell_far at old a i s e h = exceeds_on at i (λ i. on_one (reverse old) (λ a st. item_at pc (indexed lo hi size a i) st)) s (on_top (reverse old) e)
+      where
+        on_top : (st : List ℤ) → slice_get st 0 ≡ Some a → Exceeds (on_one st (λ a st. item_at pc (indexed lo hi size a i) st)) cells
+        on_top [] f = cc
+        on_top (x ∷ rest) f = let same : x ≡ a = cc in subst (λ x. Exceeds (item_at pc (indexed lo hi size x i) rest) cells) (sym same) (item_exceeds pc (indexed lo hi size a i) rest cells h)
 
-    pub index_cell_at : (at : ℤ) (old rest new : List ℤ) (a i to : ℤ) → seen cells at ≡ Some i → reverse old ≡ a ∷ reverse rest → indexed lo hi size a i ≡ Some to → reverse new ≡ to ∷ reverse rest → plays (Loads at (λ i. unary pc (reverse old) (λ a. indexed lo hi size a i))) cells ≡ Onward (pc + 1) (reverse new) cells
-    index_cell_at at old rest new a i to s e g h = ap (λ o. on_value o (λ i. plays (unary pc (reverse old) (λ a. indexed lo hi size a i)) cells)) s
-        ∙ ap (λ st. plays (unary pc st (λ a. indexed lo hi size a i)) cells) e ∙ ap (λ o. plays (pushed pc o (reverse rest)) cells) g ∙ ap (λ st. Onward (pc + 1) st cells) (sym h)
+    pub index_cell_at : (at : ℤ) (old rest new : List ℤ) (a x i to : ℤ) → seen cells at ≡ Some i → slice_get (reverse old) 0 ≡ Some a → reverse old ≡ x ∷ reverse rest → indexed lo hi size a i ≡ Some to → reverse new ≡ to ∷ reverse rest → plays (Loads at (λ i. unary pc (reverse old) (λ a. indexed lo hi size a i))) cells ≡ Onward (pc + 1) (reverse new) cells
+    index_cell_at at old rest new a x i to s f e g h = ap (λ o. on_value o (λ i. plays (unary pc (reverse old) (λ a. indexed lo hi size a i)) cells)) s
+        ∙ ap (λ st. plays (unary pc st (λ a. indexed lo hi size a i)) cells) (topped (reverse old) (reverse rest) a x f e) ∙ ap (λ o. plays (pushed pc o (reverse rest)) cells) g ∙ ap (λ st. Onward (pc + 1) st cells) (sym h)
 
-    pub index_cell_out : (at : ℤ) (old rest : List ℤ) (a i : ℤ) → seen cells at ≡ Some i → reverse old ≡ a ∷ reverse rest → indexed lo hi size a i ≡ None → plays (Loads at (λ i. unary pc (reverse old) (λ a. indexed lo hi size a i))) cells ≡ Raised ConstraintError (reverse rest) cells
-    index_cell_out at old rest a i s e g = ap (λ o. on_value o (λ i. plays (unary pc (reverse old) (λ a. indexed lo hi size a i)) cells)) s
-        ∙ ap (λ st. plays (unary pc st (λ a. indexed lo hi size a i)) cells) e ∙ ap (λ o. plays (pushed pc o (reverse rest)) cells) g
+    pub index_cell_out : (at : ℤ) (old rest : List ℤ) (a x i : ℤ) → seen cells at ≡ Some i → slice_get (reverse old) 0 ≡ Some a → reverse old ≡ x ∷ reverse rest → indexed lo hi size a i ≡ None → plays (Loads at (λ i. unary pc (reverse old) (λ a. indexed lo hi size a i))) cells ≡ Raised ConstraintError (reverse rest) cells
+    index_cell_out at old rest a x i s f e g = ap (λ o. on_value o (λ i. plays (unary pc (reverse old) (λ a. indexed lo hi size a i)) cells)) s
+        ∙ ap (λ st. plays (unary pc st (λ a. indexed lo hi size a i)) cells) (topped (reverse old) (reverse rest) a x f e) ∙ ap (λ o. plays (pushed pc o (reverse rest)) cells) g
 
     pub item_clear : (old mid rest : List ℤ) (a i to : ℤ) → IsClear (on_two (reverse old) (λ a i st. item_at pc (indexed lo hi size a i) st)) cells → reverse old ≡ i ∷ reverse mid → reverse mid ≡ a ∷ rest → indexed lo hi size a i ≡ Some to → IsSome (seen cells to)
     item_clear old mid rest a i to h e f g = some_of (seen cells to) (λ v. Unit {0}) (subst (λ o. IsClear (item_at pc o rest) cells) g (subst (λ st. IsClear (on_two st (λ a i st. item_at pc (indexed lo hi size a i) st)) cells) (e ∙ ap (λ st. i ∷ st) f) h))
@@ -133,18 +151,23 @@ module _ (pc : ℕ) (lo hi : ℤ) (size : ℕ) where
     pub item_out : (old mid rest : List ℤ) (a i : ℤ) → reverse old ≡ i ∷ reverse mid → reverse mid ≡ a ∷ reverse rest → indexed lo hi size a i ≡ None → plays (on_two (reverse old) (λ a i st. item_at pc (indexed lo hi size a i) st)) cells ≡ Raised ConstraintError (reverse rest) cells
     item_out old mid rest a i e f g = ap (λ st. plays (on_two st (λ a i st. item_at pc (indexed lo hi size a i) st)) cells) (e ∙ ap (λ st. i ∷ st) f) ∙ ap (λ o. plays (item_at pc o (reverse rest)) cells) g
 
-    pub item_cell_clear : (at : ℤ) (old rest : List ℤ) (a i to : ℤ) → IsClear (Loads at (λ i. on_one (reverse old) (λ a st. item_at pc (indexed lo hi size a i) st))) cells → seen cells at ≡ Some i → reverse old ≡ a ∷ rest → indexed lo hi size a i ≡ Some to → IsSome (seen cells to)
-    item_cell_clear at old rest a i to h s e g = some_of (seen cells to) (λ v. Unit {0}) (subst (λ o. IsClear (item_at pc o rest) cells) g (subst (λ st. IsClear (on_one st (λ a st. item_at pc (indexed lo hi size a i) st)) cells) e
-        (fact_of (seen cells at) (λ i. IsClear (on_one (reverse old) (λ a st. item_at pc (indexed lo hi size a i) st)) cells) i h s)))
+    pub item_cell_clear : (at : ℤ) (old : List ℤ) (a i to : ℤ) → IsClear (Loads at (λ i. on_one (reverse old) (λ a st. item_at pc (indexed lo hi size a i) st))) cells → seen cells at ≡ Some i → slice_get (reverse old) 0 ≡ Some a → indexed lo hi size a i ≡ Some to → IsSome (seen cells to)
+    item_cell_clear at old a i to h s e g = on_top (reverse old) e (fact_of (seen cells at) (λ i. IsClear (on_one (reverse old) (λ a st. item_at pc (indexed lo hi size a i) st)) cells) i h s)
+      where
+        on_top : (st : List ℤ) → slice_get st 0 ≡ Some a → IsClear (on_one st (λ a st. item_at pc (indexed lo hi size a i) st)) cells → IsSome (seen cells to)
+        on_top [] f w = cc
+        on_top (x ∷ rest) f w =
+            let same : x ≡ a = cc in
+            some_of (seen cells to) (λ v. Unit {0}) (subst (λ o. IsClear (item_at pc o rest) cells) g (subst (λ x. IsClear (item_at pc (indexed lo hi size x i) rest) cells) same w))
 
-    pub item_cell_at : (at : ℤ) (old rest new : List ℤ) (a i to v : ℤ) → seen cells at ≡ Some i → reverse old ≡ a ∷ reverse rest → indexed lo hi size a i ≡ Some to → seen cells to ≡ Some v → reverse new ≡ v ∷ reverse rest → plays (Loads at (λ i. on_one (reverse old) (λ a st. item_at pc (indexed lo hi size a i) st))) cells ≡ Onward (pc + 1) (reverse new) cells
-    item_cell_at at old rest new a i to v s e g t h = ap (λ o. on_value o (λ i. plays (on_one (reverse old) (λ a st. item_at pc (indexed lo hi size a i) st)) cells)) s
-        ∙ ap (λ st. plays (on_one st (λ a st. item_at pc (indexed lo hi size a i) st)) cells) e ∙ ap (λ o. plays (item_at pc o (reverse rest)) cells) g
+    pub item_cell_at : (at : ℤ) (old rest new : List ℤ) (a x i to v : ℤ) → seen cells at ≡ Some i → slice_get (reverse old) 0 ≡ Some a → reverse old ≡ x ∷ reverse rest → indexed lo hi size a i ≡ Some to → seen cells to ≡ Some v → reverse new ≡ v ∷ reverse rest → plays (Loads at (λ i. on_one (reverse old) (λ a st. item_at pc (indexed lo hi size a i) st))) cells ≡ Onward (pc + 1) (reverse new) cells
+    item_cell_at at old rest new a x i to v s f e g t h = ap (λ o. on_value o (λ i. plays (on_one (reverse old) (λ a st. item_at pc (indexed lo hi size a i) st)) cells)) s
+        ∙ ap (λ st. plays (on_one st (λ a st. item_at pc (indexed lo hi size a i) st)) cells) (topped (reverse old) (reverse rest) a x f e) ∙ ap (λ o. plays (item_at pc o (reverse rest)) cells) g
         ∙ ap (λ o. on_value o (λ v. Onward (pc + 1) (v ∷ reverse rest) cells)) t ∙ ap (λ st. Onward (pc + 1) st cells) (sym h)
 
-    pub item_cell_out : (at : ℤ) (old rest : List ℤ) (a i : ℤ) → seen cells at ≡ Some i → reverse old ≡ a ∷ reverse rest → indexed lo hi size a i ≡ None → plays (Loads at (λ i. on_one (reverse old) (λ a st. item_at pc (indexed lo hi size a i) st))) cells ≡ Raised ConstraintError (reverse rest) cells
-    item_cell_out at old rest a i s e g = ap (λ o. on_value o (λ i. plays (on_one (reverse old) (λ a st. item_at pc (indexed lo hi size a i) st)) cells)) s
-        ∙ ap (λ st. plays (on_one st (λ a st. item_at pc (indexed lo hi size a i) st)) cells) e ∙ ap (λ o. plays (item_at pc o (reverse rest)) cells) g
+    pub item_cell_out : (at : ℤ) (old rest : List ℤ) (a x i : ℤ) → seen cells at ≡ Some i → slice_get (reverse old) 0 ≡ Some a → reverse old ≡ x ∷ reverse rest → indexed lo hi size a i ≡ None → plays (Loads at (λ i. on_one (reverse old) (λ a st. item_at pc (indexed lo hi size a i) st))) cells ≡ Raised ConstraintError (reverse rest) cells
+    item_cell_out at old rest a x i s f e g = ap (λ o. on_value o (λ i. plays (on_one (reverse old) (λ a st. item_at pc (indexed lo hi size a i) st)) cells)) s
+        ∙ ap (λ st. plays (on_one st (λ a st. item_at pc (indexed lo hi size a i) st)) cells) (topped (reverse old) (reverse rest) a x f e) ∙ ap (λ o. plays (item_at pc o (reverse rest)) cells) g
 
 -- ---- counting loops
 

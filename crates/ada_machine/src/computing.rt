@@ -9,7 +9,7 @@ use crate::addresses::{load_outer, push_outer, store_outer};
 use crate::blocks::{copy, fill};
 use crate::cells::Cells;
 use crate::memory::{
-    index, index_cell, item, item_cell, load, load_cell, next, prior, store, store_cell,
+    Dimension, index, index_cell, item, item_cell, load, load_cell, next, prior, store, store_cell,
 };
 use crate::operands::{
     Computed, add, add_constant, check_range, combine_digits, compare, differ, divide, double,
@@ -19,36 +19,45 @@ use crate::operands::{
 };
 use stack_code::{Code, Digits, Instr, Relation};
 
+/// The frames that an instruction finds cells in: where the own one begins, and where those outward from a thread's own do,
+/// the innermost first.
+#[derive(Clone, Copy)]
+pub struct Frames<'a> {
+    /// Where the own frame begins.
+    pub base: u64,
+    /// Where the frames outward begin.
+    pub outward: &'a [u64],
+}
+
 /// Does an instruction that asks for no more than operands and cells.
 #[inline(always)]
 #[tactic(auto, using(crate::proofs::Outcomes::outcome, crate::proofs::Outcomes::outcome_or, crate::proofs::Outcomes::outcome_plays, crate::proofs::Outcomes::outcome_plays_or, crate::proofs::Outcomes::outcome_copies))]
 pub fn compute<C: Cells>(
     code: &Code,
-    instr: Instr,
+    instr: &Instr,
     pc: usize,
     stack: &mut Vec<i64>,
-    base: u64,
-    outward: &[u64],
+    frames: Frames,
     view: &mut C,
 ) -> Computed
-    requires operands { takes code.now instr ≤ vec_len stack.old }
-    requires room { vec_len stack.old + pushes code.now instr ≤ vec_capacity stack.old + takes code.now instr }
-    requires there { Finds code.now outward.now instr }
-    requires base { base ≤ 2 ^ 62 }
-    requires near { EachIndex outward.now (λ k. slice_index outward.now k ≤ 2 ^ 62) }
+    requires operands { takes code.now instr.now ≤ vec_len stack.old }
+    requires room { vec_len stack.old + pushes code.now instr.now ≤ vec_capacity stack.old + takes code.now instr.now }
+    requires there { Finds code.now frames.outward.now instr.now }
+    requires base { frames.base ≤ 2 ^ 62 }
+    requires near { EachIndex frames.outward.now (λ k. slice_index frames.outward.now k ≤ 2 ^ 62) }
     requires next { pc < usize.MAX }
-    requires clear { IsClear (deed_of code.now pc (reverse stack.old.items) base outward.now instr) (C.cells view.old) }
-    ensures deed { Outcome (deed_of code.now pc (reverse stack.old.items) base outward.now instr) instr result stack.old.items stack.new.items (C.cells view.old) (C.cells view.new) }
+    requires clear { IsClear (deed_of code.now pc (reverse stack.old.items) frames.base frames.outward.now instr.now) (C.cells view.old) }
+    ensures deed { Outcome (deed_of code.now pc (reverse stack.old.items) frames.entry.base frames.entry.outward.now instr.now) instr.now result stack.old.items stack.new.items (C.cells view.old) (C.cells view.new) }
     ensures room { vec_capacity stack.new ≡ vec_capacity stack.old }
     ensures stays { Stays C.floor C.whole C.place view.old view.new }
 {
-    match instr {
+    match *instr {
         Instr::Push(value) => push(stack, pc, value),
         Instr::Pop => pop(stack, pc),
         Instr::Dup => double(stack, pc),
         Instr::Swap => exchange(stack, pc),
-        Instr::Local(cell) => push_local(stack, pc, base, cell),
-        Instr::Outer(steps, cell) => push_outer(stack, pc, outward, steps, cell),
+        Instr::Local(cell) => push_local(stack, pc, frames.base, cell),
+        Instr::Outer(steps, cell) => push_outer(stack, pc, frames.outward, steps, cell),
         Instr::Global(cell) => push_number(stack, pc, cell),
         Instr::Index(low, high, size) => index(stack, pc, low, high, size),
         Instr::Field(field) => select(stack, pc, field),
@@ -83,19 +92,31 @@ pub fn compute<C: Cells>(
         Instr::JTrue(to) => jump_if_true(stack, pc, to),
         Instr::Raise(reason) => Computed::Failed(reason),
         Instr::Reraise => raise_again(stack),
-        Instr::LoadL(cell) => load_cell(stack, pc, view, base + u64::from(cell)),
-        Instr::LoadO(steps, cell) => load_outer(stack, pc, view, outward, steps, cell),
+        Instr::LoadL(cell) => load_cell(stack, pc, view, frames.base + u64::from(cell)),
+        Instr::LoadO(steps, cell) => load_outer(stack, pc, view, frames.outward, steps, cell),
         Instr::LoadG(cell) => load_cell(stack, pc, view, u64::from(cell)),
-        Instr::StoreL(cell) => store_cell(stack, pc, view, base + u64::from(cell)),
-        Instr::StoreO(steps, cell) => store_outer(stack, pc, view, outward, steps, cell),
+        Instr::StoreL(cell) => store_cell(stack, pc, view, frames.base + u64::from(cell)),
+        Instr::StoreO(steps, cell) => store_outer(stack, pc, view, frames.outward, steps, cell),
         Instr::StoreG(cell) => store_cell(stack, pc, view, u64::from(cell)),
         Instr::AddI(value, kind) => add_constant(stack, pc, value, kind),
         Instr::IndexL(cell, low, high, size) => {
-            index_cell(stack, pc, view, base + u64::from(cell), low, high, size)
+            index_cell(
+                stack,
+                pc,
+                view,
+                frames.base + u64::from(cell),
+                Dimension { low, high, size },
+            )
         }
         Instr::Item(low, high, size) => item(stack, pc, view, low, high, size),
         Instr::ItemL(cell, low, high, size) => {
-            item_cell(stack, pc, view, base + u64::from(cell), low, high, size)
+            item_cell(
+                stack,
+                pc,
+                view,
+                frames.base + u64::from(cell),
+                Dimension { low, high, size },
+            )
         }
         Instr::JfEq(to) => jump_unless(stack, pc, Relation::Equal, to),
         Instr::JfNe(to) => jump_unless(stack, pc, Relation::Unequal, to),
@@ -108,8 +129,8 @@ pub fn compute<C: Cells>(
                 stack,
                 pc,
                 view,
-                base + u64::from(counter),
-                base + u64::from(last),
+                frames.base + u64::from(counter),
+                frames.base + u64::from(last),
                 to,
             )
         }
@@ -118,8 +139,8 @@ pub fn compute<C: Cells>(
                 stack,
                 pc,
                 view,
-                base + u64::from(counter),
-                base + u64::from(last),
+                frames.base + u64::from(counter),
+                frames.base + u64::from(last),
                 to,
             )
         }

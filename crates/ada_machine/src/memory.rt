@@ -1,5 +1,5 @@
 // The instructions that read and write cells, by class.
-ghost use Rattle.std.specs.Prelude.{◌≡◌, ◌+◌, ◌-◌, ◌^◌, ◌<◌, ◌≤◌, ◌-ℤ◌, ◌+ℤ◌, ◌*ℤ◌, ◌≤ℤ◌, ◌∷◌, reverse, length, vec_len, vec_capacity, Option, Some, None, SomeIff, FitsSigned, IsSome, IsSomeAnd, pos, ℤ, int_lt, List, replicate, slice_get, slice_index, EachIndex};
+ghost use Rattle.std.specs.Prelude.{◌≡◌, ◌+◌, ◌-◌, ◌*◌, ◌^◌, ◌<◌, ◌≤◌, ◌-ℤ◌, ◌+ℤ◌, ◌*ℤ◌, ◌≤ℤ◌, ◌∷◌, reverse, length, vec_len, vec_capacity, Option, Some, None, SomeIff, FitsSigned, IsSome, IsSomeAnd, pos, ℤ, int_lt, List, replicate, slice_get, slice_index, EachIndex};
 ghost use Rattle.std.specs.Int.{w64};
 ghost use Rattle.ada_base.specs.Cells.{seen, written};
 ghost use Rattle.stack_code.specs.Deeds.{on_one, on_two, unary, binary, load_from, store_to, item_at, stepped, indexed, loads_all, stores_all, Loads, Stores, GoesOn};
@@ -7,7 +7,7 @@ ghost use Rattle.ada_machine.specs.Places.{Stays};
 ghost use Rattle.ada_machine.specs.Played.{cell_of, IsClear, IsPlaced, ComputesOr, Plays, PlaysOr};
 
 use crate::cells::Cells;
-use crate::operands::{Computed, is_between, put, take};
+use crate::operands::{Computed, is_between, put, take, top};
 use ada_base::Reason;
 
 #[inline(always)]
@@ -104,14 +104,38 @@ pub(crate) fn store_cell<C: Cells>(
 
 // ---- addresses of components
 
+// The product of two numbers of 32 bits needs no test.
+#[inline(always)]
+#[tactic(auto, using(crate::proofs::Memories::within_64))]
+fn cells_of(steps: u32, size: u32) -> u64
+    ensures { result ≡ steps * size }
+{
+    u64::from(steps) * u64::from(size)
+}
+
 // An address moved to a component, where 64 bits hold it.
 #[inline(always)]
 fn component(address: i64, low: i64, index: i64, size: u32) -> Option<i64>
     requires { low ≤ℤ index }
     ensures { SomeIff result (FitsSigned w64 (address +ℤ ((index -ℤ low) *ℤ pos size))) (address +ℤ ((index -ℤ low) *ℤ pos size)) }
 {
-    let cells = index.abs_diff(low).checked_mul(u64::from(size))?;
+    let steps = index.abs_diff(low);
+    if steps < 4_294_967_296 {
+        return address.checked_add_unsigned(cells_of(steps as u32, size));
+    }
+    let cells = steps.checked_mul(u64::from(size))?;
     address.checked_add_unsigned(cells)
+}
+
+/// A dimension of an array: its least index, its greatest, and the cells of one component (4.1.1).
+#[derive(Clone, Copy)]
+pub struct Dimension {
+    /// The least index.
+    pub low: i64,
+    /// The greatest.
+    pub high: i64,
+    /// The cells of a component.
+    pub size: u32,
 }
 
 // Where the component with an index stands; or the index is outside, or the address isn't in 64 bits.
@@ -171,28 +195,33 @@ pub(crate) fn index_cell<C: Cells>(
     pc: usize,
     view: &C,
     at: u64,
-    low: i64,
-    high: i64,
-    size: u32,
+    dimension: Dimension,
 ) -> Computed
     requires one { 1 ≤ vec_len stack.old }
-    requires clear { IsClear (Loads (pos at) (λ i. unary pc (reverse stack.old.items) (λ a. indexed low high size a i))) (C.cells view.now) }
+    requires clear { IsClear (Loads (pos at) (λ i. unary pc (reverse stack.old.items) (λ a. indexed dimension.low dimension.high dimension.size a i))) (C.cells view.now) }
     requires next { pc < usize.MAX }
-    ensures deed { PlaysOr (Loads (pos at) (λ i. unary pc (reverse stack.old.items) (λ a. indexed low high size a i))) result stack.old.items stack.new.items (C.cells view.now) (C.cells view.now) }
+    ensures deed { PlaysOr (Loads (pos at) (λ i. unary pc (reverse stack.old.items) (λ a. indexed dimension.low dimension.high dimension.size a i))) result stack.old.items stack.new.items (C.cells view.now) (C.cells view.now) }
     ensures room { vec_capacity stack.new ≡ vec_capacity stack.old }
 {
     let number = view.get(at);
-    let address = take(stack);
-    match place(address, low, high, number, size) {
+    let address = top(stack);
+    match place(
+        address,
+        dimension.low,
+        dimension.high,
+        number,
+        dimension.size,
+    ) {
         Placed::At(to) => {
+            let _ = take(stack);
             put(stack, to);
             Computed::To(pc + 1)
         }
-        Placed::Outside => Computed::Failed(Reason::ConstraintError),
-        Placed::Beyond => {
-            put(stack, address);
-            Computed::Beyond
+        Placed::Outside => {
+            let _ = take(stack);
+            Computed::Failed(Reason::ConstraintError)
         }
+        Placed::Beyond => Computed::Beyond,
     }
 }
 
@@ -236,29 +265,34 @@ pub(crate) fn item_cell<C: Cells>(
     pc: usize,
     view: &C,
     at: u64,
-    low: i64,
-    high: i64,
-    size: u32,
+    dimension: Dimension,
 ) -> Computed
     requires one { 1 ≤ vec_len stack.old }
-    requires clear { IsClear (Loads (pos at) (λ i. on_one (reverse stack.old.items) (λ a st. item_at pc (indexed low high size a i) st))) (C.cells view.now) }
+    requires clear { IsClear (Loads (pos at) (λ i. on_one (reverse stack.old.items) (λ a st. item_at pc (indexed dimension.low dimension.high dimension.size a i) st))) (C.cells view.now) }
     requires next { pc < usize.MAX }
-    ensures deed { PlaysOr (Loads (pos at) (λ i. on_one (reverse stack.old.items) (λ a st. item_at pc (indexed low high size a i) st))) result stack.old.items stack.new.items (C.cells view.now) (C.cells view.now) }
+    ensures deed { PlaysOr (Loads (pos at) (λ i. on_one (reverse stack.old.items) (λ a st. item_at pc (indexed dimension.low dimension.high dimension.size a i) st))) result stack.old.items stack.new.items (C.cells view.now) (C.cells view.now) }
     ensures room { vec_capacity stack.new ≡ vec_capacity stack.old }
 {
     let number = view.get(at);
-    let address = take(stack);
-    match place(address, low, high, number, size) {
+    let address = top(stack);
+    match place(
+        address,
+        dimension.low,
+        dimension.high,
+        number,
+        dimension.size,
+    ) {
         Placed::At(to) => {
             let value = read_at(view, to);
+            let _ = take(stack);
             put(stack, value);
             Computed::To(pc + 1)
         }
-        Placed::Outside => Computed::Failed(Reason::ConstraintError),
-        Placed::Beyond => {
-            put(stack, address);
-            Computed::Beyond
+        Placed::Outside => {
+            let _ = take(stack);
+            Computed::Failed(Reason::ConstraintError)
         }
+        Placed::Beyond => Computed::Beyond,
     }
 }
 

@@ -41,6 +41,17 @@ pub(crate) fn take(stack: &mut Vec<i64>) -> i64
     stack.take_last()
 }
 
+// The top, which stays.
+#[inline(always)]
+#[tactic(auto, using(crate::proofs::Changes::top_of))]
+pub(crate) fn top(stack: &Vec<i64>) -> i64
+    requires { 0 < vec_len stack.now }
+    ensures { slice_get (reverse stack.now.items) 0 ≡ Some result }
+{
+    let all = stack.as_slice();
+    all[all.len() - 1]
+}
+
 // Pushes the value, or raises Constraint_Error where there is none.
 #[inline(always)]
 pub(crate) fn settle(stack: &mut Vec<i64>, pc: usize, value: Option<i64>) -> Computed

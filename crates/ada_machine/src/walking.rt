@@ -5,12 +5,13 @@ ghost use Rattle.stack_code.specs.Runs.{NeverStuck};
 ghost use Rattle.stack_code.specs.Valid.{IsValid};
 ghost use Rattle.stack_code.specs.Tops.{IsTopped};
 ghost use Rattle.ada_machine.specs.Places.{Stays};
+ghost use Rattle.ada_machine.specs.Played.{AsksMore};
 ghost use Rattle.stack_code.specs.Looks.{looks_of, raise_looks};
 ghost use Rattle.ada_machine.specs.States.{state_of, Ready, Steps, Unwinds, StopsAt, ReadyAfter, LooksBy, Unlooked, TookLooks};
 
 use crate::calls::unwind_to;
 use crate::cells::Cells;
-use crate::computing::compute;
+use crate::computing::{Frames, compute};
 use crate::effecting::{effect, turn};
 use crate::effects::handle;
 use crate::machine::{Machine, Stop, Went};
@@ -19,15 +20,24 @@ use ada_base::Reason;
 use leave_board::Halt;
 use stack_code::{Code, Instr, Leave, Unwind};
 
+// The instruction there, by reference: each arm reads the operands that it has.
 #[inline(always)]
+fn instr_at(code: &Code, pc: usize) -> &Instr
+    requires { pc < length code.now.instrs }
+    ensures instr { slice_get code.now.instrs pc ≡ Some result.now }
+    ensures near { pc < usize.MAX }
+{
+    let instrs = code.instrs.as_slice();
+    let _long = instrs.len();
+    &instrs[pc]
+}
+
 pub(crate) fn fetch(code: &Code, pc: usize) -> Instr
     requires { pc < length code.now.instrs }
     ensures instr { slice_get code.now.instrs pc ≡ Some result }
     ensures near { pc < usize.MAX }
 {
-    let instrs = code.instrs.as_slice();
-    let _long = instrs.len();
-    instrs[pc]
+    *instr_at(code, pc)
 }
 
 // The first unwind entry that holds the instruction, which its spot names.
@@ -114,6 +124,35 @@ fn unwind<C: Cells, H: Halt>(
     }
 }
 
+// An instruction that asks for more. What it comes to stands in memory of this function, so that `advance`, which is part of
+// the loop, clears none at each instruction.
+#[inline(always)]
+fn proceed<C: Cells, H: Halt>(
+    code: &Code,
+    m: &mut Machine,
+    view: &mut C,
+    limit: u64,
+    halt: &mut H,
+    instr: Instr,
+) -> Went
+    requires ready { Ready code.now m.old (C.cells view.old) }
+    requires calm { m.old.raising ≡ None }
+    requires at { slice_get code.now.instrs m.old.pc ≡ Some instr }
+    requires more { AsksMore instr }
+    requires within { m.old.turns ≤ limit }
+    requires next { m.old.pc < usize.MAX }
+    requires whole { C.whole view.old }
+    requires tops { IsTopped (C.floor view.old) (state_of m.old (C.cells view.old)) }
+    ensures steps { Steps limit code.now result m.old (C.cells view.old) m.new (C.cells view.new) }
+    ensures paused { result ≡ Went.Stopped Stop.Paused → H.told halt.new }
+    ensures halts { (H.kept halt.new ≡ H.kept halt.old) × (H.told halt.old → H.told halt.new) }
+    ensures stays { Stays C.floor C.whole C.place view.old view.new }
+    ensures looks { LooksBy result m.old.looks m.new.looks (looks_of code.now (state_of m.old (C.cells view.old))) }
+{
+    let went = effect(code, m, view, limit, halt, instr);
+    went
+}
+
 // One instruction.
 #[inline(always)]
 fn advance<C: Cells, H: Halt>(
@@ -135,17 +174,19 @@ fn advance<C: Cells, H: Halt>(
     ensures stays { Stays C.floor C.whole C.place view.old view.new }
     ensures looks { LooksBy result m.old.looks m.new.looks (looks_of code.now (state_of m.old (C.cells view.old))) }
 {
-    let instr = fetch(code, m.pc);
+    let instr = instr_at(code, m.pc);
     let _height = m.stack.len();
-    match instr {
+    match *instr {
         Instr::Turn => turn(code, m, limit, halt),
         _ => match compute(
             code,
             instr,
             m.pc,
             &mut m.stack,
-            m.base,
-            m.outward.as_slice(),
+            Frames {
+                base: m.base,
+                outward: m.outward.as_slice(),
+            },
             view,
         ) {
             Computed::To(to) => {
@@ -157,7 +198,7 @@ fn advance<C: Cells, H: Halt>(
                 Went::Raising
             }
             Computed::Beyond => Went::Stopped(Stop::NoMemory),
-            Computed::Other => effect(code, m, view, limit, halt, instr),
+            Computed::Other => proceed(code, m, view, limit, halt, *instr),
         },
     }
 }

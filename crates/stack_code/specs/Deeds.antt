@@ -193,9 +193,16 @@ natural (negsuc n) = 0
 abbrev pub many : (first last : ℤ) → ℕ
 many first last = natural (last +ℤ pos 1 -ℤ first)
 
+-- the most iterations that a fork may have, and the most threads
+abbrev pub most_iterations : ℕ
+most_iterations = 2 ^ 62
+
+abbrev pub most_threads : ℕ
+most_threads = 4096
+
 -- a fork may begin with so many iterations or arms, and so many threads at most
 abbrev pub can_fork : (count most : ℕ) → Bool
-can_fork count most = nat_le count (2 ^ 62) && (nat_le 1 most && nat_le most 4096)
+can_fork count most = nat_le count most_iterations && (nat_le 1 most && nat_le most most_threads)
 
 abbrev pub asked : ℕ → (first last chunk last_chunk initial : ℤ) → Asked
 asked site first last chunk last_chunk initial = record { site = site; count = many first last; first = first; most = many chunk last_chunk; chunk = chunk; initial = initial }
