@@ -39,9 +39,9 @@ HasEnding InTells words before ending = (q : Asked) × (c : Compiled) × Asks wo
 abbrev pub HasVars : Type 0 → List (List ℕ) → Outside → Type 0
 HasVars InTells words before = (q : Asked) × (c : Compiled) × Asks words before.shelf q c × (q.mode ≡ mode.Run) × (q.vars ≡ true) × MayEnd InTells q c before.devices Ended
 
--- the words ask whether an accepted text is accepted
+-- the words ask whether an accepted text is accepted, or for its code
 abbrev pub HasCheck : List (List ℕ) → Outside → Type 0
-HasCheck words before = (q : Asked) × (c : Compiled) × Asks words before.shelf q c × (q.mode ≡ mode.Check)
+HasCheck words before = (q : Asked) × (c : Compiled) × Asks words before.shelf q c × ((q.mode ≡ mode.Check) ⊎ (q.mode ≡ mode.List))
 
 -- the words ask for a file, and no text that is told of it is accepted
 abbrev pub IsNotAccepted : List (List ℕ) → Outside → Type 0

@@ -3,12 +3,14 @@
 ghost use Rattle.std.specs.Prelude.{◌≡◌, IfOk, string_bytes};
 ghost use Rattle.ada_port.specs.Ports.{IsTold};
 ghost use Rattle.run_plan.specs.Plans.{HasNoZero};
+ghost use Rattle.driver.specs.Coded.{HasCode};
 ghost use Rattle.driver.specs.Compile.{IsAccepted, IsRefusalOf};
+ghost use Rattle.stack_code.specs.Listing.{listing_of};
 ghost use Rattle.driver.specs.Compiled.{compiled_of};
 ghost use Rattle.run_reports.specs.Ends.{values_of};
 ghost use Rattle.command_words.specs.Answers.{asked_of, settings_of};
 ghost use Rattle.command_words.specs.Words.{Asked};
-ghost use Rattle.ada_cmd.specs.Answer.{AnswersFile, AnswersText, Closes, EndsBy, IsRefusedLine, RunsUnit, SaysRefusal, devices, outside};
+ghost use Rattle.ada_cmd.specs.Answer.{AnswersFile, AnswersText, Closes, EndsBy, IsRefusedLine, ListsCode, RunsUnit, SaysRefusal, devices, outside};
 ghost use Rattle.run_reports.specs.Lines.{accepted_line};
 ghost use Rattle.run_reports.specs.Vars.{vars_lines};
 
@@ -20,6 +22,7 @@ use run_reports::{
     Status, Unput, put_vars, say, say_out_of_memory, say_raised, say_read_fault, say_spent,
     say_unreadable, say_write_fault,
 };
+use stack_code::{Code, listing};
 use std::alloc::{AllocError, Global};
 use std::thread::Threads;
 
@@ -106,6 +109,25 @@ fn say_accepted<O: Sink, E: Sink>(out: &mut O, err: &mut E) -> Status
     }
 }
 
+/// Lists code.
+fn say_listing<O: Sink, E: Sink>(alloc: Global, code: &Code, out: &mut O, err: &mut E) -> Status
+    ensures { ListsCode code.now result (O.state out.old) (O.state out.new) (E.state err.old) (E.state err.new) }
+{
+    match listing(alloc, code) {
+        Ok(text) => put_listing(&text, out, err),
+        Err(_) => say_out_of_memory(err),
+    }
+}
+
+fn put_listing<O: Sink, E: Sink>(text: &str, out: &mut O, err: &mut E) -> Status
+    ensures { Closes text.now result (O.state out.old) (O.state out.new) (E.state err.old) (E.state err.new) }
+{
+    match out.put(text.as_bytes()) {
+        Ok(()) => Status::Done,
+        Err(_) => say_write_fault(err),
+    }
+}
+
 fn say_refusal<E: Sink>(
     alloc: Global,
     file: &str,
@@ -169,6 +191,11 @@ fn answer_text<R: Threads + Sync, I: Source + Drop, O: Sink + Drop, E: Sink, P: 
             Mode::Check => {
                 let mut out = out;
                 let status = say_accepted(&mut out, err);
+                Given { status, input, out }
+            }
+            Mode::List => {
+                let mut out = out;
+                let status = say_listing(alloc, &unit.code, &mut out, err);
                 Given { status, input, out }
             }
             Mode::Run => run_unit(rt, alloc, &unit, setting, vars, input, out, err, pulse),

@@ -4,6 +4,9 @@ ghost use Rattle.std.specs.Prelude.{◌≡◌, ◌⊎◌, ◌<◌, ℕ, List, So
 ghost use Rattle.ada_base.specs.declared.reason.Reason.{Reason};
 ghost use Rattle.ada_meaning.specs.Law.{Ended, IsRaceFree, Raised, ReadFault, TurnsSpent};
 ghost use Rattle.ada_port.specs.Ports.{IsTold, Rose, fetched};
+ghost use Rattle.stack_code.specs.Listing.{listing_of};
+ghost use Rattle.stack_code.specs.declared.code.Code.{Code};
+ghost use Rattle.driver.specs.Coded.{HasCode};
 ghost use Rattle.driver.specs.Compile.{IsAccepted, IsFaultOf};
 ghost use Rattle.driver.specs.Compiled.{Compiled};
 ghost use Rattle.driver.specs.Complaints.{Complaint};
@@ -70,7 +73,7 @@ fn answer_words<
 /// 4 where an exception is unhandled, 5 where the turns are spent, 6 for a fault of the input, 7 for a fault of out or err,
 /// and 8 for want of memory.
 ///
-/// The words are `MODE FILE [--workers N] [--chunks PLAN] [--turns K] [--vars]`, where MODE is `check` or `run`. The text is
+/// The words are `MODE FILE [--workers N] [--chunks PLAN] [--turns K] [--vars]`, where MODE is `check`, `run` or `list`. The text is
 /// fetched, compiled and run. There is an input on which the manual permits, under the plan, a run that ends so, with these
 /// final variables: the one that the input tells, where it tells, of which what that run didn't take is left. Where out tells,
 /// the bytes written are that run's, and where `--vars` stands there and the run ended normally, a line for each final
@@ -123,6 +126,11 @@ pub fn run_words<
         (devices (I.state input) (O.state out) (E.state err.old)) (devices (I.state result.input) (O.state result.out) (E.state err.new)) }
     ensures checks { (q : Asked) (told : List ℕ) (c : Compiled) → asked (map string_bytes words.now) ≡ Some q → q.mode ≡ modes.Check → (F.state shelf.old).told q.file ≡ Some told → IsAccepted (fetched told) c →
         Meets (λ given. (I.state result.input ≡ I.state input) × Closes accepted_line given (O.state out) (O.state result.out) (E.state err.old) (E.state err.new)) result.status
+        (outside (F.state shelf.old) (I.state input) (O.state out) (E.state err.old))
+        (outside (F.state shelf.new) (I.state result.input) (O.state result.out) (E.state err.new)) }
+    // The listing of the code of an accepted text's typed program, whose parallel constructs lend what their threads may write.
+    ensures lists { (q : Asked) (told : List ℕ) (c : Compiled) → asked (map string_bytes words.now) ≡ Some q → q.mode ≡ modes.List → (F.state shelf.old).told q.file ≡ Some told → IsAccepted (fetched told) c →
+        Meets (λ given. (I.state result.input ≡ I.state input) × ((code : Code) × HasCode c.program code × Closes (listing_of code) given (O.state out) (O.state result.out) (E.state err.old) (E.state err.new))) result.status
         (outside (F.state shelf.old) (I.state input) (O.state out) (E.state err.old))
         (outside (F.state shelf.new) (I.state result.input) (O.state result.out) (E.state err.new)) }
     ensures refuses { (q : Asked) (told : List ℕ) (fault : Complaint) → asked (map string_bytes words.now) ≡ Some q → (F.state shelf.old).told q.file ≡ Some told → IsFaultOf (fetched told) fault →

@@ -1,3 +1,4 @@
+mod Coded
 pub mod Phases
 pub mod Exact
 pub mod Places
@@ -7,4 +8,5 @@ pub mod Words
 mod Leavings
 mod FromTheOutset
 mod Truths
+mod Coded
 mod Declaring

@@ -11,6 +11,7 @@ ghost use Rattle.ada_meaning.specs.Law.{IsRaceFree};
 ghost use Rattle.ada_meaning.specs.Nonblocking.{KeepsRule};
 ghost use Rattle.typed_tree.specs.Programs.{program};
 ghost use Rattle.syntax_nodes.specs.Trees.{program_of};
+ghost use Rattle.driver.specs.Coded.{HasCode};
 ghost use Rattle.driver.specs.Complaints.{Complaint};
 ghost use Rattle.driver.specs.Compile.{Decides, IsRefusal, lexing, parsing, from_unblocked, from_typed, from_tree, from_tokens, compiling, refusal_of, IsAccepted, IsFaultOf, IsRefusalOf, GivesUnit, GivesRefusal};
 ghost use Rattle.driver.specs.Compiled.{Compiled, compiled_of};
@@ -34,10 +35,13 @@ use typed_tree::Typed;
 /// where that rule is asked for; and else the least pair of effects in different threads that clash (`E10`). No two threads
 /// of an accepted text touch one variable where one writes, under whatever plan, limit and number of workers.
 ///
+/// The code of a unit is that of its typed program, whose parallel constructs lend what their threads may write.
+///
 /// An accepted text gets its unit, and every fault of a text its refusal, unless memory runs out.
 pub fn compile(alloc: Global, text: &[u8]) -> Result<Unit, Refusal>
     ensures accepted { IfOk result (λ unit. IsAccepted text.now (compiled_of unit)) }
     ensures race_free { IfOk result (λ unit. IsRaceFree (program unit.typed)) }
+    ensures coded { IfOk result (λ unit. HasCode (program unit.typed) unit.code) }
     ensures refused { IfErr result (IsRefusalOf text.now) }
     ensures all_accepted { (due : Compiled) → IsAccepted text.now due → GivesUnit result due }
     ensures all_refused { (fault : Complaint) → IsFaultOf text.now fault → GivesRefusal result (refusal_of fault) }
@@ -98,10 +102,11 @@ fn finished(alloc: Global, tokens: &Tokens, typed: Typed) -> Result<Unit, Refusa
     requires formed { IsFormed (program typed) }
     ensures { Decides (from_unblocked tokens.now) compiled_of (program typed) result }
 {
-    if let Err(refusal) = separated(alloc, tokens, &typed) {
-        return Err(refusal);
-    }
-    match built(alloc, tokens, typed) {
+    let grants = match separated(alloc, tokens, &typed) {
+        Ok(grants) => grants,
+        Err(refusal) => return Err(refusal),
+    };
+    match built(alloc, tokens, typed, &grants) {
         Ok(unit) => Ok(unit),
         Err(refusal) => Err(refusal),
     }

@@ -1,0 +1,5 @@
+mod Lent
+mod Reading
+mod Sizes
+mod Table
+mod Ways
