@@ -1,0 +1,4 @@
+mod Asks
+mod Safety
+mod Endings
+mod Onward
