@@ -5,3 +5,5 @@
 
 #[cfg(test)]
 mod listings;
+#[cfg(test)]
+mod runs;
