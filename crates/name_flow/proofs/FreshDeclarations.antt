@@ -1,6 +1,6 @@
 -- Objects that declarations declare have numbers behind those of the objects before them.
-use Rattle.std.proofs.Common.{◌≡◌, refl, ℕ, ℤ, suc, ◌+◌, ◌≤◌, List, [], ◌∷◌, length, length-append, Option, Some, None, Bool, true, false, if◌then◌else◌, option_map, arith}
-use Rattle.std.specs.Prelude.{is_some, not}
+use Rattle.std.proofs.Common.{ℕ, ℤ, suc, ◌≤◌, List, [], ◌∷◌, Option, Some, None, Bool, true, false, if◌then◌else◌, arith}
+use Rattle.std.specs.Prelude.{is_some}
 use Rattle.syntax_tree.specs.Syntax as syntax
 use Rattle.syntax_tree.specs.Syntax.{Decl, Expr, Ids, ObjectType}
 use Rattle.typed_tree.specs.Decoded as part

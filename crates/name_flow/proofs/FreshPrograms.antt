@@ -1,7 +1,5 @@
 -- Objects of subprograms and programs: each is new where it is declared.
-use Rattle.std.proofs.Common.{◌≡◌, refl, sym, ap, subst, ◌∙◌, ℕ, zero, suc, ◌-◌, ◌<◌, ◌≤◌, List, [], ◌∷◌, ◌++◌, length, map, Option, Some, None, Bool, false, option_map, arith}
-use Rattle.std.specs.Prelude.{not}
-use Rattle.behaviours.specs.Paths.{Entity}
+use Rattle.std.proofs.Common.{◌≡◌, refl, sym, subst, ℕ, zero, suc, ◌-◌, ◌≤◌, List, [], ◌∷◌, ◌++◌, length, map, Option, Some, None, Bool, false, option_map, arith}
 use Rattle.ada_meaning.specs.Meaning.{sub_at}
 use Rattle.syntax_tree.specs.Parsed.{depth_limit}
 use Rattle.syntax_tree.specs.Syntax as syntax
@@ -9,12 +7,12 @@ use Rattle.syntax_tree.specs.Syntax.{Aspect, Body, Decl, Expr, Formal, Formals, 
 use Rattle.typed_tree.specs.Decoded as part
 use Rattle.typed_tree.specs.Decoded.{TypedPart, as_body, as_decl, as_decls}
 use Rattle.typed_tree.specs.Latest.{turned}
+use Rattle.typed_objects.specs.Objects.{block_objects, decl_objects, formal_objects, handler_objects, stmts_objects, sub_objects}
 use Rattle.typed_tree.specs.Syntax as typed
 use Rattle.typed_tree.specs.Syntax.{Decls, Sub as TypedSub}
-use Rattle.typed_tree.specs.declared.program.Formal.{Formal as TypedFormal}
 use Rattle.typed_tree.specs.declared.program.Mode.{Mode}
-use Rattle.name_rules.specs.Declarations.{all_ids, begun_names, cells_counted, declaration, declarations, new_object}
-use Rattle.name_rules.specs.Judging.{◌>>=◌, joined, pure}
+use Rattle.name_rules.specs.Declarations.{all_ids, begun_names, declaration, declarations, new_object}
+use Rattle.name_rules.specs.Judging.{joined}
 use Rattle.name_rules.specs.Primaries.{inside}
 use Rattle.name_rules.specs.Programs as p
 use Rattle.name_rules.specs.Programs.{Declared', Profiled, Whole}
@@ -25,34 +23,28 @@ use Rattle.name_rules.specs.declared.log.Log.{Log}
 use Rattle.name_rules.specs.declared.log.Taken.{Taken}
 use Rattle.name_rules.specs.declared.scope.Context.{Context}
 use Rattle.name_rules.specs.declared.scope.Names.{Names}
-use Rattle.name_rules.specs.declared.types.Scalar.{Scalar}
 use Rattle.name_rules.specs.declared.types.Subtype.{Subtype}
-use Rattle.name_laws.proofs.KeepsDeclarations.{k-begun_names, k-declaration, k-declarations}
+use Rattle.name_laws.proofs.KeepsDeclarations.{k-begun_names}
 use Rattle.name_laws.proofs.KeepsPrimaries.{k-inside}
 use Rattle.name_laws.proofs.KeepsPrograms as k
 use Rattle.name_laws.proofs.KeepsScope.{k-free, k-subtype_named}
-use Rattle.name_laws.proofs.KeepsStatements.{k-around, k-body}
 use Rattle.name_laws.proofs.Makes.{Any, Each, Maybe, each-turned, joint, mapped}
 use Rattle.name_flow.specs.Fresh.{FreshAll, FreshFormals, FreshHandlers, FreshStmt, IsFresh, behind, no_object, with_formals}
 use Rattle.name_flow.specs.Law.{FreshLaw}
-use Rattle.name_flow.proofs.Between.{BetweenAll, BetweenHandlers, Open, OutDecls, UpDecls, UpFormals, fresh-all, fresh-decls, fresh-formals, fresh-handlers, fresh-stmt, open-behind, up-less, wide-all, wide-handlers}
+use Rattle.name_flow.proofs.Between.{Avoids, Open, Rises, fresh-both, fresh-decls, fresh-formals, fresh-stmt, least, open-behind, rises-join, rises-less, rises-split, rises-wide}
 use Rattle.name_flow.proofs.Finds.{any}
 use Rattle.name_flow.proofs.FlowPrograms.{whole-of}
 use Rattle.name_flow.proofs.FreshDeclarations.{Chain, NewIn, declaration-in, declarations-in, new-object}
-use Rattle.name_flow.proofs.FreshStatements.{Begun, BodyIn, DoneIn, around-numbers, body-in, done-chain, maybe-more}
+use Rattle.name_flow.proofs.FreshStatements.{Begun, BodyIn, DoneIn, around-numbers, body-in, body-rises, done-chain, maybe-more}
 use Rattle.name_flow.proofs.Numbers.{counted-many, growing, growing-profiles, many}
-
-least : (n : ℕ) → n ≤ n
-least n = omega arith
 
 -- ---- formal parameters
 
 abbrev TakesIn : ℕ → ℕ → List Taken → Type 0
-TakesIn lo hi ts = UpFormals lo hi (map p.typed_formal ts)
+TakesIn lo hi ts = Rises lo hi (formal_objects (map p.typed_formal ts))
 
 takes-wide : (lo hi top : ℕ) (ts : List Taken) → hi ≤ top → TakesIn lo hi ts → TakesIn lo top ts
-takes-wide lo hi top [] l h = omega (arith, l, h)
-takes-wide lo hi top (t ∷ ts) l h = (h.0, takes-wide (suc t.object) hi top ts l h.1)
+takes-wide lo hi top ts l h = rises-wide lo hi lo top (formal_objects (map p.typed_formal ts)) (least lo) l h
 
 takes-more : (lo mid hi : ℕ) (ts : List Taken) (t : Taken) → TakesIn lo mid ts → mid ≤ t.object → suc t.object ≤ hi → TakesIn lo hi (ts ++ t ∷ [])
 takes-more lo mid hi [] t h l m = (omega (arith, h, l), m)
@@ -125,29 +117,17 @@ profile-in names start here name result fs log =
 
 -- ---- subprograms
 
-pub record SubIn (lo hi : ℕ) (s : TypedSub) : Type 0 where
-  pub mid : ℕ
-  pub last : ℕ
-  pub formals : UpFormals lo mid s.formals
-  pub decls : UpDecls mid last s.body.decls
-  pub more : last ≤ hi
-  pub stmts : BetweenAll last hi s.body.stmts
-  pub handlers : BetweenHandlers last hi s.body.handlers
+abbrev pub SubIn : ℕ → ℕ → TypedSub → Type 0
+SubIn lo hi s = Rises lo hi (sub_objects s)
 
 abbrev Anything : Decls → Type 0
 Anything ds = Unit {0}
 
 -- a subprogram of a profile and a body
 sub-made : (lo at last hi top : ℕ) (q : Profiled) (z : Bool) (n : ℕ) (x : TypedPart) → TakesIn lo at q.takes → hi ≤ top → BodyIn Anything at last hi x → SubIn lo top (p.sub_where q z n x)
-sub-made lo at last hi top q z n x h m b = record {
-  mid = at;
-  last = last;
-  formals = h;
-  decls = b.decls;
-  more = omega (arith, b.more, m);
-  stmts = wide-all last hi last top (as_body x).stmts (least last) m b.stmts;
-  handlers = wide-handlers last hi last top (as_body x).handlers (least last) m b.handlers;
-}
+sub-made lo at last hi top q z n x h m b =
+    let objects = block_objects (as_body x).decls (as_body x).stmts (as_body x).handlers in
+    rises-join lo at top (formal_objects (map p.typed_formal q.takes)) objects h (rises-wide at hi at top objects (least at) m (body-rises Anything at last hi x b))
 
 with-body : (names : Names) (n : ℕ) (blocking : Bool) (name : ℕ) (lo : ℕ) (q : Profiled) (a : Option Aspect) (ds : List Decl) (b : Body) (last : Option ℕ) (log : Log) → TakesIn lo (many log) q.takes
     → (let r = p.with_body names n blocking name q a ds b last log in Maybe (SubIn lo (many r.1)) r.0)
@@ -165,7 +145,7 @@ with-body names n blocking name lo q a ds b last log h =
     (λ i c v t. sub-made lo (many z.1) (many r.1) (many x.1) (many u.1) q z.0 i c (takes-wide lo (many log) (many z.1) q.takes one h) four t)
 
 returned-in : (m : ℕ) (v : TypedPart) → BodyIn Anything m m m (p.returned_body v)
-returned-in m v = record { known = tt; decls = least m; stmts = (tt, tt); handlers = tt; more = least m }
+returned-in m v = record { known = tt; decls = least m; rest = least m }
 
 with-value : (names : Names) (n : ℕ) (blocking : Bool) (lo : ℕ) (q : Profiled) (a : Option Aspect) (e : Expr) (log : Log) → TakesIn lo (many log) q.takes
     → (let r = p.with_value_of names n blocking q a e log in Maybe (SubIn lo (many r.1)) r.0)
@@ -193,47 +173,49 @@ subprogram-in names n blocking start here (syntax.ExprFunction at name fs result
 -- ---- the main procedure: its objects have none of the numbers of a subprogram
 
 abbrev OutDecl : ℕ → ℕ → TypedPart → Type 0
-OutDecl lo hi x = (ds : Decls) → OutDecls lo hi ds → OutDecls lo hi (as_decl x ds)
+OutDecl lo hi x = (ds : Decls) → Avoids lo hi (decl_objects ds) → Avoids lo hi (decl_objects (as_decl x ds))
 
 -- a subprogram whose numbers no declaration of a chain has
-pub record ApartIn (m : ℕ) (x : TypedPart) (s : TypedSub) : Type 0 where
+pub record ApartIn (x : TypedPart) (s : TypedSub) : Type 0 where
   pub lo : ℕ
   pub hi : ℕ
-  pub below : hi ≤ m
   pub sub : SubIn lo hi s
   pub out : Each (OutDecl lo hi) x
 
-abbrev AllApart : List TypedSub → ℕ → TypedPart → Type 0
-AllApart [] m x = Unit {0}
-AllApart (s ∷ ss) m x = ApartIn m x s × AllApart ss m x
+-- subprograms in order, from one number on and up to another
+abbrev AllApart : List TypedSub → ℕ → ℕ → TypedPart → Type 0
+AllApart [] from m x = from ≤ m
+AllApart (s ∷ ss) from m x = (h : ApartIn x s) × (from ≤ h.lo) × AllApart ss h.hi m x
 
-apart-later : (m n : ℕ) (x : TypedPart) (s : TypedSub) → m ≤ n → ApartIn m x s → ApartIn n x s
-apart-later m n x s l h = record { lo = h.lo; hi = h.hi; below = omega (arith, h.below, l); sub = h.sub; out = h.out }
+apart-less : (ss : List TypedSub) (from m : ℕ) (x : TypedPart) → AllApart ss from m x → from ≤ m
+apart-less [] from m x h = h
+apart-less (s ∷ ss) from m x (h, l, k) = omega (arith, l, rises-less h.lo h.hi (sub_objects s) h.sub, apart-less ss h.hi m x k)
+
+all-later : (ss : List TypedSub) (from m n : ℕ) (x : TypedPart) → m ≤ n → AllApart ss from m x → AllApart ss from n x
+all-later [] from m n x l h = omega (arith, l, h)
+all-later (s ∷ ss) from m n x l (h, k, r) = (h, k, all-later ss h.hi m n x l r)
 
 -- one more declaration, of a number that is none of these
-apart-also : (m n : ℕ) (x y : TypedPart) (s : TypedSub) → m ≤ n → ((lo hi : ℕ) → hi ≤ m → OutDecl lo hi y) → ApartIn m x s → ApartIn n (part.Cons y x) s
-apart-also m n x y s l o h = record { lo = h.lo; hi = h.hi; below = omega (arith, h.below, l); sub = h.sub; out = (o h.lo h.hi h.below, h.out) }
-
-all-later : (ss : List TypedSub) (m n : ℕ) (x : TypedPart) → m ≤ n → AllApart ss m x → AllApart ss n x
-all-later [] m n x l h = tt
-all-later (s ∷ ss) m n x l h = (apart-later m n x s l h.0, all-later ss m n x l h.1)
-
-all-also : (ss : List TypedSub) (m n : ℕ) (x y : TypedPart) → m ≤ n → ((lo hi : ℕ) → hi ≤ m → OutDecl lo hi y) → AllApart ss m x → AllApart ss n (part.Cons y x)
-all-also [] m n x y l o h = tt
-all-also (s ∷ ss) m n x y l o h = (apart-also m n x y s l o h.0, all-also ss m n x y l o h.1)
+all-also : (ss : List TypedSub) (from m n : ℕ) (x y : TypedPart) → m ≤ n → ((lo hi : ℕ) → hi ≤ m → OutDecl lo hi y) → AllApart ss from m x → AllApart ss from n (part.Cons y x)
+all-also [] from m n x y l o h = omega (arith, l, h)
+all-also (s ∷ ss) from m n x y l o (h, k, r) = (record { lo = h.lo; hi = h.hi; sub = h.sub; out = (o h.lo h.hi (apart-less ss h.hi m x r), h.out) }, k, all-also ss h.hi m n x y l o r)
 
 abbrev MainIn : List TypedSub → ℕ → TypedPart → Type 0
-MainIn ss m x = DoneIn 0 m x × AllApart ss m x
+MainIn ss m x = DoneIn 0 m x × AllApart ss 0 m x
+
+-- a declaration of an object behind those so far
+out-object : (m n : ℕ) (x : TypedPart) → ((ds : Decls) → decl_objects (as_decl x ds) ≡ n ∷ decl_objects ds) → m ≤ n → (lo hi : ℕ) → hi ≤ m → OutDecl lo hi x
+out-object m n x e l lo hi b ds u = subst (Avoids lo hi) (sym (e ds)) ((λ g i. omega (arith, b, l, i)), u)
 
 main-chain : (ss : List TypedSub) → Chain (MainIn ss)
 main-chain ss =
     let c = done-chain 0 in
     record {
-      lasts = λ m n x l h. (c.lasts m n x l h.0, all-later ss m n x l h.1);
-      mention = λ m x es h. (c.mention m x es h.0, all-also ss m m x (part.ADecl (typed.Mentions es)) (least m) (λ lo hi b ds u. u) h.1);
-      default = λ m n o x h l k. (c.default m n o x h.0 l k, all-also ss m o x (part.ADecl (typed.DeclareDefault n)) (omega (arith, l, k)) (λ lo hi b ds u. ((λ e i. omega (arith, b, l, i)), u)) h.1);
-      variable = λ m n o x v h l k. (c.variable m n o x v h.0 l k, all-also ss m o x (part.ADecl (typed.DeclareVariable n v)) (omega (arith, l, k)) (λ lo hi b ds u. ((λ e i. omega (arith, b, l, i)), u)) h.1);
-      constant = λ m n o x v h l k. (c.constant m n o x v h.0 l k, all-also ss m o x (part.ADecl (typed.DeclareConstant n v)) (omega (arith, l, k)) (λ lo hi b ds u. ((λ e i. omega (arith, b, l, i)), u)) h.1);
+      lasts = λ m n x l h. (c.lasts m n x l h.0, all-later ss 0 m n x l h.1);
+      mention = λ m x es h. (c.mention m x es h.0, all-also ss 0 m m x (part.ADecl (typed.Mentions es)) (least m) (λ lo hi b ds u. u) h.1);
+      default = λ m n o x h l k. (c.default m n o x h.0 l k, all-also ss 0 m o x (part.ADecl (typed.DeclareDefault n)) (omega (arith, l, k)) (out-object m n (part.ADecl (typed.DeclareDefault n)) (λ ds. refl) l) h.1);
+      variable = λ m n o x v h l k. (c.variable m n o x v h.0 l k, all-also ss 0 m o x (part.ADecl (typed.DeclareVariable n v)) (omega (arith, l, k)) (out-object m n (part.ADecl (typed.DeclareVariable n v)) (λ ds. refl) l) h.1);
+      constant = λ m n o x v h l k. (c.constant m n o x v h.0 l k, all-also ss 0 m o x (part.ADecl (typed.DeclareConstant n v)) (omega (arith, l, k)) (out-object m n (part.ADecl (typed.DeclareConstant n v)) (λ ds. refl) l) h.1);
     }
 
 -- declarations so far have smaller numbers than what follows
@@ -242,28 +224,27 @@ done-out lo m a b part.Nothing l h = tt
 done-out lo m a b (part.Cons y x) l (mid, g, h) = ((λ ds u. h.out a b ds l u), done-out lo mid a b x (omega (arith, l, h.grows)) g)
 done-out lo m a b x l h = absurd h
 
-apart-more : (ss : List TypedSub) (s : TypedSub) (m : ℕ) (x : TypedPart) → AllApart ss m x → ApartIn m x s → AllApart (ss ++ s ∷ []) m x
-apart-more [] s m x h a = (a, tt)
-apart-more (t ∷ ss) s m x h a = (h.0, apart-more ss s m x h.1 a)
+apart-more : (ss : List TypedSub) (s : TypedSub) (from m n : ℕ) (x : TypedPart) → AllApart ss from m x → SubIn m n s → Each (OutDecl m n) x → AllApart (ss ++ s ∷ []) from n x
+apart-more [] s from m n x h b o = (record { lo = m; hi = n; sub = b; out = o }, h, least n)
+apart-more (t ∷ ss) s from m n x (h, k, r) b o = (h, k, apart-more ss s h.hi m n x r b o)
 
 abbrev UnitsIn : ℕ → Declared' → Type 0
 UnitsIn m d = (ss : List TypedSub) → d.subs ≡ Some ss → Maybe (MainIn ss m) d.decls
 
-also-sub-in : (lo m n : ℕ) (ss : Option (List TypedSub)) (s : Option TypedSub) (x : Option TypedPart) → lo ≡ m → m ≤ n → Maybe (SubIn lo n) s → ((us : List TypedSub) → ss ≡ Some us → Maybe (MainIn us m) x) → (vs : List TypedSub) → joined p.also_sub ss s ≡ Some vs → Maybe (MainIn vs n) x
-also-sub-in lo m n (Some us) (Some s) None e l b h vs g = tt
-also-sub-in lo m n (Some us) (Some s) (Some x) e l b h vs g =
+also-sub-in : (m n : ℕ) (ss : Option (List TypedSub)) (s : Option TypedSub) (x : Option TypedPart) → m ≤ n → Maybe (SubIn m n) s → ((us : List TypedSub) → ss ≡ Some us → Maybe (MainIn us m) x) → (vs : List TypedSub) → joined p.also_sub ss s ≡ Some vs → Maybe (MainIn vs n) x
+also-sub-in m n (Some us) (Some s) None l b h vs g = tt
+also-sub-in m n (Some us) (Some s) (Some x) l b h vs g =
     let same : us ++ s ∷ [] ≡ vs = cc in
     let old : MainIn us m x = h us refl in
-    subst (λ ws. MainIn ws n x) same
-    ((done-chain 0).lasts m n x l old.0, apart-more us s n x (all-later us m n x l old.1) (record { lo = lo; hi = n; below = least n; sub = b; out = done-out 0 m lo n x (omega (arith, e)) old.0 }))
-also-sub-in lo m n (Some us) None x e l b h vs g = absurd (let z : ◌≡◌ {A = Option (List TypedSub)} None (Some vs) = g in cc)
-also-sub-in lo m n None s x e l b h vs g = absurd (let z : ◌≡◌ {A = Option (List TypedSub)} None (Some vs) = g in cc)
+    subst (λ ws. MainIn ws n x) same ((done-chain 0).lasts m n x l old.0, apart-more us s 0 m n x old.1 b (done-out 0 m m n x (least m) old.0))
+also-sub-in m n (Some us) None x l b h vs g = absurd (let z : ◌≡◌ {A = Option (List TypedSub)} None (Some vs) = g in cc)
+also-sub-in m n None s x l b h vs g = absurd (let z : ◌≡◌ {A = Option (List TypedSub)} None (Some vs) = g in cc)
 
 unit-in : (names : Names) (n : ℕ) (blocking : Bool) (start : ℕ) (d : Declared') (u : Unit') (log : Log) → UnitsIn (many log) d → (let r = p.unit_of names n blocking start d u log in UnitsIn (many r.1) r.0)
 unit-in names n blocking start d (syntax.DeclUnit x) log h = λ ss e. declaration-in (MainIn ss) (main-chain ss) names (p.level_of names n) start d.here d.decls x log (k.k-level_of growing.walk names n tt) (h ss e)
 unit-in names n blocking start d (syntax.SubUnit s) log h =
     let r = p.subprogram names (n - 1) blocking start d.here s log in
-    also-sub-in (many log) (many log) (many r.1) d.subs r.0.1 d.decls refl ((k.k-subprogram growing names (n - 1) blocking start d.here s tt growing-profiles).at log) (subprogram-in names (n - 1) blocking start d.here s log) h
+    also-sub-in (many log) (many r.1) d.subs r.0.1 d.decls ((k.k-subprogram growing names (n - 1) blocking start d.here s tt growing-profiles).at log) (subprogram-in names (n - 1) blocking start d.here s log) h
 
 units-in : (names : Names) (n : ℕ) (blocking : Bool) (start : ℕ) (d : Declared') (us : List Unit') (log : Log) → UnitsIn (many log) d → (let r = p.units names n blocking start d us log in UnitsIn (many r.1) r.0)
 units-in names n blocking start d [] log h = h
@@ -278,32 +259,34 @@ pub record OneIn (ds : Decls) (s : TypedSub) : Type 0 where
   pub lo : ℕ
   pub hi : ℕ
   pub sub : SubIn lo hi s
-  pub out : OutDecls lo hi ds
+  pub out : Avoids lo hi (decl_objects ds)
 
-abbrev SubsIn : List TypedSub → Decls → Type 0
-SubsIn [] ds = Unit {0}
-SubsIn (s ∷ ss) ds = OneIn ds s × SubsIn ss ds
+abbrev pub SubsIn : List TypedSub → ℕ → ℕ → Decls → Type 0
+SubsIn [] from m ds = from ≤ m
+SubsIn (s ∷ ss) from m ds = (h : OneIn ds s) × (from ≤ h.lo) × SubsIn ss h.hi m ds
 
-out-list : (lo hi : ℕ) (x : TypedPart) → Each (OutDecl lo hi) x → OutDecls lo hi (as_decls x)
+out-list : (lo hi : ℕ) (x : TypedPart) → Each (OutDecl lo hi) x → Avoids lo hi (decl_objects (as_decls x))
 out-list lo hi (part.Cons y x) h = h.0 (as_decls x) (out-list lo hi x h.1)
 out-list lo hi x h = tt
 
-one-in : (m : ℕ) (x : TypedPart) (s : TypedSub) → ApartIn m x s → OneIn (as_decls (turned x)) s
-one-in m x s h = record { lo = h.lo; hi = h.hi; sub = h.sub; out = out-list h.lo h.hi (turned x) (each-turned (OutDecl h.lo h.hi) x h.out) }
+one-in : (x : TypedPart) (s : TypedSub) → ApartIn x s → OneIn (as_decls (turned x)) s
+one-in x s h = record { lo = h.lo; hi = h.hi; sub = h.sub; out = out-list h.lo h.hi (turned x) (each-turned (OutDecl h.lo h.hi) x h.out) }
 
-subs-in : (m : ℕ) (x : TypedPart) (ss : List TypedSub) → AllApart ss m x → SubsIn ss (as_decls (turned x))
-subs-in m x [] h = tt
-subs-in m x (s ∷ ss) h = (one-in m x s h.0, subs-in m x ss h.1)
+subs-in : (from m : ℕ) (x : TypedPart) (ss : List TypedSub) → AllApart ss from m x → SubsIn ss from m (as_decls (turned x))
+unfolding one-in
+subs-in from m x [] h = h
+subs-in from m x (s ∷ ss) (h, k, r) = (one-in x s h, k, subs-in h.hi m x ss r)
 
+-- the numbers of declarations and subprograms stand before those of the main procedure's statements
 pub record WholeIn (w : Whole) : Type 0 where
-  pub hi : ℕ
   pub mid : ℕ
-  pub body : BodyIn (λ ds. SubsIn w.subs ds) 0 mid hi (part.ABody w.body)
+  pub hi : ℕ
+  pub body : BodyIn (SubsIn w.subs 0 mid) 0 mid hi (part.ABody w.body)
 
-whole-in : (z s : Bool) (x : Option TypedPart) (ss : Option (List TypedSub)) (mid hi : ℕ) → ((us : List TypedSub) → ss ≡ Some us → Maybe (BodyIn (λ ds. SubsIn us ds) 0 mid hi) x) → Maybe WholeIn (joined (p.whole z s) x ss)
+whole-in : (z s : Bool) (x : Option TypedPart) (ss : Option (List TypedSub)) (mid hi : ℕ) → ((us : List TypedSub) → ss ≡ Some us → Maybe (BodyIn (SubsIn us 0 mid) 0 mid hi) x) → Maybe WholeIn (joined (p.whole z s) x ss)
 whole-in z s None ss mid hi h = tt
 whole-in z s (Some x) None mid hi h = tt
-whole-in z s (Some x) (Some us) mid hi h = let b = h us refl in record { hi = hi; mid = mid; body = record { known = b.known; decls = b.decls; stmts = b.stmts; handlers = b.handlers; more = b.more } }
+whole-in z s (Some x) (Some us) mid hi h = let b = h us refl in record { mid = mid; hi = hi; body = record { known = b.known; decls = b.decls; rest = b.rest } }
 
 main-in : (names : Names) (n : ℕ) (here : Context) (m : Main) (s : Bool) (log : Log) → Maybe WholeIn (p.main names n here m s log).0
 unfolding p.main
@@ -314,11 +297,11 @@ main-in names n here m s log =
     let b = body (around names n (stmt names n)) d.0.here d.0.decls m.body d.1 in
     let h = units-in names n z.0 (length here.scope) start m.units z.1 (λ ss e. (omega arith, nothing (many z.1) ss e)) in
     whole-in z.0 s b.0 d.0.subs (many d.1) (many b.1)
-    (λ us e. body-in (λ ds. SubsIn us ds) (around names n (stmt names n)) d.0.here 0 d.0.decls m.body d.1 (around-numbers names n)
-    (maybe-more (MainIn us (many d.1)) (Begun (λ ds. SubsIn us ds) 0 (many d.1)) (λ x g. (g.0, subs-in (many d.1) x us g.1)) d.0.decls (h us e)))
+    (λ us e. body-in (SubsIn us 0 (many d.1)) (around names n (stmt names n)) d.0.here 0 d.0.decls m.body d.1 (around-numbers names n)
+    (maybe-more (MainIn us (many d.1)) (Begun (SubsIn us 0 (many d.1)) 0 (many d.1)) (λ x g. (g.0, subs-in 0 (many d.1) x us g.1)) d.0.decls (h us e)))
   where
-    nothing : (k : ℕ) (ss : List TypedSub) → ◌≡◌ {A = Option (List TypedSub)} (Some []) (Some ss) → AllApart ss k part.Nothing
-    nothing k [] e = tt
+    nothing : (k : ℕ) (ss : List TypedSub) → ◌≡◌ {A = Option (List TypedSub)} (Some []) (Some ss) → AllApart ss 0 k part.Nothing
+    nothing k [] e = omega arith
     nothing k (s ∷ ss) e = absurd (let z : ◌≡◌ {A = List TypedSub} [] (s ∷ ss) = cc in cc)
 
 program-in : (names : Names) (text : Program) → Maybe WholeIn (judged names text).0
@@ -330,33 +313,42 @@ program-in names text =
 
 -- ---- the law
 
-sub-at : (ss : List TypedSub) (ds : Decls) (i : ℕ) (s : TypedSub) → SubsIn ss ds → sub_at ss i ≡ Some s → OneIn ds s
-sub-at [] ds i s h e = absurd cc
-sub-at (x ∷ ss) ds zero s h e = let same : x ≡ s = cc in subst (OneIn ds) same h.0
-sub-at (x ∷ ss) ds (suc i) s h e = sub-at ss ds i s h.1 e
+pub record WholeOf (names : Names) (text : Program) (t : typed.Program) : Type 0 where
+  pub whole : Whole
+  pub same : typed_by (judged names text).1 whole ≡ t
+  pub numbers : WholeIn whole
+
+pub whole-numbers : (names : Names) (text : Program) (t : typed.Program) → TypedOf names text ≡ Some t → WholeOf names text t
+whole-numbers names text t e =
+    let r = whole-of (judged names text).1.faults (judged names text).1 (judged names text).0 t e in
+    record { whole = r.0; same = r.2; numbers = subst (Maybe WholeIn) r.1 (program-in names text) }
+
+sub-at : (ss : List TypedSub) (from m : ℕ) (ds : Decls) (i : ℕ) (s : TypedSub) → SubsIn ss from m ds → sub_at ss i ≡ Some s → OneIn ds s
+sub-at [] from m ds i s h e = absurd cc
+sub-at (x ∷ ss) from m ds zero s (h, k, r) e = let same : x ≡ s = cc in subst (OneIn ds) same h
+sub-at (x ∷ ss) from m ds (suc i) s (h, k, r) e = sub-at ss h.hi m ds i s r e
 
 nothing-open : (lo hi : ℕ) → Open lo hi no_object
 nothing-open lo hi y l m = refl
 
 sub-fresh : (ds : Decls) (s : TypedSub) → OneIn ds s → FreshFormals (behind no_object ds) s.formals × FreshStmt (with_formals (behind no_object ds) s.formals) (typed.Block s.body.decls s.body.stmts s.body.handlers)
 sub-fresh ds s x =
+    let objects = block_objects s.body.decls s.body.stmts s.body.handlers in
+    let h = rises-split x.lo x.hi (formal_objects s.formals) objects x.sub in
     let o = open-behind x.lo x.hi no_object ds x.out (nothing-open x.lo x.hi) in
-    let l : x.sub.mid ≤ x.hi = omega (arith, up-less x.sub.mid x.sub.last s.body.decls x.sub.decls, x.sub.more) in
-    let r = fresh-formals x.lo x.sub.mid x.hi (behind no_object ds) s.formals x.sub.formals l o in (
-      r.0,
-      fresh-stmt x.sub.mid x.hi (with_formals (behind no_object ds) s.formals) (typed.Block s.body.decls s.body.stmts s.body.handlers) r.1
-          (x.sub.last, x.sub.decls, x.sub.more, x.sub.stmts, x.sub.handlers),
-    )
+    let r = fresh-formals x.lo h.mid x.hi (behind no_object ds) s.formals h.first (rises-less h.mid x.hi objects h.second) o in
+    (r.0, fresh-stmt h.mid x.hi (with_formals (behind no_object ds) s.formals) (typed.Block s.body.decls s.body.stmts s.body.handlers) r.1 h.second)
 
 fresh-program : (w : Whole) (log : Log) → WholeIn w → IsFresh (typed_by log w)
 fresh-program w log h = record {
-  main = fresh-decls 0 h.mid h.hi no_object w.body.decls (λ t. FreshAll t w.body.stmts × FreshHandlers t w.body.handlers) h.body.decls h.body.more (nothing-open 0 h.hi)
-      (λ u o. (fresh-all h.mid h.hi u w.body.stmts o h.body.stmts, fresh-handlers h.mid h.hi u w.body.handlers o h.body.handlers));
-  formals = λ i s e. (sub-fresh w.body.decls s (sub-at w.subs w.body.decls i s h.body.known e)).0;
-  subs = λ i s e. (sub-fresh w.body.decls s (sub-at w.subs w.body.decls i s h.body.known e)).1;
+  main = fresh-decls 0 h.mid h.hi no_object w.body.decls (λ t. FreshAll t w.body.stmts × FreshHandlers t w.body.handlers) h.body.decls
+      (rises-less h.mid h.hi (stmts_objects w.body.stmts ++ handler_objects w.body.handlers) h.body.rest) (nothing-open 0 h.hi)
+      (λ u o. fresh-both h.mid h.hi u w.body.stmts w.body.handlers o h.body.rest);
+  formals = λ i s e. (sub-fresh w.body.decls s (sub-at w.subs 0 h.mid w.body.decls i s h.body.known e)).0;
+  subs = λ i s e. (sub-fresh w.body.decls s (sub-at w.subs 0 h.mid w.body.decls i s h.body.known e)).1;
 }
 
 pub fresh_law : FreshLaw
 fresh_law names text t e =
-    let r = whole-of (judged names text).1.faults (judged names text).1 (judged names text).0 t e in
-    subst IsFresh r.2 (fresh-program r.0 (judged names text).1 (subst (Maybe WholeIn) r.1 (program-in names text)))
+    let w = whole-numbers names text t e in
+    subst IsFresh w.same (fresh-program w.whole (judged names text).1 w.numbers)

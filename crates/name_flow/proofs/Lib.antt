@@ -8,3 +8,4 @@ pub mod Numbers
 pub mod FreshDeclarations
 pub mod FreshStatements
 pub mod FreshPrograms
+pub mod Once

@@ -1,5 +1,5 @@
 -- No reduction of the typed program of a text goes backwards, since one that does leaves a fault.
-use Rattle.std.proofs.Common.{List, None, Option, Some, [], arith, ◌∷◌, length, option_map, refl, subst, ℕ, ◌+◌, ◌≡◌, ◌≤◌}
+use Rattle.std.proofs.Common.{List, None, Option, Some, [], arith, ◌∷◌, length, option_map, refl, subst, ◌≡◌, ◌≤◌}
 use Rattle.syntax_tree.specs.Syntax.{Program}
 use Rattle.typed_tree.specs.Syntax as typed
 use Rattle.syntax_tree.specs.Parsed.{depth_limit}

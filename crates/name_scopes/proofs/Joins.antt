@@ -1,16 +1,16 @@
 -- What names give of order, of new objects and of the way of reductions, together with what is seen, is what it is to be in scope.
-use Rattle.std.proofs.Common.{◌≡◌, refl, sym, ap, subst, ◌∙◌, ℕ, ◌+◌, ◌≤◌, List, [], ◌∷◌, Option, Some, None, Bool, true, false, arith}
+use Rattle.std.proofs.Common.{◌≡◌, refl, sym, subst, ◌∙◌, ℕ, ◌≤◌, List, [], ◌∷◌, Option, Some, None, Bool, true, false, arith}
 use Rattle.behaviours.specs.Paths.{Entity, ConstantOf, VariableOf}
 use Rattle.typed_tree.specs.declared.program.Formal.{Formal}
-use Rattle.typed_tree.specs.Syntax.{Expr, Static, Variable, Constant, Parameter, Target, Group, Unary, Binary, AndThen, OrElse, Relation, Membership, If, Call, Convert, Reduction, Optional, Absent, Present, Selections, Whole, Field, Index, Actuals, NoActual, In, InOut, Out, CompositeInOut, CompositeOut, Value, Number, Cells, Composite, WholeVariable, WholeConstant, WholeTarget, CompositeIf, Aggregate, Associations, NoAssociation, Association, Iteration, Range, Components, Chunk, NoChunk, Count, Each, Pieces, NoPiece, Text, Image, Padded, Decls, NoDecl, DeclareDefault, DeclareVariable, DeclareConstant, Mentions, Stmt, Null, Assign, CallProcedure, Exit, Return, ReturnValue, Raise, Reraise, IfThen, Case, Loop, For, ParallelFor, Parallel, Block, Put, Get, Stmts, End, Then, Alternatives, NoAlternative, Alternative, Arms, NoArm, Arm, Handlers, NoHandler, Handler, Program}
+use Rattle.typed_tree.specs.Syntax.{Expr, Static, Variable, Constant, Parameter, Target, Group, Unary, Binary, AndThen, OrElse, Relation, Membership, If, Call, Convert, Reduction, Exprs, NoExpr, AlsoExpr, Optional, Absent, Present, Selections, Whole, Field, Index, Actuals, NoActual, In, InOut, Out, CompositeInOut, CompositeOut, Value, Number, Cells, Composite, WholeVariable, WholeConstant, WholeTarget, CompositeIf, Aggregate, Associations, NoAssociation, Association, Iteration, Range, Components, Chunk, NoChunk, Count, Each, Pieces, NoPiece, Text, Image, Padded, Decls, NoDecl, DeclareDefault, DeclareVariable, DeclareConstant, Mentions, Stmt, Null, Assign, CallProcedure, Exit, Return, ReturnValue, Raise, Reraise, IfThen, Case, Loop, For, ParallelFor, Parallel, Block, Put, Get, Stmts, End, Then, Alternatives, NoAlternative, Alternative, Arms, NoArm, Arm, Handlers, NoHandler, Handler, Program}
 use Rattle.typed_scopes.specs.Scopes as scopes
-use Rattle.typed_scopes.specs.Scopes.{Around, IsFolded, ScopedActuals, ScopedAll, ScopedAlternatives, ScopedArms, ScopedAssociations, ScopedChunk, ScopedComposite, ScopedDecls, ScopedExpr, ScopedHandlers, ScopedIn, ScopedIteration, ScopedMain, ScopedOptional, ScopedPieces, ScopedSelections, ScopedStmt, ScopedValue, entity_of, handling, object_cells, with_chunk, with_index, with_object, with_outer, with_parameter, with_target}
+use Rattle.typed_scopes.specs.Scopes.{Around, IsFolded, ScopedActuals, ScopedAll, ScopedAlternatives, ScopedArms, ScopedAssociations, ScopedChunk, ScopedComposite, ScopedDecls, ScopedExpr, ScopedExprs, ScopedHandlers, ScopedIn, ScopedIteration, ScopedMain, ScopedOptional, ScopedPieces, ScopedSelections, ScopedStmt, ScopedValue, entity_of, handling, object_cells, with_chunk, with_index, with_object, with_outer, with_parameter, with_target}
 use Rattle.name_flow.specs.Fresh as fresh
 use Rattle.name_flow.specs.Fresh.{FreshAll, FreshArms, FreshCases, FreshDecls, FreshHandlers, FreshStmt}
 use Rattle.name_flow.specs.Order.{OrderedAll, OrderedArms, OrderedCases, OrderedHandlers, OrderedStmt}
-use Rattle.name_scopes.proofs.Tallies.{in_actuals, in_alternatives, in_arms, in_associations, in_chunk, in_composite, in_decls, in_expr, in_handlers, in_iteration, in_optional, in_pieces, in_selections, in_stmt, in_stmts, in_value, in_way}
+use Rattle.name_scopes.proofs.Tallies.{in_actuals, in_alternatives, in_arms, in_associations, in_chunk, in_composite, in_decls, in_expr, in_exprs, in_handlers, in_iteration, in_optional, in_pieces, in_selections, in_stmt, in_stmts, in_value, in_way}
 use Rattle.name_scopes.proofs.Leaving.{backwards}
-use Rattle.name_scopes.proofs.Seen.{IsChunked, SeenActuals, SeenAll, SeenAlternatives, SeenArms, SeenAssociations, SeenChunk, SeenComposite, SeenDecls, SeenExpr, SeenHandlers, SeenIn, SeenIteration, SeenOptional, SeenPieces, SeenSelections, SeenStmt, SeenValue, past}
+use Rattle.name_scopes.proofs.Seen.{IsChunked, SeenActuals, SeenAll, SeenAlternatives, SeenArms, SeenAssociations, SeenChunk, SeenComposite, SeenDecls, SeenExpr, SeenExprs, SeenHandlers, SeenIn, SeenIteration, SeenOptional, SeenPieces, SeenSelections, SeenStmt, SeenValue, past}
 
 -- nothing there goes backwards
 j-folded : (site : Option ℕ) (c : Chunk) (i : Iteration) → IsChunked site c → in_way backwards i ≤ 0 → IsFolded site c i
@@ -31,7 +31,7 @@ module _ (P : Program) (shown : ℕ → Entity → Bool) where
 
   mutual
     pub j-expr : (v : Around) (x : Expr) → SeenExpr P shown v x → in_expr backwards x ≤ 0 → ScopedExpr P shown v x
-    j-expr v (Static at value literal mentions) h n = tt
+    j-expr v (Static at value literal mentions) h n = j-exprs v mentions h n
     j-expr v (Variable at from ss scalar) h n = (h.0, j-selections v ss h.1 n)
     j-expr v (Constant at from ss scalar) h n = (h.0, j-selections v ss h.1 n)
     j-expr v (Parameter at k) h n = h
@@ -54,6 +54,10 @@ module _ (P : Program) (shown : ℕ → Entity → Bool) where
       with-body v (with_chunk c v) i (λ u. SeenExpr P shown u value) (λ u. ScopedExpr P shown u value) (j-iteration v (with_chunk c v) i (bare v (with_chunk c v) i (λ u. SeenExpr P shown u value) h.4) (omega (arith, n))) h.4
           (λ w t k s. j-expr w value s (omega (arith, n))),
     )
+
+    pub j-exprs : (v : Around) (x : Exprs) → SeenExprs P shown v x → in_exprs backwards x ≤ 0 → ScopedExprs P shown v x
+    j-exprs v NoExpr h n = tt
+    j-exprs v (AlsoExpr e es) h n = (j-expr v e h.0 (omega (arith, n)), j-exprs v es h.1 (omega (arith, n)))
 
     pub j-optional : (v : Around) (x : Optional) → SeenOptional P shown v x → in_optional backwards x ≤ 0 → ScopedOptional P shown v x
     j-optional v Absent h n = tt
@@ -86,7 +90,7 @@ module _ (P : Program) (shown : ℕ → Entity → Bool) where
     pub j-associations : (v : Around) (m : ℕ) (x : Associations) → SeenAssociations P shown v m x → in_associations backwards x ≤ 0 → ScopedAssociations P shown v m x
     j-associations v m NoAssociation h n = tt
     j-associations v m (Association runs iterated mentions value rest) h n =
-        (h.0, (h.1.0, h.1.1, j-value (with_index iterated v) h.1.0 value h.1.2 (omega (arith, n))), j-associations v m rest h.2 (omega (arith, n)))
+        (h.0, j-exprs v mentions h.1 (omega (arith, n)), (h.2.0, h.2.1, j-value (with_index iterated v) h.2.0 value h.2.2 (omega (arith, n))), j-associations v m rest h.3 (omega (arith, n)))
 
     pub j-iteration : (v u : Around) (x : Iteration) → SeenIteration P shown v u x (λ w. Unit {0}) → in_iteration backwards x ≤ 0 → ScopedIteration P shown v u x (λ w. Unit {0})
     j-iteration v u (Range k reverse low high check filter) h n = (j-expr v low h.0 (omega (arith, n)), j-expr v high h.1 (omega (arith, n)), j-optional (with_parameter k u) filter h.2 (omega (arith, n)), tt)
@@ -112,7 +116,7 @@ module _ (P : Program) (shown : ℕ → Entity → Bool) where
   j-pieces v NoPiece h n = tt
   j-pieces v (Text bytes rest) h n = j-pieces v rest h n
   j-pieces v (Image class e rest) h n = (j-expr v e h.0 (omega (arith, n)), j-pieces v rest h.1 (omega (arith, n)))
-  j-pieces v (Padded class e (Static at value literal mentions) rest) h n = (j-expr v e h.0 (omega (arith, n)), j-pieces v rest h.1 (omega (arith, n)))
+  j-pieces v (Padded class e (Static at value literal mentions) rest) h n = (j-expr v e h.0 (omega (arith, n)), j-exprs v mentions h.1 (omega (arith, n)), j-pieces v rest h.2 (omega (arith, n)))
   j-pieces v (Padded class e (Variable at from ss scalar) rest) h n = h
   j-pieces v (Padded class e (Constant at from ss scalar) rest) h n = h
   j-pieces v (Padded class e (Parameter at k) rest) h n = h
@@ -136,14 +140,14 @@ module _ (P : Program) (shown : ℕ → Entity → Bool) where
   j-decls v (DeclareDefault x more) A B h f n g = (f.0, j-decls (with_object (VariableOf x) v) more A B h f.1 n g)
   j-decls v (DeclareVariable x i more) A B h f n g = (f.0, j-value v (object_cells P x) i h.0 (omega (arith, n)), j-decls (with_object (VariableOf x) v) more A B h.1 f.1 (omega (arith, n)) g)
   j-decls v (DeclareConstant x i more) A B h f n g = (f.0, j-value v (object_cells P x) i h.0 (omega (arith, n)), j-decls (with_object (ConstantOf x) v) more A B h.1 f.1 (omega (arith, n)) g)
-  j-decls v (Mentions es more) A B h f n g = j-decls v more A B h f (omega (arith, n)) g
+  j-decls v (Mentions es more) A B h f n g = (j-exprs v es h.0 (omega (arith, n)), j-decls v more A B h.1 f (omega (arith, n)) g)
 
   pub j-main : (v : Around) (x : Decls) (A : (Entity → Bool) → Type 0) (B : Around → Type 0) → SeenDecls P shown true v x → FreshDecls v.taken x A → in_decls backwards x ≤ 0 → (A (past true v x).taken → B (past true v x)) → ScopedMain P shown v x B
   j-main v NoDecl A B h f n g = g f
   j-main v (DeclareDefault x more) A B h f n g = (f.0, j-main (with_outer (VariableOf x) v) more A B h f.1 n g)
   j-main v (DeclareVariable x i more) A B h f n g = (f.0, j-value v (object_cells P x) i h.0 (omega (arith, n)), j-main (with_outer (VariableOf x) v) more A B h.1 f.1 (omega (arith, n)) g)
   j-main v (DeclareConstant x i more) A B h f n g = (f.0, j-value v (object_cells P x) i h.0 (omega (arith, n)), j-main (with_outer (ConstantOf x) v) more A B h.1 f.1 (omega (arith, n)) g)
-  j-main v (Mentions es more) A B h f n g = j-main v more A B h f (omega (arith, n)) g
+  j-main v (Mentions es more) A B h f n g = (j-exprs v es h.0 (omega (arith, n)), j-main v more A B h.1 f (omega (arith, n)) g)
 
 -- ---- statements
 
@@ -203,7 +207,7 @@ module _ (P : Program) (shown : ℕ → Entity → Bool) where
 
     pub j-alternatives : (v : Around) (b : Bool) (x : Alternatives) → SeenAlternatives P shown v x → v.handled ≡ b → OrderedCases b x → FreshCases v.taken x → in_alternatives backwards x ≤ 0 → ScopedAlternatives P shown v x
     j-alternatives v b NoAlternative h e o f n = tt
-    j-alternatives v b (Alternative others choices mentions ss rest) h e o f n = (o.0, j-all v b ss h.0 e o.1 f.0 (omega (arith, n)), j-alternatives v b rest h.1 e o.2 f.1 (omega (arith, n)))
+    j-alternatives v b (Alternative others choices mentions ss rest) h e o f n = (o.0, j-exprs P shown v mentions h.0 (omega (arith, n)), j-all v b ss h.1 e o.1 f.0 (omega (arith, n)), j-alternatives v b rest h.2 e o.2 f.1 (omega (arith, n)))
 
     pub j-arms : (v : Around) (b : Bool) (x : Arms) → SeenArms P shown v x → v.handled ≡ b → OrderedArms b x → FreshArms v.taken x → in_arms backwards x ≤ 0 → ScopedArms P shown v x
     j-arms v b NoArm h e o f n = tt

@@ -4,7 +4,6 @@ use Rattle.std.specs.Prelude.{nat_lt, not, ◌||◌}
 use Rattle.name_rules.specs.Declarations.{cells_counted}
 use Rattle.name_rules.specs.Iterations.{reverse_rule}
 use Rattle.name_rules.specs.Judging.{unless}
-use Rattle.name_rules.specs.Parts.{new_site}
 use Rattle.name_rules.specs.Types.{saturated}
 use Rattle.name_rules.specs.Limits.{most_cells, most_objects}
 use Rattle.name_rules.specs.declared.log.Bound.TheVariants as bound

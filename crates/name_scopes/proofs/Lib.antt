@@ -55,3 +55,4 @@ pub mod SpendsPrograms
 pub mod Backwards
 pub mod Joins
 pub mod Scoped
+pub mod Named

@@ -1,5 +1,5 @@
 -- What a part is taken for counts for no more than the part.
-use Rattle.std.proofs.Common.{arith, false, true, ℕ, ◌+◌, ◌≤◌}
+use Rattle.std.proofs.Common.{arith, false, true, ◌+◌, ◌≤◌}
 use Rattle.typed_tree.specs.Classes.{with_class}
 use Rattle.typed_tree.specs.Decoded.{TypedPart, Nothing, Cons, LeafCons, AnExpr, ASelection, AnActual, AValue, AComposite, AnAssociation, AnIteration, AChunk, APiece, ADecl, AStmt, AnAlternative, AHandler, ABody, as_expr, as_optional, as_exprs, as_selections, as_actuals, as_composite, as_value, as_associations, as_iteration, as_chunk, as_pieces, as_decls, as_stmt, as_stmts, as_alternatives, as_arms, as_handlers, as_body}
 use Rattle.typed_tree.specs.Indexes.{indexes_from, indexes_in}

@@ -7,7 +7,7 @@ use Rattle.std.specs.Prelude.{not, unsigned_abs}
 use Rattle.typed_scopes.specs.Scopes.{IsGiven, LieWithin}
 use Rattle.typed_tree.specs.declared.expressions.Iterated.{Iterated}
 use Rattle.typed_tree.specs.declared.expressions.Run.{Run}
-use Rattle.name_rules.specs.Aggregates.{count_of, gaps_of, is_within, left_open, not_empty, runs_of, sorted, span_run, with_run}
+use Rattle.name_rules.specs.Aggregates.{count_of, gaps_of, is_within, left_open, not_empty, runs_of, sorted, span_run}
 use Rattle.name_rules.specs.Types.{extent}
 use Rattle.name_rules.specs.declared.log.Dimension.{Dimension}
 

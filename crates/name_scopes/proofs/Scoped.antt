@@ -4,17 +4,15 @@ use Rattle.ada_meaning.specs.Meaning.{sub_at}
 use Rattle.behaviours.specs.Paths.{Entity}
 use Rattle.syntax_tree.specs.Parsed.{depth_limit}
 use Rattle.syntax_tree.specs.Syntax.{Program}
-use Rattle.typed_scopes.specs.Scopes as scopes
-use Rattle.typed_scopes.specs.Scopes.{IsScoped, ScopedAll, ScopedHandlers, ScopedStmt, behind, handling, outset, sub_around, with_formals}
+use Rattle.typed_scopes.specs.Scopes.{IsScoped, ScopedAll, ScopedHandlers, ScopedStmt, handling, outset, sub_around, with_formals}
 use Rattle.typed_tree.specs.Syntax as typed
 use Rattle.typed_tree.specs.Syntax.{Sub as TypedSub}
 use Rattle.name_rules.specs.Programs as p
 use Rattle.name_rules.specs.Programs.{Declared', Whole}
-use Rattle.name_rules.specs.Resolved.{TypedOf, fresh, judged, typed_by, typed_where}
+use Rattle.name_rules.specs.Resolved.{fresh, judged, typed_by, typed_where}
 use Rattle.name_rules.specs.Statements.{no_decls}
 use Rattle.name_rules.specs.declared.log.Fault.{Fault}
 use Rattle.name_rules.specs.declared.log.Log.{Log}
-use Rattle.name_rules.specs.declared.log.Profile.{Profile}
 use Rattle.name_rules.specs.declared.scope.Names.{Names}
 use Rattle.name_laws.proofs.CellsFormed.{all-values, formed_law}
 use Rattle.name_laws.proofs.CellsPrograms.{all-sound}
@@ -32,7 +30,7 @@ use Rattle.name_scopes.proofs.Backwards.{none-backwards}
 use Rattle.name_scopes.proofs.Leaving.{backwards}
 use Rattle.name_scopes.proofs.Joins.{handled-formals, j-all, j-formals, j-handlers, j-main, j-stmt, past-behind, past-handled, taken-behind, taken-formals}
 use Rattle.name_scopes.proofs.Seen.{past}
-use Rattle.name_scopes.proofs.Sees.{HasUnit, Maybe}
+use Rattle.name_scopes.proofs.Sees.{Maybe}
 use Rattle.name_scopes.proofs.SeesBack.{Leads, leads_here}
 use Rattle.name_scopes.proofs.SeesPrograms.{SubIn, SubsIn, WholeIn, clauses-near, main-in, outermost-near, place, shown-by}
 use Rattle.name_scopes.proofs.SeesShapes.{Facts}

@@ -1,19 +1,11 @@
 -- What names give of where expressions and statements stand, apart from which way threads go, from the order of statements and
 -- from what is new.
-use Rattle.std.specs.Prelude.{◌≡◌, ◌⊎◌, ℕ, ◌+◌, ◌*◌, ◌<◌, ◌≤◌, nat_eq, List, [], ◌∷◌, length, Option, Some, None, Bool, true, false, cond}
-use Rattle.behaviours.specs.Paths.{Entity, VariableOf, ConstantOf, entity_eq}
+use Rattle.std.specs.Prelude.{◌≡◌, ℕ, ◌≤◌, List, [], Option, Some, None, Bool, true, false}
+use Rattle.behaviours.specs.Paths.{Entity, VariableOf, ConstantOf}
 use Rattle.typed_tree.specs.declared.scalars.Scalar.{Scalar}
-use Rattle.typed_tree.specs.declared.expressions.Root.{Root}
-use Rattle.typed_tree.specs.declared.expressions.Root.TheVariants as root
-use Rattle.typed_tree.specs.declared.expressions.Run.{Run}
-use Rattle.typed_tree.specs.declared.expressions.Iterated.{Iterated}
-use Rattle.typed_tree.specs.declared.expressions.Reducer.{Reducer}
-use Rattle.typed_tree.specs.declared.expressions.Reducer.TheVariants.{Operator, Function}
 use Rattle.typed_tree.specs.declared.program.Formal.{Formal}
-use Rattle.typed_tree.specs.declared.program.Mode.{Mode}
 use Rattle.typed_tree.specs.declared.program.Mode.TheVariants as mode
-use Rattle.typed_tree.specs.Syntax.{Expr, Static, Variable, Constant, Parameter, Target, Group, Unary, Binary, AndThen, OrElse, Relation, Membership, If, Call, Convert, Reduction, Optional, Absent, Present, Selections, Whole, Field, Index, Actuals, NoActual, In, InOut, Out, CompositeInOut, CompositeOut, Value, Number, Cells, Composite, WholeVariable, WholeConstant, WholeTarget, CompositeIf, Aggregate, Associations, NoAssociation, Association, Iteration, Range, Components, Chunk, NoChunk, Count, Each, Pieces, NoPiece, Text, Image, Padded, Decls, NoDecl, DeclareDefault, DeclareVariable, DeclareConstant, Mentions, Stmt, Null, Assign, CallProcedure, Exit, Return, ReturnValue, Raise, Reraise, IfThen, Case, Loop, For, ParallelFor, Parallel, Block, Put, Get, Stmts, End, Then, Alternatives, NoAlternative, Alternative, Arms, NoArm, Arm, Handled, Others, Handlers, NoHandler, Handler, Sub, Program}
-use Rattle.ada_meaning.specs.Meaning.{sub_at}
+use Rattle.typed_tree.specs.Syntax.{Expr, Static, Variable, Constant, Parameter, Target, Group, Unary, Binary, AndThen, OrElse, Relation, Membership, If, Call, Convert, Reduction, Exprs, NoExpr, AlsoExpr, Optional, Absent, Present, Selections, Whole, Field, Index, Actuals, NoActual, In, InOut, Out, CompositeInOut, CompositeOut, Value, Number, Cells, Composite, WholeVariable, WholeConstant, WholeTarget, CompositeIf, Aggregate, Associations, NoAssociation, Association, Iteration, Range, Components, Chunk, NoChunk, Count, Each, Pieces, NoPiece, Text, Image, Padded, Decls, NoDecl, DeclareDefault, DeclareVariable, DeclareConstant, Mentions, Stmt, Null, Assign, CallProcedure, Exit, Return, ReturnValue, Raise, Reraise, IfThen, Case, Loop, For, ParallelFor, Parallel, Block, Put, Get, Stmts, End, Then, Alternatives, NoAlternative, Alternative, Arms, NoArm, Arm, Handlers, NoHandler, Handler, Program}
 use Rattle.ada_meaning.specs.Shapes.{cells_of}
 use Rattle.typed_scopes.specs.Scopes.{Around, ArraySeen, Called, ConstantSeen, IsGiven, LieWithin, ScopedReducer, VariableSeen, Without, formal_of, handling, object_cells, with_chunk, with_index, with_object, with_outer, with_parameter, with_target}
 
@@ -38,7 +30,7 @@ past main v (Mentions es more) = past main v more
 module _ (program : Program) (shown : ℕ → Entity → Bool) where
   abbrev mutual
     pub SeenExpr : Around → Expr → Type 0
-    SeenExpr v (Static at value literal mentions) = Unit {0}
+    SeenExpr v (Static at value literal mentions) = SeenExprs v mentions
     SeenExpr v (Variable at from selections scalar) = VariableSeen v from × SeenSelections v selections
     SeenExpr v (Constant at from selections scalar) = ConstantSeen v from × SeenSelections v selections
     SeenExpr v (Parameter at k) = v.parameter k ≡ true
@@ -56,6 +48,10 @@ module _ (program : Program) (shown : ℕ → Entity → Bool) where
     SeenExpr v (Reduction at attribute by initial site chunk iteration value) =
         SeenExpr v initial × SeenChunk v chunk × ScopedReducer program shown v by × IsChunked site chunk
         × SeenIteration v (with_chunk chunk v) iteration (λ u. SeenExpr u value)
+
+    pub SeenExprs : Around → Exprs → Type 0
+    SeenExprs v NoExpr = Unit {0}
+    SeenExprs v (AlsoExpr e es) = SeenExpr v e × SeenExprs v es
 
     pub SeenOptional : Around → Optional → Type 0
     SeenOptional v Absent = Unit {0}
@@ -91,7 +87,7 @@ module _ (program : Program) (shown : ℕ → Entity → Bool) where
     pub SeenAssociations : Around → ℕ → Associations → Type 0
     SeenAssociations v n NoAssociation = Unit {0}
     SeenAssociations v n (Association runs iterated mentions value rest) =
-        IsGiven iterated runs × ((m : ℕ) × LieWithin n m runs × SeenValue (with_index iterated v) m value) × SeenAssociations v n rest
+        IsGiven iterated runs × SeenExprs v mentions × ((m : ℕ) × LieWithin n m runs × SeenValue (with_index iterated v) m value) × SeenAssociations v n rest
 
     -- an iteration, with its body; the filter and the body have its parameter, and that of the chunks
     pub SeenIteration : Around → Around → Iteration → (Around → Type 0) → Type 0
@@ -122,7 +118,7 @@ module _ (program : Program) (shown : ℕ → Entity → Bool) where
   SeenPieces v NoPiece = Unit {0}
   SeenPieces v (Text bytes rest) = SeenPieces v rest
   SeenPieces v (Image class e rest) = SeenExpr v e × SeenPieces v rest
-  SeenPieces v (Padded class e (Static at value literal mentions) rest) = SeenExpr v e × SeenPieces v rest
+  SeenPieces v (Padded class e (Static at value literal mentions) rest) = SeenExpr v e × SeenExprs v mentions × SeenPieces v rest
   SeenPieces v (Padded class e most rest) = ⊥
 
   abbrev pub SeenDecls : Bool → Around → Decls → Type 0
@@ -130,7 +126,7 @@ module _ (program : Program) (shown : ℕ → Entity → Bool) where
   SeenDecls main v (DeclareDefault x more) = SeenDecls main (grown main (VariableOf x) v) more
   SeenDecls main v (DeclareVariable x initial more) = SeenValue v (object_cells program x) initial × SeenDecls main (grown main (VariableOf x) v) more
   SeenDecls main v (DeclareConstant x initial more) = SeenValue v (object_cells program x) initial × SeenDecls main (grown main (ConstantOf x) v) more
-  SeenDecls main v (Mentions es more) = SeenDecls main v more
+  SeenDecls main v (Mentions es more) = SeenExprs v es × SeenDecls main v more
 
   abbrev pub SeenNumber : Around → Value → Type 0
   SeenNumber v (Number check e) = SeenExpr v e
@@ -162,7 +158,7 @@ module _ (program : Program) (shown : ℕ → Entity → Bool) where
 
     pub SeenAlternatives : Around → Alternatives → Type 0
     SeenAlternatives v NoAlternative = Unit {0}
-    SeenAlternatives v (Alternative others choices mentions stmts rest) = SeenAll v stmts × SeenAlternatives v rest
+    SeenAlternatives v (Alternative others choices mentions stmts rest) = SeenExprs v mentions × SeenAll v stmts × SeenAlternatives v rest
 
     pub SeenArms : Around → Arms → Type 0
     SeenArms v NoArm = Unit {0}

@@ -1,6 +1,6 @@
 -- Judging that finds what is as is asked, where what is known of a program's table of subtypes and of its subprograms holds of
 -- what was written so far.
-use Rattle.std.proofs.Common.{◌≡◌, refl, ◌∙◌, ℕ, ◌≤◌, List, [], ◌∷◌, length, map, slice_get, Option, Some, None, Bool, true, false, if◌then◌else◌, option_map, eqb-true}
+use Rattle.std.proofs.Common.{◌≡◌, refl, ℕ, ◌≤◌, List, [], ◌∷◌, length, map, slice_get, Option, Some, None, Bool, true, false, if◌then◌else◌, option_map, eqb-true}
 use Rattle.behaviours.specs.Paths.{Entity}
 use Rattle.ada_meaning.specs.Meaning.{sub_at}
 use Rattle.ada_meaning.specs.Shapes.{cells_of, size, subtype_shape}

@@ -9,10 +9,9 @@ use Rattle.typed_tree.specs.Latest.{turned}
 use Rattle.typed_tree.specs.Syntax.{Associations}
 use Rattle.typed_tree.specs.declared.expressions.Iterated.{Iterated}
 use Rattle.typed_tree.specs.declared.expressions.Run.{Run}
-use Rattle.name_rules.specs.Aggregates.{ByAssociation, ByPosition, Choosing', Component, Contents, Filling, Placing, aggregate, aggregate_part, also_chosen, array_assoc, array_assocs, array_at, array_choice, array_choices, as_rest, assoc_value, assocs_alone, exprs_alone, field_choice, first_of_choice, has_symbol, named_field, one_field, optional_alone, value_choice, without, array_placed, array_rest, array_values, by_position, chosen_given, component_at, composite_at, composite_found, contents_alone, covered, covered_alone, dimension_of, field_choices, field_run, field_value, fields_value, filled, filling, gaps_of, index_what, inner_aggregate, inner_value, is_alone, is_final, is_last, iterated_given, no_aggregate, nothing_placed, of_index_type, record_assoc, record_assocs, record_parts, record_rest, record_values, rest_found, runs_of, some_fields, with_ranges, with_rest, with_runs, with_value}
+use Rattle.name_rules.specs.Aggregates.{ByAssociation, ByPosition, Choosing', Component, Contents, Filling, Placing, aggregate, aggregate_part, also_chosen, array_assoc, array_assocs, array_at, array_choice, array_choices, as_rest, assoc_value, assocs_alone, exprs_alone, field_choice, first_of_choice, has_symbol, named_field, one_field, optional_alone, value_choice, without, array_placed, array_rest, array_values, by_position, chosen_given, component_at, composite_at, composite_found, contents_alone, covered, dimension_of, field_choices, field_run, field_value, fields_value, filled, filling, gaps_of, index_what, inner_aggregate, inner_value, is_alone, is_final, is_last, iterated_given, no_aggregate, nothing_placed, of_index_type, record_assoc, record_assocs, record_parts, record_rest, record_values, rest_found, runs_of, some_fields, with_ranges, with_rest, with_runs, with_value}
 use Rattle.name_rules.specs.Expressions.{Inside, expr, judged_alone, value_for}
-use Rattle.name_rules.specs.Found.{Found}
-use Rattle.name_rules.specs.Judging.{◌>>=◌, breaks, fault, given, joined, pure, read, some, unless, where_clean}
+use Rattle.name_rules.specs.Judging.{breaks, fault, given, joined, read, some, unless, where_clean}
 use Rattle.name_rules.specs.Parts.{new_parameter}
 use Rattle.name_rules.specs.Ranges.{Chosen, Static, chosen_span, chosen_value, static_range}
 use Rattle.name_rules.specs.Scope.{with_entry}
@@ -33,7 +32,7 @@ use Rattle.name_rules.specs.declared.scope.Names.{Names}
 use Rattle.name_rules.specs.declared.types.Subtype.{Subtype}
 use Rattle.name_rules.specs.declared.types.Wanted.TheVariants as wanted
 use Rattle.name_rules.specs.declared.types.Wanted.{Wanted}
-use Rattle.std.proofs.Common.{◌≡◌, refl, sym, ap, subst, ◌∙◌, ◌<◌, ◌≤◌, ◌++◌, ◌&&◌, ℕ, zero, suc, ℤ, pos, int_le, List, [], ◌∷◌, length, map, slice_get, Option, Some, None, Bool, true, false, if◌then◌else◌, option_map, ◌==◌, ◌+◌, drop, true≢false, arith}
+use Rattle.std.proofs.Common.{◌≡◌, refl, sym, ap, subst, ◌∙◌, ◌<◌, ◌≤◌, ◌++◌, ◌&&◌, ℕ, zero, suc, ℤ, pos, List, [], ◌∷◌, length, map, slice_get, Option, Some, None, Bool, true, false, if◌then◌else◌, option_map, ◌==◌, ◌+◌, drop, true≢false, arith}
 use Rattle.std.specs.List.{list_all}
 use Rattle.ada_meaning.specs.Shapes.{FieldAt, Shapes, array_of, size, sizes, subtype_shape}
 use Rattle.ada_meaning.specs.Shapes as shapes
@@ -43,14 +42,15 @@ use Rattle.name_rules.specs.Aggregates.{broken_placing, not_empty}
 use Rattle.typed_tree.specs.Layout.{count}
 use Rattle.name_rules.specs.Resolved.{dimension_bounds}
 use Rattle.name_laws.proofs.CellsCounted.{HaveValues, extent_count}
-use Rattle.name_formed.proofs.Forms.{AreStrides, HasDimensions, HasFields, Small, shape_of}
+use Rattle.name_formed.proofs.Forms.{AreStrides, HasFields, Small, shape_of}
 use Rattle.name_scopes.proofs.Runs.{gaps-whole, runs-given, runs-lie}
 use Rattle.name_scopes.proofs.Seen.{SeenAssociations, SeenComposite, SeenValue}
 use Rattle.name_scopes.proofs.Sees.{Any, Sees, Maybe, Sight, World, seeing, v-bind, v-breaks, v-fault, v-given, v-if, v-new_parameter, v-none, v-pure, v-read, v-seeing, v-some, v-unless, v-weaken, v-where_clean, joint, mapped}
 use Rattle.name_scopes.proofs.SeesExpressions.{v-expr, v-judged_alone, v-rest, v-value_for}
-use Rattle.name_scopes.proofs.SeesFound.{Around, Each, Finding, FoundOf, LevelSees, RestOf, ValueOf, WhatOf, each-turned}
+use Rattle.name_scopes.proofs.SeesFound.{Around, Each, ExprOf, Finding, FoundOf, LevelSees, MentionsOf, RestOf, ValueOf, WhatOf, each-all, each-turned}
 use Rattle.name_scopes.proofs.SeesIterations.{around-wider, its-parameter, wider-parameter, with-entry}
 use Rattle.name_scopes.proofs.SeesRanges.{ChosenOf, StaticOf, v-chosen_span, v-chosen_value, v-static_range}
+use Rattle.name_scopes.proofs.SeesValues.{exprs-seen}
 
 -- fields lie in their record
 field-within : (us : Shapes) (k offset : ℕ) (t : shapes.Shape) → FieldAt us k offset t → offset + size t ≤ sizes us
@@ -85,8 +85,8 @@ module _ (W : World) (V : Sight) (G : Type 0) (N : ℕ) where
   abbrev ItemOf : scopes.Around → ℕ → TypedPart → Type 0
   ItemOf v m x = G → SeenValue W.program W.shown v m (as_value x)
 
-  with-value : (rs : List Run) (i : Option Iterated) (m : ℕ) (ms made v : TypedPart) → (G → IsGiven i rs) → (G → LieWithin N m rs) → AssociationsOf made → ItemOf (scopes.with_index i V.around) m v → AssociationsOf (with_value rs i ms made v)
-  with-value rs i m ms made v n w g h = ((λ k as' r. (n k, (m, w k, h k), r)), g)
+  with-value : (rs : List Run) (i : Option Iterated) (m : ℕ) (ms made v : TypedPart) → MentionsOf W V ms → (G → IsGiven i rs) → (G → LieWithin N m rs) → AssociationsOf made → ItemOf (scopes.with_index i V.around) m v → AssociationsOf (with_value rs i ms made v)
+  with-value rs i m ms made v l n w g h = ((λ k as' r. (n k, exprs-seen W V ms l, (m, w k, h k), r)), g)
 
   -- ---- records
 
@@ -132,7 +132,7 @@ module _ (W : World) (V : Sight) (G : Type 0) (N : ℕ) where
       v-bind W V (λ x. G → LieWithin N (size (shape_of W.program f.subtype)) (x ∷ [])) (Maybe AssociationsOf) (read (λ log. field_run log f)) _
       (v-read W V (λ x. G → LieWithin N (size (shape_of W.program f.subtype)) (x ∷ [])) (λ log. field_run log f) (λ log i. one-run f log h)) (λ x s.
       v-pure W V (Maybe AssociationsOf) (joined (with_value (x ∷ []) None part.Nothing) made v) (joint AssociationsOf (ValueOf W V f.subtype) AssociationsOf (with_value (x ∷ []) None part.Nothing) made v g q
-      (λ a b m n. with-value (x ∷ []) None (size (shape_of W.program f.subtype)) part.Nothing a b (λ k. tt) s m (λ k. n (h k).1)))))
+      (λ a b m n. with-value (x ∷ []) None (size (shape_of W.program f.subtype)) part.Nothing a b tt (λ k. tt) s m (λ k. n (h k).1)))))
 
   v-fields_value : (names : Names) (level : Inside) (here : Context) (made : Option TypedPart) (fs : List Field) (e : Expr) → LevelSees W level → Around W V here → FieldsFit fs → Maybe AssociationsOf made → Sees W V (Maybe AssociationsOf) (fields_value names level here made fs e)
   v-fields_value names level here made [] e l r h g = v-pure W V (Maybe AssociationsOf) made g
@@ -238,20 +238,20 @@ module _ (W : World) (V : Sight) (G : Type 0) (d : Dimension) (apart : ℕ) wher
   abbrev PlacingOf : Placing → Type 0
   PlacingOf p = (list_all not_empty p.ranges ≡ true → Maybe Associated p.done) × RestValue p.rest
 
-  with-runs : (i : Option Iterated) (ms : TypedPart) (rs : List (ℤ × ℤ)) (before v : Option TypedPart) → ((xs : List Run) → runs_of d apart rs ≡ Some xs → IsGiven i xs) → Maybe Associated before → Maybe (Item (scopes.with_index i V.around)) v → Maybe Associated (with_runs i ms (runs_of d apart rs) before v)
-  with-runs i ms rs before v n g h = by (runs_of d apart rs) refl
+  with-runs : (i : Option Iterated) (ms : TypedPart) (rs : List (ℤ × ℤ)) (before v : Option TypedPart) → MentionsOf W V ms → ((xs : List Run) → runs_of d apart rs ≡ Some xs → IsGiven i xs) → Maybe Associated before → Maybe (Item (scopes.with_index i V.around)) v → Maybe Associated (with_runs i ms (runs_of d apart rs) before v)
+  with-runs i ms rs before v l n g h = by (runs_of d apart rs) refl
     where
       by : (xs : Option (List Run)) → runs_of d apart rs ≡ xs → Maybe Associated (with_runs i ms xs before v)
       by None e = tt
-      by (Some xs) e = joint Associated (Item (scopes.with_index i V.around)) Associated (with_value xs i ms) before v g h (λ a b s t. with-value W V G (extent d * apart) xs i apart ms a b (λ k. n xs e) (λ k. runs-lie d apart rs xs e) s t)
+      by (Some xs) e = joint Associated (Item (scopes.with_index i V.around)) Associated (with_value xs i ms) before v g h (λ a b s t. with-value W V G (extent d * apart) xs i apart ms a b l (λ k. n xs e) (λ k. runs-lie d apart rs xs e) s t)
 
   none-iterated : (rs : List (ℤ × ℤ)) (xs : List Run) → runs_of d apart rs ≡ Some xs → IsGiven None xs
   none-iterated rs [] e = tt
   none-iterated rs (x ∷ xs) e = tt
 
-  with-ranges : (i : Option Iterated) (ms : TypedPart) (p : Placing) (rs : List (ℤ × ℤ)) (v : Option TypedPart) → (list_all not_empty rs ≡ true → (xs : List Run) → runs_of d apart rs ≡ Some xs → IsGiven i xs) → PlacingOf p → Maybe (Item (scopes.with_index i V.around)) v
+  with-ranges : (i : Option Iterated) (ms : TypedPart) (p : Placing) (rs : List (ℤ × ℤ)) (v : Option TypedPart) → MentionsOf W V ms → (list_all not_empty rs ≡ true → (xs : List Run) → runs_of d apart rs ≡ Some xs → IsGiven i xs) → PlacingOf p → Maybe (Item (scopes.with_index i V.around)) v
       → PlacingOf (with_ranges d apart i ms p rs v)
-  with-ranges i ms p rs v n g h = ((λ c. let b = all-both p.ranges rs c in with-runs i ms rs p.done v (n b.1) (g.0 b.0) h), g.1)
+  with-ranges i ms p rs v l n g h = ((λ c. let b = all-both p.ranges rs c in with-runs i ms rs p.done v l (n b.1) (g.0 b.0) h), g.1)
 
   broken : (p : Placing) → PlacingOf p → PlacingOf (broken_placing p)
   broken p g = ((λ c. tt), g.1)
@@ -263,38 +263,44 @@ module _ (W : World) (V : Sight) (G : Type 0) (d : Dimension) (apart : ℕ) wher
       by true h = refl
       by false h = h
 
-  chosen-given : (p : Placing) (c : Option Choosing') (v : Option TypedPart) → PlacingOf p → Maybe (Item V.around) v → PlacingOf (chosen_given d apart p c v)
-  chosen-given p None v g h = broken p g
-  chosen-given p (Some c) v g h = by c.rest
+  abbrev ChoosingOf : Choosing' → Type 0
+  ChoosingOf c = MentionsOf W V c.mentions
+
+  chosen-given : (p : Placing) (c : Option Choosing') (v : Option TypedPart) → Maybe ChoosingOf c → PlacingOf p → Maybe (Item V.around) v → PlacingOf (chosen_given d apart p c v)
+  chosen-given p None v l g h = broken p g
+  chosen-given p (Some c) v l g h = by c.rest
     where
       by : (b : Bool) → PlacingOf (if b then with_rest p v else with_ranges d apart None c.mentions p c.ranges v)
       by true = (g.0, h)
-      by false = with-ranges None c.mentions p c.ranges v (λ e. none-iterated c.ranges) g h
+      by false = with-ranges None c.mentions p c.ranges v l (λ e. none-iterated c.ranges) g h
 
   -- what a component is found to be, whatever is in scope beside
   abbrev ComponentSees : Component → Type 0
   ComponentSees component = (v : scopes.Around) (here : Context) (e : Expr) → Around W (seeing v V) here → Sees W (seeing v V) (Maybe (Item v)) (component here e)
 
-  v-array_choice : (level : Inside) (here : Context) (k : Kind) (alone last : Bool) (made : Option Choosing') (c : Choice) → LevelSees W level → Around W V here → Sees W V Any (array_choice level here k alone last made c)
-  v-array_choice level here k alone last made (syntax.Value s) l r =
-      v-bind W V (Maybe (ChosenOf W V)) Any (chosen_value level here (Some k) s) _ (v-chosen_value W V level here (Some k) s l r) (λ c q. v-pure W V Any (joined also_chosen made c) tt)
-  v-array_choice level here k alone last made (syntax.Span low high) l r =
-      v-bind W V (Maybe (ChosenOf W V)) Any (chosen_span level here (Some k) low high) _ (v-chosen_span W V level here (Some k) low high l r) (λ c q. v-pure W V Any (joined also_chosen made c) tt)
-  v-array_choice level here k alone last made (syntax.Others at) l r =
-      v-bind W V Any Any (unless (alone && last) at StaticRange) _ (v-unless W V (alone && last) at StaticRange) (λ u q. v-pure W V Any (option_map as_rest made) tt)
+  also-chosen : (c : Choosing') (x : Chosen) → ChoosingOf c → ChosenOf W V x → ChoosingOf (also_chosen c x)
+  also-chosen c x g h = each-all (ExprOf W V) c.mentions x.part g h
 
-  v-array_choices : (level : Inside) (here : Context) (k : Kind) (alone last : Bool) (made : Option Choosing') (cs : Choices) → LevelSees W level → Around W V here → Sees W V Any (array_choices level here k alone last made cs)
-  v-array_choices level here k alone last made syntax.NoChoice l r = v-pure W V Any made tt
-  v-array_choices level here k alone last made (syntax.AlsoChoice c cs) l r = v-bind W V Any Any (array_choice level here k alone last made c) _ (v-array_choice level here k alone last made c l r) (λ x q. v-array_choices level here k alone last x cs l r)
+  v-array_choice : (level : Inside) (here : Context) (k : Kind) (alone last : Bool) (made : Option Choosing') (c : Choice) → LevelSees W level → Around W V here → Maybe ChoosingOf made → Sees W V (Maybe ChoosingOf) (array_choice level here k alone last made c)
+  v-array_choice level here k alone last made (syntax.Value s) l r g =
+      v-bind W V (Maybe (ChosenOf W V)) (Maybe ChoosingOf) (chosen_value level here (Some k) s) _ (v-chosen_value W V level here (Some k) s l r) (λ c q. v-pure W V (Maybe ChoosingOf) (joined also_chosen made c) (joint ChoosingOf (ChosenOf W V) ChoosingOf also_chosen made c g q also-chosen))
+  v-array_choice level here k alone last made (syntax.Span low high) l r g =
+      v-bind W V (Maybe (ChosenOf W V)) (Maybe ChoosingOf) (chosen_span level here (Some k) low high) _ (v-chosen_span W V level here (Some k) low high l r) (λ c q. v-pure W V (Maybe ChoosingOf) (joined also_chosen made c) (joint ChoosingOf (ChosenOf W V) ChoosingOf also_chosen made c g q also-chosen))
+  v-array_choice level here k alone last made (syntax.Others at) l r g =
+      v-bind W V Any (Maybe ChoosingOf) (unless (alone && last) at StaticRange) _ (v-unless W V (alone && last) at StaticRange) (λ u q. v-pure W V (Maybe ChoosingOf) (option_map as_rest made) (mapped ChoosingOf ChoosingOf as_rest made g (λ c h. h)))
 
-  v-of_index_type : (k : Kind) (first : ℕ) (s : Static) → Sees W V (Maybe Any) (of_index_type k first s)
-  v-of_index_type k first s = v-if W V (Maybe Any) (same s.known.kind k) (some s) (fault first WrongType) (v-some W V Any s tt) (v-fault W V Any first WrongType)
+  v-array_choices : (level : Inside) (here : Context) (k : Kind) (alone last : Bool) (made : Option Choosing') (cs : Choices) → LevelSees W level → Around W V here → Maybe ChoosingOf made → Sees W V (Maybe ChoosingOf) (array_choices level here k alone last made cs)
+  v-array_choices level here k alone last made syntax.NoChoice l r g = v-pure W V (Maybe ChoosingOf) made g
+  v-array_choices level here k alone last made (syntax.AlsoChoice c cs) l r g = v-bind W V (Maybe ChoosingOf) (Maybe ChoosingOf) (array_choice level here k alone last made c) _ (v-array_choice level here k alone last made c l r g) (λ x q. v-array_choices level here k alone last x cs l r q)
 
-  iterated-given : (n : ℕ) (p : Placing) (s : Option Static) (v : Option TypedPart) → PlacingOf p → Maybe (Item (scopes.with_parameter n V.around)) v → PlacingOf (iterated_given d apart n p s v)
-  iterated-given n p None v g h = broken p g
-  iterated-given n p (Some r) v g h =
+  v-of_index_type : (k : Kind) (first : ℕ) (s : Static) → StaticOf W V s → Sees W V (Maybe (StaticOf W V)) (of_index_type k first s)
+  v-of_index_type k first s h = v-if W V (Maybe (StaticOf W V)) (same s.known.kind k) (some s) (fault first WrongType) (v-some W V (StaticOf W V) s h) (v-fault W V (StaticOf W V) first WrongType)
+
+  iterated-given : (n : ℕ) (p : Placing) (s : Option Static) (v : Option TypedPart) → Maybe (StaticOf W V) s → PlacingOf p → Maybe (Item (scopes.with_parameter n V.around)) v → PlacingOf (iterated_given d apart n p s v)
+  iterated-given n p None v l g h = broken p g
+  iterated-given n p (Some r) v l g h =
       let i : Iterated = record { parameter = n; first = r.known.low } in
-      with-ranges (Some i) r.part p ((r.known.low, r.known.high) ∷ []) v (λ e xs f. runs-given d apart i (r.known.low, r.known.high) xs (first-all (r.known.low, r.known.high) e) f) g h
+      with-ranges (Some i) r.part p ((r.known.low, r.known.high) ∷ []) v l (λ e xs f. runs-given d apart i (r.known.low, r.known.high) xs (first-all (r.known.low, r.known.high) e) f) g h
 
   index-what : (n : ℕ) (s : Option Static) → WhatOf W (seeing (scopes.with_parameter n V.around) V) (index_what n s)
   index-what n None = tt
@@ -305,17 +311,17 @@ module _ (W : World) (V : Sight) (G : Type 0) (d : Dimension) (apart : ℕ) wher
   unfolding array_assoc
   v-array_assoc names level here component last p (syntax.Chosen c cs e) l r sees g =
       let start : Option Choosing' = Some (record { ranges = []; rest = false; mentions = part.Nothing }) in
-      v-bind W V Any PlacingOf (array_choices level here d.kind (is_alone cs) last start (syntax.AlsoChoice c cs)) _ (v-array_choices level here d.kind (is_alone cs) last start (syntax.AlsoChoice c cs) l r) (λ x q.
-      v-bind W V (Maybe (Item V.around)) PlacingOf (component here e) _ (sees V.around here e r) (λ v s. v-pure W V PlacingOf (chosen_given d apart p x v) (chosen-given p x v g s)))
+      v-bind W V (Maybe ChoosingOf) PlacingOf (array_choices level here d.kind (is_alone cs) last start (syntax.AlsoChoice c cs)) _ (v-array_choices level here d.kind (is_alone cs) last start (syntax.AlsoChoice c cs) l r tt) (λ x q.
+      v-bind W V (Maybe (Item V.around)) PlacingOf (component here e) _ (sees V.around here e r) (λ v s. v-pure W V PlacingOf (chosen_given d apart p x v) (chosen-given p x v q g s)))
   v-array_assoc names level here component last p (syntax.Each at index x e) l r sees g =
       v-bind W V (Maybe (StaticOf W V)) PlacingOf (static_range level here false (Some d.kind) x) _ (v-static_range W V level here false (Some d.kind) x l r) (λ y q.
-      v-bind W V (Maybe Any) PlacingOf (given y (of_index_type d.kind (first_token.of_range x))) _ (v-given W V (StaticOf W V) Any y (of_index_type d.kind (first_token.of_range x)) q (λ z i. v-of_index_type d.kind (first_token.of_range x) z)) (λ s t.
+      v-bind W V (Maybe (StaticOf W V)) PlacingOf (given y (of_index_type d.kind (first_token.of_range x))) _ (v-given W V (StaticOf W V) (StaticOf W V) y (of_index_type d.kind (first_token.of_range x)) q (λ z i. v-of_index_type d.kind (first_token.of_range x) z i)) (λ s t.
       v-bind W V Any PlacingOf new_parameter _ (v-new_parameter W V) (λ n i.
       let u = scopes.with_parameter n V.around in
       let there = with_entry here (symbol names index) (index_what n s) in
       v-bind W V (Maybe (Item u)) PlacingOf (component there e) _
       (v-seeing W V u (Maybe (Item u)) (component there e) (sees u there e (with-entry W (seeing u V) here (symbol names index) (index_what n s) (index-what n s) (around-wider W V.around u V here (wider-parameter n V.around) refl r)))) (λ v m.
-      v-pure W V PlacingOf (iterated_given d apart n p s v) (iterated-given n p s v g m)))))
+      v-pure W V PlacingOf (iterated_given d apart n p s v) (iterated-given n p s v t g m)))))
 
   v-array_assocs : (names : Names) (level : Inside) (here : Context) (component : Component) (p : Placing) (as' : Assocs) → LevelSees W level → Around W V here → ComponentSees component → PlacingOf p
       → Sees W V PlacingOf (array_assocs names level here component d apart p as')
@@ -327,7 +333,7 @@ module _ (W : World) (V : Sight) (G : Type 0) (d : Dimension) (apart : ℕ) wher
   v-array_values here component z p syntax.NoExpr r sees g = v-pure W V PlacingOf p g
   v-array_values here component z p (syntax.AlsoExpr e es) r sees g =
       v-bind W V (Maybe (Item V.around)) PlacingOf (component here e) _ (sees V.around here e r) (λ v q.
-      v-array_values here component (z +ℤ pos 1) (with_ranges d apart None part.Nothing p ((z, z) ∷ []) v) es r sees (with-ranges None part.Nothing p ((z, z) ∷ []) v (λ e. none-iterated ((z, z) ∷ [])) g q))
+      v-array_values here component (z +ℤ pos 1) (with_ranges d apart None part.Nothing p ((z, z) ∷ []) v) es r sees (with-ranges None part.Nothing p ((z, z) ∷ []) v tt (λ e. none-iterated ((z, z) ∷ [])) g q))
 
   v-array_rest : (here : Context) (component : Component) (o : OptionalExpr) (p : Placing) → Around W V here → ComponentSees component → PlacingOf p → Sees W V PlacingOf (array_rest here component o p)
   v-array_rest here component syntax.AbsentExpr p r sees g = v-pure W V PlacingOf p g
@@ -350,7 +356,7 @@ module _ (W : World) (V : Sight) (G : Type 0) (d : Dimension) (apart : ℕ) wher
       v-if W V (Maybe Made) (length os == 0) _ (fault bracket StaticRange) (v-pure W V (Maybe Made) (option_map (aggregate_part bracket (extent d * apart)) p.done) (made-of bracket p.done (g.0 (gaps-whole d.low d.high p.ranges os e)))) (v-fault W V Made bracket StaticRange)
   v-covered bracket p (Some os) (Some v) e g h =
       let made = with_runs None part.Nothing (runs_of d apart os) p.done v in
-      v-pure W V (Maybe Made) (option_map (aggregate_part bracket (extent d * apart)) made) (made-of bracket made (with-runs None part.Nothing os p.done v (none-iterated os) (g.0 (gaps-whole d.low d.high p.ranges os e)) h))
+      v-pure W V (Maybe Made) (option_map (aggregate_part bracket (extent d * apart)) made) (made-of bracket made (with-runs None part.Nothing os p.done v tt (none-iterated os) (g.0 (gaps-whole d.low d.high p.ranges os e)) h))
 
   v-dimension_of : (names : Names) (level : Inside) (here : Context) (bracket : ℕ) (component : Component) (ps : Contents) → LevelSees W level → Around W V here → ComponentSees component → Sees W V (Maybe Made) (dimension_of names level here bracket component d apart ps)
   unfolding dimension_of

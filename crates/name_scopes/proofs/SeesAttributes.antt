@@ -4,7 +4,6 @@ use Rattle.std.specs.Prelude.{unsigned_abs}
 use Rattle.ada_base.specs.declared.operation.Op.TheVariants as op
 use Rattle.ada_base.specs.declared.operation.Op.{Op}
 use Rattle.syntax_tree.specs.Syntax.{Args}
-use Rattle.typed_tree.specs.Indexes.{indexes_in}
 use Rattle.typed_tree.specs.Decoded as part
 use Rattle.typed_tree.specs.Decoded.{TypedPart, as_expr}
 use Rattle.typed_tree.specs.Syntax.{Expr as TypedExpr}
@@ -37,10 +36,10 @@ use Rattle.name_rules.specs.declared.types.Subtype.TheVariants as subtype
 use Rattle.name_rules.specs.TypedParts.{selections_of}
 use Rattle.name_scopes.proofs.Sees.{Any, Sees, Maybe, Sight, World, v-bind, v-fault, v-given, v-if, v-pure, v-read, v-some, v-where_clean, joint, mapped}
 use Rattle.name_scopes.proofs.SeesCalls.{AllFound, v-operands}
-use Rattle.name_scopes.proofs.SeesFound.{Around, DenotedOf, DenotesOf, ExprOf, FoundOf, LevelSees, MentionsOf, PrefixOf}
+use Rattle.name_scopes.proofs.SeesFound.{Around, DenotedOf, DenotesOf, ExprOf, FoundOf, LevelSees, MentionsOf, PrefixOf, each-all}
 use Rattle.name_scopes.proofs.SeesNames.{v-wrong_call}
 use Rattle.name_scopes.proofs.Seen.{SeenExpr}
-use Rattle.name_scopes.proofs.SeesValues.{v-asked, v-static_of_kind}
+use Rattle.name_scopes.proofs.SeesValues.{StaticValue, indexes-seen, path-whole, static-mentions, v-asked, v-static_of_kind}
 
 module _ (W : World) (V : Sight) where
   prefix-formed : (k : KnownDenoted) (x : TypedPart) → DenotesOf W V k x → PrefixOf W V (prefix_of k) x
@@ -72,14 +71,18 @@ module _ (W : World) (V : Sight) where
   v-bound_in first ms a None h = v-fault W V (DenotedOf W V) first WrongType
   v-bound_in first ms a (Some d) h = v-dimension_bound first ms a d h
 
-  -- the indexes in the prefix are formed
-  pub mentioned-formed : (p : Prefix) (x : TypedPart) → PrefixOf W V p x → MentionsOf W V (mentioned p x)
-  mentioned-formed p x h = tt
+  -- the indexes in the prefix are in scope
+  pub mentioned-seen : (p : Prefix) (x : TypedPart) → PrefixOf W V p x → MentionsOf W V (mentioned p x)
+  mentioned-seen (prefix.Object p) x h = indexes-seen W V (selections_of x) (path-whole W V p x h)
+  mentioned-seen (prefix.Parameter s) x h = tt
+  mentioned-seen (prefix.Type t) x h = tt
+  mentioned-seen (prefix.Function n) x h = tt
+  mentioned-seen prefix.Other x h = tt
 
   v-bound_by : (first : ℕ) (p : Prefix) (x : TypedPart) (a : Attribute) → PrefixOf W V p x → Sees W V (Maybe (DenotedOf W V)) (read (λ log. slice_get (dimensions_in log (prefix_subtype p)) 0) >>= bound_in first (mentioned p x) a)
   v-bound_by first p x a h =
       v-bind W V Any (Maybe (DenotedOf W V)) (read (λ log. slice_get (dimensions_in log (prefix_subtype p)) 0)) (bound_in first (mentioned p x) a) (v-read W V Any (λ log. slice_get (dimensions_in log (prefix_subtype p)) 0) (λ log g. tt)) (λ d q.
-      v-bound_in first (mentioned p x) a d (mentioned-formed p x h))
+      v-bound_in first (mentioned p x) a d (mentioned-seen p x h))
 
   v-bound_alone : (first : ℕ) (p : Prefix) (x : TypedPart) (a : Attribute) → PrefixOf W V p x → Sees W V (Maybe (DenotedOf W V)) (bound_alone first p x a)
   v-bound_alone first (prefix.Type (subtype.Scalar s)) x a h = v-scalar_bound first s a
@@ -92,9 +95,9 @@ module _ (W : World) (V : Sight) where
   v-dimension_given : (first : ℕ) (ms : TypedPart) (a : Attribute) (ds : List Dimension) (f : Found) → MentionsOf W V ms → FoundOf W V f → Sees W V (Maybe (DenotedOf W V)) (dimension_given first ms a ds f)
   v-dimension_given first ms a ds f h g =
       v-if W V (Maybe (DenotedOf W V)) (is_number f.known) _ (fault (first_of f.known) WrongType)
-      (v-bind W V (Maybe Any) (Maybe (DenotedOf W V)) (static_of_kind (own_kind f.known) f) _ (v-static_of_kind W V (own_kind f.known) f g) (λ v q.
-      v-given W V Any (DenotedOf W V) v (dimension_at first (also_all ms (mentions_of f)) a ds (first_of f.known)) q (λ z s.
-      v-dimension_at first (also_all ms (mentions_of f)) a ds (first_of f.known) z tt)))
+      (v-bind W V (Maybe (StaticValue W V f)) (Maybe (DenotedOf W V)) (static_of_kind (own_kind f.known) f) _ (v-static_of_kind W V (own_kind f.known) f g) (λ v q.
+      v-given W V (StaticValue W V f) (DenotedOf W V) v (dimension_at first (also_all ms (mentions_of f)) a ds (first_of f.known)) q (λ z s.
+      v-dimension_at first (also_all ms (mentions_of f)) a ds (first_of f.known) z (each-all (ExprOf W V) ms (mentions_of f) h (static-mentions W V f.known f.part z g s)))))
       (v-fault W V (DenotedOf W V) (first_of f.known) WrongType)
 
   v-one_dimension : (first bracket : ℕ) (ms : TypedPart) (a : Attribute) (ds : List Dimension) (ns : List (Option ℕ)) (fs : List Found) → MentionsOf W V ms → AllFound W V fs → Sees W V (Maybe (DenotedOf W V)) (one_dimension first bracket ms a ds ns fs)

@@ -5,26 +5,32 @@ use Rattle.behaviours.specs.Paths.{Entity, ConstantOf, VariableOf, entity_eq}
 use Rattle.ada_base.specs.declared.reason.Reason.TheVariants as reason
 use Rattle.ada_meaning.specs.Shapes.{object_shape, size}
 use Rattle.syntax_tree.specs.Syntax as syntax
-use Rattle.syntax_tree.specs.Syntax.{Decl, Expr, Ids, ObjectType}
+use Rattle.syntax_tree.specs.Syntax.{Array, Comp, Decl, Definition, Expr, Ids, Indic, ObjectType, Range}
 use Rattle.typed_scopes.specs.Scopes as scopes
 use Rattle.typed_scopes.specs.Scopes.{object_cells}
 use Rattle.typed_tree.specs.Decoded as part
-use Rattle.typed_tree.specs.Decoded.{TypedPart, as_decl, as_decls, as_value}
+use Rattle.typed_tree.specs.Decoded.{TypedPart, as_decl, as_decls, as_expr, as_value}
 use Rattle.typed_tree.specs.Latest.{onto, turned}
 use Rattle.typed_tree.specs.Syntax as typed
 use Rattle.typed_tree.specs.Syntax.{Program}
 use Rattle.typed_tree.specs.declared.program.Object.{Object}
 use Rattle.name_rules.specs.Declarations as d
-use Rattle.name_rules.specs.Declarations.{Indicated, Initial, all_ids}
+use Rattle.name_rules.specs.Declarations.{Building, Dimensions, Indicated, Initial, all_ids, indicated}
 use Rattle.name_rules.specs.Expressions.{Inside, expr}
-use Rattle.name_rules.specs.Judging.{◌>>=◌, given, joined, pure, some}
-use Rattle.name_rules.specs.Limits.{most_cells, most_objects}
+use Rattle.name_rules.specs.Found.{Found}
+use Rattle.name_rules.specs.Judging.{◌>>=◌, fault, given, joined, pure, read, some}
+use Rattle.name_rules.specs.Limits.{most_cells, most_dimensions, most_objects}
+use Rattle.name_rules.specs.Ranges.{two_bounds}
 use Rattle.name_rules.specs.Scope.{declared, free, hidden_where, with_entry}
 use Rattle.name_rules.specs.Symbols.{symbol}
-use Rattle.name_rules.specs.TypedParts.{also, exprs_of}
-use Rattle.name_rules.specs.Types.{cells_in, number_of, saturated}
+use Rattle.name_rules.specs.TypedParts.{also_all, exprs_of}
+use Rattle.name_rules.specs.Types.{cells_in, number_of, saturated, written_shape}
+use Rattle.name_rules.specs.declared.log.Bound.TheVariants as bound
+use Rattle.name_rules.specs.declared.log.Dimension.{Dimension}
+use Rattle.name_rules.specs.declared.log.Field.{Field}
 use Rattle.name_rules.specs.declared.log.Log.{Log}
-use Rattle.name_rules.specs.declared.log.Rule.TheVariants.{WrongType}
+use Rattle.name_rules.specs.declared.log.Rule.TheVariants.{Limit}
+use Rattle.name_rules.specs.declared.log.Shape.TheVariants as entry
 use Rattle.name_rules.specs.declared.scope.Context.{Context}
 use Rattle.name_rules.specs.declared.scope.Entry.{Entry}
 use Rattle.name_rules.specs.declared.scope.Names.{Names}
@@ -33,23 +39,27 @@ use Rattle.name_rules.specs.declared.scope.Target.TheVariants as target
 use Rattle.name_rules.specs.declared.scope.What.{What}
 use Rattle.name_rules.specs.declared.scope.What.TheVariants as what
 use Rattle.name_rules.specs.declared.types.Subtype.{Subtype}
+use Rattle.name_rules.specs.declared.types.Subtype.TheVariants as subtype
 use Rattle.name_rules.specs.declared.types.Wanted.TheVariants as wanted
 use Rattle.name_laws.proofs.CellsSound.{NumberIn, number_in, number_kept}
 use Rattle.name_laws.proofs.Fitting.{Fits, fits_constant, is_number}
 use Rattle.name_laws.proofs.KeepsDeclarations as k
 use Rattle.name_laws.proofs.KeepsExpressions.{k-expr}
+use Rattle.name_laws.proofs.KeepsRanges.{k-two_bounds}
 use Rattle.name_laws.proofs.KeepsScope.{k-free}
-use Rattle.name_laws.proofs.Walk.{k-given}
+use Rattle.name_laws.proofs.KeepsTypes.{k-number_of, k-written_shape}
+use Rattle.name_laws.proofs.Walk.{k-bind, k-given, k-pure, k-read}
 use Rattle.name_laws.proofs.Walked.{KeepsInside}
 use Rattle.name_formed.proofs.Forms.{Small, shape_of}
 use Rattle.name_formed.proofs.FormsShapes.{object-at, object-small}
-use Rattle.name_scopes.proofs.Seen.{SeenDecls, SeenValue, grown, past}
-use Rattle.name_scopes.proofs.Sees.{Any, Maybe, Sight, World, any, seeing, joint, mapped}
-use Rattle.name_scopes.proofs.SeesBack.{And, Back, Leads, Near, b-any, b-bind, b-lift, b-pure, leading, leads_joined, not-none, now}
-use Rattle.name_scopes.proofs.SeesFound.{AreOf, Around, LevelSees, TargetOf, ValueOf, WhatOf, entity}
+use Rattle.name_scopes.proofs.Seen.{SeenDecls, SeenExpr, SeenValue, grown, past}
+use Rattle.name_scopes.proofs.Sees.{Any, Maybe, Sight, World, any, seeing, mapped}
+use Rattle.name_scopes.proofs.SeesBack.{And, Back, Leads, Near, b-any, b-bind, b-both, b-fault, b-given, b-if, b-lift, b-pure, b-some, leading, leads_joined, not-none, now}
+use Rattle.name_scopes.proofs.SeesFound.{AreOf, Around, Each, LevelSees, TargetOf, ValueOf, WhatOf, each-all, entity}
 use Rattle.name_scopes.proofs.SeesIterations.{Wider, around-wider, either, wider-joined, wider-same, with-entry}
 use Rattle.name_scopes.proofs.SeesShapes.{Facts, object-size}
-use Rattle.name_scopes.proofs.SeesTypes.{InitialOf, IsStored, v-initial}
+use Rattle.name_scopes.proofs.SeesTypes.{InitialOf, IsStored, v-dimensions_from, v-indic, v-initial, v-number, v-range_type}
+use Rattle.name_scopes.proofs.SeesValues.{exprs-within}
 
 -- what is judged in brackets
 pub record LevelBoth (level : Inside) : Type 0 where
@@ -179,6 +189,115 @@ module _ (P : Program) (shown : ℕ → Entity → Bool) (L : Log) (F : Facts P 
       b-bind L many G Any (BegunIn V) (free names start here t) _ (b-any L many G (free names start here t) (k-free leading.walk names start here t tt)) (λ f.
       b-begun_names many V (And G (Any f)) names start (hidden_where names here t f) (made ++ f ∷ []) ts (λ g. near-hidden V names here t f (r g.old)))
 
+  -- ---- subtypes
+
+  abbrev pub MentionsIn : Sight → TypedPart → Type 0
+  MentionsIn V x = Each (λ y. SeenExpr P shown V.around (as_expr y)) x
+
+  abbrev IndicatedIn : Sight → Indicated → Type 0
+  IndicatedIn V s = MentionsIn V s.part
+
+  abbrev DimensionsIn : Sight → Dimensions → Type 0
+  DimensionsIn V ds = MentionsIn V ds.mentions
+
+  b-indic : (V : Sight) (G : Type 0) (names : Names) (level : Inside) (here : Context) (i : Indic) → LevelBoth level → (G → Near P shown L F V here) → Back L V.bound G (Maybe (IndicatedIn V)) (d.indic names level here i)
+  b-indic V G names level here i b r =
+      b-lift P shown L F V G (Maybe (IndicatedIn V)) (d.indic names level here i) (k.k-indic leading.walk names level here i tt b.keeps) (λ log l g. v-indic (now P shown L F log l) V names level here i (b.sees (now P shown L F log l)) (r g log l))
+
+  b-dimensions_from : (V : Sight) (G : Type 0) (level : Inside) (here : Context) (rs : List Range) → LevelBoth level → (G → Near P shown L F V here)
+      → Back L V.bound G (Maybe (DimensionsIn V)) (d.dimensions_from level here (Some (record { dimensions = []; mentions = part.Nothing })) rs)
+  b-dimensions_from V G level here rs b r =
+      let made : Option Dimensions = Some (record { dimensions = []; mentions = part.Nothing }) in
+      b-lift P shown L F V G (Maybe (DimensionsIn V)) (d.dimensions_from level here made rs) (k.k-dimensions_from leading.walk level here made rs b.keeps)
+      (λ log l g. v-dimensions_from (now P shown L F log l) V level here made rs (b.sees (now P shown L F log l)) (r g log l) tt)
+
+  b-array_written : (V : Sight) (G : Type 0) (ds : List Dimension) (s : Subtype) → Back L V.bound G (Maybe Any) (d.array_written ds s)
+  b-array_written V G ds s = record { keeps = k.k-array_written leading ds s; at = λ log l b g. any (d.array_written ds s log).0 }
+
+  b-array_given : (V : Sight) (G : Type 0) (at : ℕ) (ds : Dimensions) (s : Indicated) → (G → DimensionsIn V ds) → (G → IndicatedIn V s) → Back L V.bound G (Maybe (IndicatedIn V)) (d.array_given at ds s)
+  b-array_given V G at ds s h i =
+      b-if L V.bound G (Maybe (IndicatedIn V)) (nat_le (length ds.dimensions) most_dimensions) _ (fault at (Limit bound.Dimensions))
+      (b-bind L V.bound G (Maybe Any) (Maybe (IndicatedIn V)) (d.array_written ds.dimensions s.known) _ (b-array_written V G ds.dimensions s.known) (λ t.
+      b-pure L V.bound _ (Maybe (IndicatedIn V)) (option_map (indicated (also_all ds.mentions s.part)) t)
+      (λ g. mapped Any (IndicatedIn V) (indicated (also_all ds.mentions s.part)) t (any t) (λ x p. each-all (λ y. SeenExpr P shown V.around (as_expr y)) ds.mentions s.part (h g.old) (i g.old)))))
+      (b-fault L V.bound G (IndicatedIn V) at (Limit bound.Dimensions))
+
+  b-array : (V : Sight) (G : Type 0) (names : Names) (level : Inside) (here : Context) (a : Array) → LevelBoth level → (G → Near P shown L F V here) → Back L V.bound G (Maybe (IndicatedIn V)) (d.array names level here a)
+  unfolding d.array
+  b-array V G names level here a b r =
+      b-bind L V.bound G (Maybe (DimensionsIn V)) (Maybe (IndicatedIn V)) (d.dimensions_from level here (Some (record { dimensions = []; mentions = part.Nothing })) (a.first ∷ a.more)) _ (b-dimensions_from V G level here (a.first ∷ a.more) b r) (λ ds.
+      b-bind L V.bound _ (Maybe (IndicatedIn V)) (Maybe (IndicatedIn V)) (d.indic names level here a.component) _ (b-indic V _ names level here a.component b (λ g. r g.old)) (λ s.
+      b-both L V.bound _ (DimensionsIn V) (IndicatedIn V) (IndicatedIn V) ds s (d.array_given a.at) (λ g. g.old.new) (λ g. g.new) (λ x y. b-array_given V _ a.at x y (λ g. g.old.new) (λ g. g.new))))
+
+  -- ---- records
+
+  pub record BuildingIn (V : Sight) (b : Building) : Type 0 where
+    pub around : Near P shown L F V b.here
+    pub mentions : MentionsIn V b.mentions
+
+  b-with_field : (V : Sight) (G : Type 0) (names : Names) (b : Building) (f : Option ℕ) (token : ℕ) (s : Option Indicated) → (G → BuildingIn V b) → Back L V.bound G (BuildingIn V) (d.with_field names b f token s)
+  b-with_field V G names b None token s h = b-pure L V.bound G (BuildingIn V) (d.without_fields b b.here) (λ g. record { around = (h g).around; mentions = (h g).mentions })
+  b-with_field V G names b (Some t) token None h =
+      b-pure L V.bound G (BuildingIn V) (d.without_fields b (declared names b.here token (Some what.Broken))) (λ g. record { around = near-declared V names b.here token (Some what.Broken) (h g).around (λ log l. tt); mentions = (h g).mentions })
+  b-with_field V G names b (Some t) token (Some s) h =
+      b-bind L V.bound G Any (BuildingIn V) (number_of s.known) _ (b-any L V.bound G (number_of s.known) (k-number_of leading.walk s.known)) (λ n.
+      b-bind L V.bound _ Any (BuildingIn V) (read (λ log. cells_in log s.known)) _ (b-any L V.bound _ (read (λ log. cells_in log s.known)) (k-read leading.walk (λ log. cells_in log s.known))) (λ cells.
+      b-pure L V.bound _ (BuildingIn V) (record {
+        here = declared names b.here token (Some what.Hidden);
+        fields = option_map (d.also_field (record { symbol = symbol names token; name = token; subtype = s.known; number = n; offset = b.offset })) b.fields;
+        offset = saturated (b.offset + cells);
+        mentions = b.mentions;
+      }) (λ g. record { around = near-declared V names b.here token (Some what.Hidden) (h g.old.old).around (λ log l. tt); mentions = (h g.old.old).mentions })))
+
+  b-with_fields : (V : Sight) (G : Type 0) (names : Names) (b : Building) (s : Option Indicated) (ts : List ℕ) (fs : List (Option ℕ)) → (G → BuildingIn V b) → Back L V.bound G (BuildingIn V) (d.with_fields names b s ts fs)
+  b-with_fields V G names b s (t ∷ ts) (f ∷ fs) h =
+      b-bind L V.bound G (BuildingIn V) (BuildingIn V) (d.with_field names b f t s) _ (b-with_field V G names b f t s h) (λ c. b-with_fields V (And G (BuildingIn V c)) names c s ts fs (λ g. g.new))
+  b-with_fields V G names b s [] fs h = b-pure L V.bound G (BuildingIn V) b h
+  b-with_fields V G names b s (t ∷ ts) [] h = b-pure L V.bound G (BuildingIn V) b h
+
+  indicated-mentions : (V : Sight) (s : Option Indicated) → Maybe (IndicatedIn V) s → MentionsIn V (d.indicated_mentions s)
+  indicated-mentions V None h = tt
+  indicated-mentions V (Some s) h = h
+
+  b-component : (V : Sight) (G : Type 0) (names : Names) (level : Inside) (start : ℕ) (b : Building) (c : Comp) → LevelBoth level → (G → BuildingIn V b) → Back L V.bound G (BuildingIn V) (d.component names level start b c)
+  b-component V G names level start b c l h =
+      b-bind L V.bound G (BegunIn V) (BuildingIn V) (d.begun_names names start b.here [] (all_ids c.names)) _ (b-begun_names V.bound V G names start b.here [] (all_ids c.names) (λ g. (h g).around)) (λ r.
+      b-bind L V.bound _ (Maybe (IndicatedIn V)) (BuildingIn V) (d.indic names level r.0 c.component) _ (b-indic V _ names level r.0 c.component l (λ g. g.new)) (λ s.
+      b-with_fields V _ names (record { here = r.0; fields = b.fields; offset = b.offset; mentions = also_all b.mentions (d.indicated_mentions s) }) s (all_ids c.names) r.1
+      (λ g. record { around = g.old.new; mentions = each-all (λ y. SeenExpr P shown V.around (as_expr y)) b.mentions (d.indicated_mentions s) (h g.old.old).mentions (indicated-mentions V s g.new) })))
+
+  b-components : (V : Sight) (G : Type 0) (names : Names) (level : Inside) (start : ℕ) (b : Building) (cs : List Comp) → LevelBoth level → (G → BuildingIn V b) → Back L V.bound G (BuildingIn V) (d.components names level start b cs)
+  b-components V G names level start b [] l h = b-pure L V.bound G (BuildingIn V) b h
+  b-components V G names level start b (c ∷ cs) l h =
+      b-bind L V.bound G (BuildingIn V) (BuildingIn V) (d.component names level start b c) _ (b-component V G names level start b c l h) (λ e. b-components V (And G (BuildingIn V e)) names level start e cs l (λ g. g.new))
+
+  b-record_written : (V : Sight) (G : Type 0) (cells : ℕ) (ms : TypedPart) (fs : List Field) → (G → MentionsIn V ms) → Back L V.bound G (Maybe (IndicatedIn V)) (d.record_written cells ms fs)
+  b-record_written V G cells ms fs h =
+      b-bind L V.bound G Any (Maybe (IndicatedIn V)) (written_shape (entry.Record fs cells)) _ (b-any L V.bound G (written_shape (entry.Record fs cells)) (k-written_shape leading (entry.Record fs cells))) (λ n.
+      b-some L V.bound _ (IndicatedIn V) (indicated ms (subtype.Composite n)) (λ g. h g.old))
+
+  b-record_of : (V : Sight) (G : Type 0) (names : Names) (level : Inside) (here : Context) (cs : List Comp) → LevelBoth level → (G → Near P shown L F V here) → Back L V.bound G (Maybe (IndicatedIn V)) (d.record_of names level here cs)
+  unfolding d.record_of
+  b-record_of V G names level here cs l r =
+      let start : Building = record { here = here; fields = Some []; offset = 0; mentions = part.Nothing } in
+      b-bind L V.bound G (BuildingIn V) (Maybe (IndicatedIn V)) (d.components names level (length here.scope) start cs) _ (b-components V G names level (length here.scope) start cs l (λ g. record { around = r g; mentions = tt })) (λ b.
+      b-given L V.bound _ Any (IndicatedIn V) b.fields (d.record_written b.offset b.mentions) (λ g. any b.fields) (λ fs. b-record_written V _ b.offset b.mentions fs (λ g. g.old.new.mentions)))
+
+  -- ---- types
+
+  b-defined : (V : Sight) (G : Type 0) (names : Names) (level : Inside) (here : Context) (token : ℕ) (x : Definition) → LevelBoth level → (G → Near P shown L F V here) → Back L V.bound G (Maybe (IndicatedIn V)) (d.defined names level here token x)
+  unfolding d.defined
+  b-defined V G names level here token (syntax.RangeType low high) l r =
+      let x = two_bounds level here low high >>= d.own_type_of token in
+      b-lift P shown L F V G (Maybe (IndicatedIn V)) x (k-bind leading.walk (two_bounds level here low high) (d.own_type_of token) (k-two_bounds leading.walk level here low high l.keeps) (λ y. k.k-own_type_of leading.walk token y))
+      (λ log m g. v-range_type (now P shown L F log m) V level here token low high (l.sees (now P shown L F log m)) (r g log m))
+  b-defined V G names level here token (syntax.ArrayType a) l r = b-array V G names level here a l r
+  b-defined V G names level here token (syntax.RecordType c cs) l r = b-record_of V G names level here (c ∷ cs) l r
+
+  b-typed_object : (V : Sight) (G : Type 0) (names : Names) (level : Inside) (here : Context) (t : ObjectType) → LevelBoth level → (G → Near P shown L F V here) → Back L V.bound G (Maybe (IndicatedIn V)) (d.typed_object names level here t)
+  b-typed_object V G names level here (syntax.Indicated i) l r = b-indic V G names level here i l r
+  b-typed_object V G names level here (syntax.Anonymous a) l r = b-array V G names level here a l r
+
   -- ---- what is elaborated
 
   -- declarations so far, before those behind them
@@ -205,11 +324,11 @@ module _ (P : Program) (shown : ℕ → Entity → Bool) (L : Log) (F : Facts P 
   pub begin : (main : Bool) (V : Sight) (here : Context) → Near P shown L F V here → Standing main V V.around here (Some part.Nothing)
   begin main V here n = stand main V V.around here part.Nothing V.around (grown-none main V.around) n (wider-same V.around)
 
-  with-mentions : (main : Bool) (v u : scopes.Around) (x ms : TypedPart) → Grown main v u x → Grown main v u (d.with_mentions x ms)
-  with-mentions main v u x part.Nothing h = h
-  with-mentions main v u x ms h =
+  with-mentions : (main : Bool) (V : Sight) (v : scopes.Around) (x ms : TypedPart) → MentionsIn V ms → Grown main v V.around x → Grown main v V.around (d.with_mentions x ms)
+  with-mentions main V v x part.Nothing m h = h
+  with-mentions main V v x ms m h =
       let p = part.ADecl (typed.Mentions (exprs_of ms)) in
-      record { led = λ r s. h.led (part.Cons p r) s; past = λ r. h.past (part.Cons p r) }
+      record { led = λ r s. h.led (part.Cons p r) (exprs-within P shown V.around ms m, s); past = λ r. h.past (part.Cons p r) }
 
   -- what an object's declaration adds
   abbrev ObjectAdds : Bool → ℕ → scopes.Around → Option TypedPart → Type 0
@@ -312,33 +431,33 @@ module _ (P : Program) (shown : ℕ → Entity → Bool) (L : Log) (F : Facts P 
   Both main V lo inner here (Some x) = Standing main V lo here (Some x) × Near P shown L F (seeing (after main V.around x) V) inner
 
   one-more : (main : Bool) (V : Sight) (lo : scopes.Around) (names : Names) (inner here : Context) (token : ℕ) (f : Option ℕ) (constant : Bool) (s : Indicated) (e : Option Expr) (v : Initial) (x : TypedPart) (n : Option ℕ) (log : Log) (l : Leads log L)
-      → Both main V lo inner here (Some x) → ValuedIn constant (Some s) e → Maybe (ObjectIn s.known) n → InitialIn (seeing (after main V.around x) V) (Some s) e v
+      → Both main V lo inner here (Some x) → IndicatedIn (seeing (after main V.around x) V) s → ValuedIn constant (Some s) e → Maybe (ObjectIn s.known) n → InitialIn (seeing (after main V.around x) V) (Some s) e v
       → (let r = d.object_ended names here token f constant s v (Some x) n in Both main V lo inner r.0 r.1)
-  one-more main V lo names inner here token f constant s e v x None log l b q o i = tt
-  one-more main V lo names inner here token f constant s e v x (Some n) log l b q o i =
+  one-more main V lo names inner here token f constant s e v x None log l b m q o i = tt
+  one-more main V lo names inner here token f constant s e v x (Some n) log l b m q o i =
       let u = after main V.around x in
       let y = entity (not constant) n in
       let w = grown main y u in
       let x1 = d.with_mentions x s.part in
       let x2 = d.with_object x1 constant n v.stored in
-      let g : Grown main V.around w x2 = with-object main constant V.around u x1 n v.stored (adds V u constant s e n v log l q o i) (with-mentions main V.around u x s.part b.0.0) in
+      let g : Grown main V.around w x2 = with-object main constant V.around u x1 n v.stored (adds V u constant s e n v log l q o i) (with-mentions main (seeing u V) V.around x s.part m b.0.0) in
       let wide = wider-grown main y u in
       let same = target-grown main y u in
       let there = d.ended_name names here f (Some (what.Object n s.known (not constant) (d.constant_value constant s.known v))) in
-      let near = near-ended (seeing w V) names here f (Some (what.Object n s.known (not constant) (d.constant_value constant s.known v))) (near-wider u w V here wide same b.0.1) (λ mid m. (its-object main y u, o.1)) in
+      let near = near-ended (seeing w V) names here f (Some (what.Object n s.known (not constant) (d.constant_value constant s.known v))) (near-wider u w V here wide same b.0.1) (λ mid leads. (its-object main y u, o.1)) in
       (stand main V lo there x2 w g near (wider-joined lo u w b.0.2 wide), subst (λ z. Near P shown L F (seeing z V) inner) (settled main V.around w x2 g) (near-wider u w V inner wide same b.1))
 
   b-one_object : (main : Bool) (V : Sight) (lo : scopes.Around) (G : Type 0) (names : Names) (inner here : Context) (token : ℕ) (f : Option ℕ) (constant : Bool) (x : TypedPart) (s : Option Indicated) (e : Option Expr) (v : Option Initial)
-      → (G → Both main V lo inner here (Some x)) → (G → ValuedIn constant s e) → (G → Maybe (InitialIn (seeing (after main V.around x) V) s e) v) → Back L V.bound G (λ r. Both main V lo inner r.0 r.1) (d.one_object names here token f constant (Some x) s v)
-  b-one_object main V lo G names inner here token f constant x (Some s) e (Some v) b q i =
+      → (G → Both main V lo inner here (Some x)) → (G → Maybe (IndicatedIn (seeing (after main V.around x) V)) s) → (G → ValuedIn constant s e) → (G → Maybe (InitialIn (seeing (after main V.around x) V) s e) v) → Back L V.bound G (λ r. Both main V lo inner r.0 r.1) (d.one_object names here token f constant (Some x) s v)
+  b-one_object main V lo G names inner here token f constant x (Some s) e (Some v) b j q i =
       let p = d.new_object names here token s.known constant (d.constant_value constant s.known v) in
       let m = b-new_object V.bound G names here token s.known constant (d.constant_value constant s.known v) (fits_constant constant s.known v) in
       record {
         keeps = k.k-one_object leading names here token f constant (Some x) (Some s) (Some v) tt;
-        at = λ log l n g. one-more main V lo names inner here token f constant s e v x (p log).0 (p log).1 l (b g) (q g) (m.at log l n g) (i g);
+        at = λ log l n g. one-more main V lo names inner here token f constant s e v x (p log).0 (p log).1 l (b g) (j g) (q g) (m.at log l n g) (i g);
       }
-  b-one_object main V lo G names inner here token f constant x (Some s) e None b q i = record { keeps = k.k-one_object leading names here token f constant (Some x) (Some s) None tt; at = λ log l n g. tt }
-  b-one_object main V lo G names inner here token f constant x None e v b q i = record { keeps = k.k-one_object leading names here token f constant (Some x) None v tt; at = λ log l n g. tt }
+  b-one_object main V lo G names inner here token f constant x (Some s) e None b j q i = record { keeps = k.k-one_object leading names here token f constant (Some x) (Some s) None tt; at = λ log l n g. tt }
+  b-one_object main V lo G names inner here token f constant x None e v b j q i = record { keeps = k.k-one_object leading names here token f constant (Some x) None v tt; at = λ log l n g. tt }
 
   both-standing : (main : Bool) (V : Sight) (lo : scopes.Around) (inner here : Context) (made : Option TypedPart) → Both main V lo inner here made → Standing main V lo here made
   both-standing main V lo inner here None b = tt
@@ -356,18 +475,21 @@ module _ (P : Program) (shown : ℕ → Entity → Bool) (L : Log) (F : Facts P 
   }
   b-each_object main V lo G names level inner here constant first t e (Some made) (x ∷ is) (f ∷ fs) l b =
       let U = seeing (after main V.around made) V in
-      b-bind L V.bound G Any (λ r. Standing main V lo r.0 r.1) (d.typed_object names level inner t) _ (b-any L V.bound G (d.typed_object names level inner t) (k.k-typed_object leading names level inner t tt l.keeps)) (λ s.
+      b-bind L V.bound G (Maybe (IndicatedIn U)) (λ r. Standing main V lo r.0 r.1) (d.typed_object names level inner t) _ (b-typed_object U G names level inner t l (λ g. (b g).1)) (λ s.
       b-bind L V.bound _ (Maybe (InitialIn U s e)) (λ r. Standing main V lo r.0 r.1) (d.initial names level inner s e) _ (b-initial U _ names level inner s e l (λ g. (b g.old).1)) (λ v.
       b-bind L V.bound _ (λ u. ValuedIn constant s e) (λ r. Standing main V lo r.0 r.1) (d.valued_constant first constant s e) _ (b-valued V.bound _ first constant s e) (λ u.
       b-bind L V.bound _ (λ r. Both main V lo inner r.0 r.1) (λ r. Standing main V lo r.0 r.1) (d.one_object names here x f constant (Some made) s v) _
-      (b-one_object main V lo _ names inner here x f constant made s e v (λ g. b g.old.old.old) (λ g. g.new) (λ g. g.old.new)) (λ y.
-      b-each_object main V lo (And (And (And (And G (Any s)) (Maybe (InitialIn U s e) v)) (ValuedIn constant s e)) (Both main V lo inner y.0 y.1)) names level inner y.0 constant first t e y.1 is fs l (λ g. g.new)))))
+      (b-one_object main V lo _ names inner here x f constant made s e v (λ g. b g.old.old.old) (λ g. g.old.old.new) (λ g. g.new) (λ g. g.old.new)) (λ y.
+      b-each_object main V lo (And (And (And (And G (Maybe (IndicatedIn U) s)) (Maybe (InitialIn U s e) v)) (ValuedIn constant s e)) (Both main V lo inner y.0 y.1)) names level inner y.0 constant first t e y.1 is fs l (λ g. g.new)))))
 
   -- ---- named numbers and exceptions
 
   near-all : (V : Sight) (names : Names) (here : Context) (w : Option What) (fs : List (Option ℕ)) → Near P shown L F V here → Maybe (IsWhat V) w → Near P shown L F V (d.all_ended names here w fs)
   near-all V names here w [] r h = r
   near-all V names here w (f ∷ fs) r h = near-all V names (d.ended_name names here f w) w fs (near-ended V names here f w r h) h
+
+  abbrev NumberIn' : Sight → Option Found × Option ℤ → Type 0
+  NumberIn' V y = Maybe (λ z. MentionsIn V (d.found_mentions y.0)) y.1
 
   number-what : (V : Sight) (v : Option ℤ) → Maybe (IsWhat V) (option_map what.Number v)
   number-what V None = tt
@@ -377,16 +499,16 @@ module _ (P : Program) (shown : ℕ → Entity → Bool) (L : Log) (F : Facts P 
   type-what V None = tt
   type-what V (Some s) = λ log l. tt
 
-  mentioned : (main : Bool) (V : Sight) (lo : scopes.Around) (here there : Context) (made ms : TypedPart) → Near P shown L F (seeing (after main V.around made) V) there → Standing main V lo here (Some made) → Standing main V lo there (Some (d.with_mentions made ms))
-  mentioned main V lo here there made ms n h = stand main V lo there (d.with_mentions made ms) (after main V.around made) (with-mentions main V.around (after main V.around made) made ms h.0) n h.2
+  mentioned : (main : Bool) (V : Sight) (lo : scopes.Around) (here there : Context) (made ms : TypedPart) → MentionsIn (seeing (after main V.around made) V) ms → Near P shown L F (seeing (after main V.around made) V) there → Standing main V lo here (Some made) → Standing main V lo there (Some (d.with_mentions made ms))
+  mentioned main V lo here there made ms m n h = stand main V lo there (d.with_mentions made ms) (after main V.around made) (with-mentions main (seeing (after main V.around made) V) V.around made ms m h.0) n h.2
 
-  number-standing : (main : Bool) (V : Sight) (lo : scopes.Around) (here there : Context) (made ms : TypedPart) (v : Option ℤ) → Near P shown L F (seeing (after main V.around made) V) there → Standing main V lo here (Some made) → Standing main V lo there (joined (d.and_mentions ms) (Some made) v)
-  number-standing main V lo here there made ms None n h = tt
-  number-standing main V lo here there made ms (Some z) n h = mentioned main V lo here there made ms n h
+  number-standing : (main : Bool) (V : Sight) (lo : scopes.Around) (here there : Context) (made ms : TypedPart) (v : Option ℤ) → Maybe (λ z. MentionsIn (seeing (after main V.around made) V) ms) v → Near P shown L F (seeing (after main V.around made) V) there → Standing main V lo here (Some made) → Standing main V lo there (joined (d.and_mentions ms) (Some made) v)
+  number-standing main V lo here there made ms None m n h = tt
+  number-standing main V lo here there made ms (Some z) m n h = mentioned main V lo here there made ms m n h
 
-  type-standing : (main : Bool) (V : Sight) (lo : scopes.Around) (here there : Context) (made : TypedPart) (s : Option Indicated) → Near P shown L F (seeing (after main V.around made) V) there → Standing main V lo here (Some made) → Standing main V lo there (joined d.and_type (Some made) s)
-  type-standing main V lo here there made None n h = tt
-  type-standing main V lo here there made (Some s) n h = mentioned main V lo here there made s.part n h
+  type-standing : (main : Bool) (V : Sight) (lo : scopes.Around) (here there : Context) (made : TypedPart) (s : Option Indicated) → Maybe (IndicatedIn (seeing (after main V.around made) V)) s → Near P shown L F (seeing (after main V.around made) V) there → Standing main V lo here (Some made) → Standing main V lo there (joined d.and_type (Some made) s)
+  type-standing main V lo here there made None m n h = tt
+  type-standing main V lo here there made (Some s) m n h = mentioned main V lo here there made s.part m n h
 
   b-each_exception : (V : Sight) (G : Type 0) (names : Names) (here : Context) (ts : List ℕ) (fs : List (Option ℕ)) → (G → Near P shown L F V here) → Back L V.bound G (Near P shown L F V) (d.each_exception names here ts fs)
   b-each_exception V G names here [] fs r = b-pure L V.bound G (Near P shown L F V) here r
@@ -407,10 +529,14 @@ module _ (P : Program) (shown : ℕ → Entity → Bool) (L : Log) (F : Facts P 
   b-declared main V lo G names level start here made (syntax.NumberDecl is at e) l r =
       let U = seeing (after main V.around made) V in
       b-bind L V.bound G (BegunIn U) (λ y. Standing main V lo y.0 y.1) (d.begun_names names start here [] (all_ids is)) _ (b-begun_names V.bound U G names start here [] (all_ids is) (λ g. (r g).1)) (λ y.
-      b-bind L V.bound _ Any (λ z. Standing main V lo z.0 z.1) (expr names level y.0 wanted.Other e) _ (b-any L V.bound _ (expr names level y.0 wanted.Other e) (k-expr leading.walk names level y.0 wanted.Other e tt l.keeps)) (λ x.
-      b-bind L V.bound _ Any (λ z. Standing main V lo z.0 z.1) (given x d.static_number) _ (b-any L V.bound _ (given x d.static_number) (k-given leading.walk x d.static_number (λ f. k.k-static_number leading.walk f))) (λ v.
-      b-pure L V.bound _ (λ z. Standing main V lo z.0 z.1) (d.all_ended names y.0 (option_map what.Number v) y.1, joined (d.and_mentions (d.found_mentions x)) (Some made) v)
-      (λ g. number-standing main V lo here (d.all_ended names y.0 (option_map what.Number v) y.1) made (d.found_mentions x) v (near-all U names y.0 (option_map what.Number v) y.1 g.old.old.new (number-what U v)) (r g.old.old.old)))))
+      let j = expr names level y.0 wanted.Other e >>= λ x. given x d.static_number >>= λ v. pure (x, v) in
+      b-bind L V.bound _ (NumberIn' U) (λ z. Standing main V lo z.0 z.1) j (λ q. pure (d.all_ended names y.0 (option_map what.Number q.1) y.1, joined (d.and_mentions (d.found_mentions q.0)) (Some made) q.1))
+      (b-lift P shown L F U _ (NumberIn' U) j
+      (k-bind leading.walk (expr names level y.0 wanted.Other e) (λ x. given x d.static_number >>= λ v. pure (x, v)) (k-expr leading.walk names level y.0 wanted.Other e tt l.keeps) (λ x.
+      k-bind leading.walk (given x d.static_number) (λ v. pure (x, v)) (k-given leading.walk x d.static_number (λ f. k.k-static_number leading.walk f)) (λ v. k-pure leading.walk (x, v))))
+      (λ log m h. v-number (now P shown L F log m) U names level y.0 e (l.sees (now P shown L F log m)) (h.new log m))) (λ q.
+      b-pure L V.bound _ (λ z. Standing main V lo z.0 z.1) (d.all_ended names y.0 (option_map what.Number q.1) y.1, joined (d.and_mentions (d.found_mentions q.0)) (Some made) q.1)
+      (λ g. number-standing main V lo here (d.all_ended names y.0 (option_map what.Number q.1) y.1) made (d.found_mentions q.0) q.1 g.new (near-all U names y.0 (option_map what.Number q.1) y.1 g.old.new (number-what U q.1)) (r g.old.old))))
   b-declared main V lo G names level start here made (syntax.ExceptionDecl is) l r =
       let U = seeing (after main V.around made) V in
       b-bind L V.bound G (BegunIn U) (λ y. Standing main V lo y.0 y.1) (d.begun_names names start here [] (all_ids is)) _ (b-begun_names V.bound U G names start here [] (all_ids is) (λ g. (r g).1)) (λ y.
@@ -419,15 +545,15 @@ module _ (P : Program) (shown : ℕ → Entity → Bool) (L : Log) (F : Facts P 
   b-declared main V lo G names level start here made (syntax.TypeDecl at token x) l r =
       let U = seeing (after main V.around made) V in
       b-bind L V.bound G Any (λ y. Standing main V lo y.0 y.1) (free names start here token) _ (b-any L V.bound G (free names start here token) (k-free leading.walk names start here token tt)) (λ f.
-      b-bind L V.bound _ Any (λ y. Standing main V lo y.0 y.1) (d.defined names level (hidden_where names here token f) token x) _ (b-any L V.bound _ (d.defined names level (hidden_where names here token f) token x) (k.k-defined leading names level (hidden_where names here token f) token x tt l.keeps)) (λ s.
+      b-bind L V.bound _ (Maybe (IndicatedIn U)) (λ y. Standing main V lo y.0 y.1) (d.defined names level (hidden_where names here token f) token x) _ (b-defined U _ names level (hidden_where names here token f) token x l (λ h. near-hidden U names here token f (r h.old).1)) (λ s.
       b-pure L V.bound _ (λ y. Standing main V lo y.0 y.1) (d.one_type names (hidden_where names here token f) (Some made) f s)
-      (λ h. type-standing main V lo here (d.one_type names (hidden_where names here token f) (Some made) f s).0 made s (near-ended U names (hidden_where names here token f) f (option_map (λ t. what.Type t.known) s) (near-hidden U names here token f (r h.old.old).1) (type-what U s)) (r h.old.old))))
+      (λ h. type-standing main V lo here (d.one_type names (hidden_where names here token f) (Some made) f s).0 made s h.new (near-ended U names (hidden_where names here token f) f (option_map (λ t. what.Type t.known) s) (near-hidden U names here token f (r h.old.old).1) (type-what U s)) (r h.old.old))))
   b-declared main V lo G names level start here made (syntax.SubtypeDecl at token i) l r =
       let U = seeing (after main V.around made) V in
       b-bind L V.bound G Any (λ y. Standing main V lo y.0 y.1) (free names start here token) _ (b-any L V.bound G (free names start here token) (k-free leading.walk names start here token tt)) (λ f.
-      b-bind L V.bound _ Any (λ y. Standing main V lo y.0 y.1) (d.indic names level (hidden_where names here token f) i) _ (b-any L V.bound _ (d.indic names level (hidden_where names here token f) i) (k.k-indic leading.walk names level (hidden_where names here token f) i tt l.keeps)) (λ s.
+      b-bind L V.bound _ (Maybe (IndicatedIn U)) (λ y. Standing main V lo y.0 y.1) (d.indic names level (hidden_where names here token f) i) _ (b-indic U _ names level (hidden_where names here token f) i l (λ h. near-hidden U names here token f (r h.old).1)) (λ s.
       b-pure L V.bound _ (λ y. Standing main V lo y.0 y.1) (d.one_type names (hidden_where names here token f) (Some made) f s)
-      (λ h. type-standing main V lo here (d.one_type names (hidden_where names here token f) (Some made) f s).0 made s (near-ended U names (hidden_where names here token f) f (option_map (λ t. what.Type t.known) s) (near-hidden U names here token f (r h.old.old).1) (type-what U s)) (r h.old.old))))
+      (λ h. type-standing main V lo here (d.one_type names (hidden_where names here token f) (Some made) f s).0 made s h.new (near-ended U names (hidden_where names here token f) f (option_map (λ t. what.Type t.known) s) (near-hidden U names here token f (r h.old.old).1) (type-what U s)) (r h.old.old))))
 
   pub b-declaration : (main : Bool) (V : Sight) (lo : scopes.Around) (G : Type 0) (names : Names) (level : Inside) (start : ℕ) (here : Context) (made : Option TypedPart) (x : Decl)
       → LevelBoth level → (G → Standing main V lo here made) → Back L V.bound G (λ r. Standing main V lo r.0 r.1) (d.declaration names level start here made x)

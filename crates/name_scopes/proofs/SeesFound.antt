@@ -1,9 +1,8 @@
 -- What is asked of what is found: it stands in scope, with as many cells as what it goes to.
-use Rattle.std.proofs.Common.{◌≡◌, ℕ, ◌+◌, ◌<◌, List, [], ◌∷◌, Option, Some, Bool, true, false, map, drop, slice_get}
+use Rattle.std.proofs.Common.{◌≡◌, ℕ, ℤ, ◌<◌, List, [], ◌∷◌, Option, Some, Bool, true, false, map, drop, slice_get}
 use Rattle.behaviours.specs.Paths.{Entity, ConstantOf, VariableOf}
 use Rattle.ada_meaning.specs.Shapes.{array_of, size, subtype_shape}
-use Rattle.typed_scopes.specs.Scopes as scopes
-use Rattle.typed_scopes.specs.Scopes.{ConstantSeen, VariableSeen, object_cells}
+use Rattle.typed_scopes.specs.Scopes.{ConstantSeen, VariableSeen}
 use Rattle.name_laws.proofs.Walked.{KeepsInside}
 use Rattle.name_scopes.proofs.Faults.{counting}
 use Rattle.name_scopes.proofs.Seen.{SeenStmt, SeenChunk, SeenComposite, SeenExpr, SeenIteration, SeenOptional, SeenPieces, SeenSelections, SeenValue}
@@ -66,9 +65,9 @@ each-all Q done more h k = each-onto Q (turned more) done (each-turned Q more k)
 abbrev pub ExprOf : World → Sight → TypedPart → Type 0
 ExprOf W V x = SeenExpr W.program W.shown V.around (as_expr x)
 
--- what is mentioned isn't evaluated: nothing is asked of it
+-- what is mentioned stands in scope, though it isn't evaluated
 abbrev pub MentionsOf : World → Sight → TypedPart → Type 0
-MentionsOf W V x = Unit {0}
+MentionsOf W V x = Each (ExprOf W V) x
 
 -- a universal expression, whichever class it takes
 abbrev pub OpenOf : World → Sight → TypedExpr → Type 0
@@ -89,6 +88,7 @@ pub record Placed (W : World) (V : Sight) (p : ObjectName) (x : TypedPart) : Typ
   pub root : RootOf V p.variable p.root
   pub path : PathOf W V x
   pub small : Small (shape_of W.program p.subtype)
+  pub static : (z : ℤ) → p.value ≡ Some z → MentionsOf W V x
 
 abbrev pub PlaceOf : World → Sight → ObjectName → TypedPart → Type 0
 PlaceOf W V p x = Placed W V p x
@@ -105,9 +105,9 @@ abbrev pub IsPiece : World → Sight → TypedPart → Type 0
 IsPiece W V p = (ps : Pieces) → SeenPieces W.program W.shown V.around ps → SeenPieces W.program W.shown V.around (as_piece p ps)
 
 abbrev pub KnownOf : World → Sight → Known → TypedPart → Type 0
-KnownOf W V (known.Universal first z alone) x = Unit {0}
+KnownOf W V (known.Universal first z alone) x = MentionsOf W V x
 KnownOf W V (known.Open first l) x = OpenOf W V (as_expr x)
-KnownOf W V (known.Static first k z) x = Unit {0}
+KnownOf W V (known.Static first k z) x = MentionsOf W V x
 KnownOf W V (known.Object p) x = PlaceOf W V p x
 KnownOf W V (known.Scalar first k n) x = ExprOf W V x
 KnownOf W V (known.Composite first n) x = WideOf W V n x
@@ -143,6 +143,7 @@ DenotesOf W V (denoted.Parameter first s) x = ExprOf W V x
 DenotesOf W V (denoted.Sub first last n) x = IsCalled W V n
 DenotesOf W V (denoted.Done first) x = SeenStmt W.program W.shown V.around (as_stmt x)
 DenotesOf W V (denoted.Attribute first p at a) x = PrefixOf W V p x
+DenotesOf W V (denoted.Range first d) x = MentionsOf W V x
 DenotesOf W V d x = Unit {0}
 
 abbrev pub DenotedOf : World → Sight → Denoted → Type 0

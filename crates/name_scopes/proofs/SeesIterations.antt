@@ -1,5 +1,5 @@
 -- What is found is in scope: chunk specifications, iterations, and what is in scope around their bodies.
-use Rattle.std.proofs.Common.{◌≡◌, refl, sym, ap, subst, ◌∙◌, ℕ, suc, ◌+◌, ◌<◌, ◌≤◌, nat_eq, List, [], ◌∷◌, ◌++◌, length, Option, Some, None, Bool, true, false, if◌then◌else◌, option_map, eqb-true, eq-eqb, arith}
+use Rattle.std.proofs.Common.{◌≡◌, refl, sym, ap, subst, ◌∙◌, ℕ, ◌<◌, ◌≤◌, nat_eq, List, [], ◌∷◌, ◌++◌, length, Option, Some, None, Bool, true, false, if◌then◌else◌, option_map, eq-eqb, arith}
 use Rattle.std.specs.Prelude.{cond, is_some, not, ◌/◌}
 use Rattle.syntax_tree.specs.Syntax as syntax
 use Rattle.syntax_tree.specs.Syntax.{Iter, OptionalExpr, OptionalParallel, Parallel, Simple}
@@ -51,7 +51,6 @@ use Rattle.ada_meaning.specs.Shapes.{ComponentAt, Shape, array_of, subtype_shape
 use Rattle.name_rules.specs.Resolved.{dimension_bounds}
 use Rattle.name_laws.proofs.CellsCounted.{HaveValues, extent_count}
 use Rattle.typed_tree.specs.Layout.{count}
-use Rattle.name_rules.specs.Types.{extent}
 use Rattle.std.proofs.Common.{map, ◌*◌}
 use Rattle.std.proofs.Math.Nat.{le-mul_of_pos_right, mul_comm}
 use Rattle.name_formed.proofs.Forms.{HasDimensions, Small, shape_of}

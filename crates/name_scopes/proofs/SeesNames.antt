@@ -1,5 +1,5 @@
 -- What is found is in scope: parts of names, where what stands in their brackets is in scope.
-use Rattle.std.proofs.Common.{◌≡◌, refl, sym, ap, subst, ◌∙◌, ℕ, suc, List, [], ◌∷◌, length, Option, Some, None, ◌==◌, ◌+◌, drop, map, slice_get, eqb-true, arith}
+use Rattle.std.proofs.Common.{◌≡◌, refl, subst, ℕ, suc, List, [], ◌∷◌, length, Option, Some, None, ◌==◌, ◌+◌, drop, slice_get}
 use Rattle.name_scopes.proofs.Seen.{SeenSelections}
 use Rattle.ada_meaning.specs.Shapes.{size, subtype_shape}
 use Rattle.syntax_tree.specs.Syntax as syntax
@@ -11,7 +11,6 @@ use Rattle.name_rules.specs.Expressions.{Inside, expr, judged_alone}
 use Rattle.name_rules.specs.Found.{Denoted, Found, denote}
 use Rattle.name_rules.specs.Judging.{fault, given, joined, pure}
 use Rattle.name_rules.specs.Names.{arg_alone, args_alone, array_call, component_cells, count, denoted_first, field, field_form, field_from, field_in, field_of, index, index_in, index_shape, index_where, indexed, indexes, is_string, object_call, part_place, selected_by, unnamed, wrong_call}
-use Rattle.name_rules.specs.Resolved.{dimension_bounds}
 use Rattle.name_rules.specs.Shapes.{primary_of_expr}
 use Rattle.name_rules.specs.Symbols.{symbol}
 use Rattle.name_rules.specs.TypedParts.{also}
@@ -65,7 +64,7 @@ module _ (W : World) (V : Sight) where
   path-more ss item h step r f = h (Cons item r) (step r f)
 
   part-of : (p : ObjectName) (ss x : TypedPart) (u : Subtype) → PlaceOf W V p ss → PathOf W V x → Small (shape_of W.program u) → DenotedOf W V (denote (part_place p u) x)
-  part-of p ss x u h path small = record { root = h.root; path = path; small = small }
+  part-of p ss x u h path small = record { root = h.root; path = path; small = small; static = λ z e. absurd cc }
 
   -- ---- selected components
 

@@ -23,28 +23,31 @@ use Rattle.name_rules.specs.declared.types.Kind.{Kind}
 use Rattle.name_rules.specs.declared.types.Kind.TheVariants as kind
 use Rattle.name_rules.specs.declared.types.Scalar.{Scalar}
 use Rattle.name_scopes.proofs.Sees.{Any, Sees, Maybe, Sight, World, any, v-bind, v-both, v-fault, v-given, v-if, v-none, v-pure, v-some, joint, mapped}
-use Rattle.name_scopes.proofs.SeesFound.{ExprOf, FoundOf, IsPiece, KnownOf, OpenOf, each-all}
-use Rattle.name_scopes.proofs.SeesValues.{v-asked, v-fitting, scoped-class}
+use Rattle.name_scopes.proofs.SeesFound.{ExprOf, FoundOf, IsPiece, KnownOf, MentionsOf, OpenOf, each-all}
+use Rattle.name_scopes.proofs.SeesValues.{exprs-seen, v-asked, v-fitting, scoped-class, static-mentions, static-part}
 
 module _ (W : World) (V : Sight) where
   -- ---- static results
 
-  v-static_of : (first : ℕ) (k : Kind) (ms : TypedPart) (z : Option ℤ) → Sees W V (Maybe (FoundOf W V)) (static_of first k ms z)
+  v-static_of : (first : ℕ) (k : Kind) (ms : TypedPart) (z : Option ℤ) → MentionsOf W V ms → Sees W V (Maybe (FoundOf W V)) (static_of first k ms z)
   unfolding static_of
-  v-static_of first k ms None = v-fault W V (FoundOf W V) first StaticRange
-  v-static_of first k ms (Some z) = v-if W V (Maybe (FoundOf W V)) (in_base k z) (some (static first k z ms)) (fault first StaticRange) (v-some W V (FoundOf W V) (static first k z ms) tt) (v-fault W V (FoundOf W V) first StaticRange)
+  v-static_of first k ms None h = v-fault W V (FoundOf W V) first StaticRange
+  v-static_of first k ms (Some z) h = v-if W V (Maybe (FoundOf W V)) (in_base k z) (some (static first k z ms)) (fault first StaticRange) (v-some W V (FoundOf W V) (static first k z ms) h) (v-fault W V (FoundOf W V) first StaticRange)
 
-  v-static_universal : (first : ℕ) (ms : TypedPart) (z : Option ℤ) → Sees W V (Maybe (FoundOf W V)) (static_universal first ms z)
+  v-static_universal : (first : ℕ) (ms : TypedPart) (z : Option ℤ) → MentionsOf W V ms → Sees W V (Maybe (FoundOf W V)) (static_universal first ms z)
   unfolding static_universal
-  v-static_universal first ms None = v-fault W V (FoundOf W V) first StaticRange
-  v-static_universal first ms (Some z) = v-some W V (FoundOf W V) (universal first z false ms) tt
+  v-static_universal first ms None h = v-fault W V (FoundOf W V) first StaticRange
+  v-static_universal first ms (Some z) h = v-some W V (FoundOf W V) (universal first z false ms) h
 
-  v-static_operation : (o : Op) (k j : Kind) (a : Found) (u : ℤ) (b : Found) (v : ℤ) → Sees W V (Maybe (FoundOf W V)) (static_operation o k j a u b v)
+  pub both-mentions : (a b : Found) (u v : ℤ) → FoundOf W V a → FoundOf W V b → value_of a.known ≡ Some u → value_of b.known ≡ Some v → MentionsOf W V (both_mentions a b)
+  both-mentions a b u v g h d e = each-all (ExprOf W V) (mentions_of a) (mentions_of b) (static-mentions W V a.known a.part u g d) (static-mentions W V b.known b.part v h e)
+
+  v-static_operation : (o : Op) (k j : Kind) (a : Found) (u : ℤ) (b : Found) (v : ℤ) → MentionsOf W V (both_mentions a b) → Sees W V (Maybe (FoundOf W V)) (static_operation o k j a u b v)
   unfolding static_operation
-  v-static_operation o k j a u b v =
+  v-static_operation o k j a u b v m =
       v-bind W V Any (Maybe (FoundOf W V)) (fitting k (first_of a.known) u) _ (v-fitting W V k (first_of a.known) u) (λ x p.
       v-bind W V Any (Maybe (FoundOf W V)) (fitting j (first_of b.known) v) _ (v-fitting W V j (first_of b.known) v) (λ y q.
-      v-if W V (Maybe (FoundOf W V)) (x && y) (static_of (first_of a.known) k (both_mentions a b) (exact o u v)) (pure None) (v-static_of (first_of a.known) k (both_mentions a b) (exact o u v)) (v-none W V (FoundOf W V))))
+      v-if W V (Maybe (FoundOf W V)) (x && y) (static_of (first_of a.known) k (both_mentions a b) (exact o u v)) (pure None) (v-static_of (first_of a.known) k (both_mentions a b) (exact o u v) m) (v-none W V (FoundOf W V))))
 
   -- ---- binary operators on values of a type
 
@@ -56,14 +59,14 @@ module _ (W : World) (V : Sight) where
       v-both W V (ExprOf W V) (ExprOf W V) (FoundOf W V) x y _ q r (λ m n s t.
       v-some W V (FoundOf W V) (scalar (first_of a.known) k None (typed.Binary at o (class_of k) (as_expr m) (as_expr n))) (s, t))))
 
-  v-operation_by : (o : Op) (at : ℕ) (k j : Kind) (a b : Found) (x y : Option ℤ) → FoundOf W V a → FoundOf W V b → Sees W V (Maybe (FoundOf W V)) (operation_by o at k j a b x y)
-  v-operation_by o at k j a b (Some u) (Some v) g h = v-static_operation o k j a u b v
-  v-operation_by o at k j a b (Some u) None g h = v-operation_on o at k j a b g h
-  v-operation_by o at k j a b None y g h = v-operation_on o at k j a b g h
+  v-operation_by : (o : Op) (at : ℕ) (k j : Kind) (a b : Found) (x y : Option ℤ) → value_of a.known ≡ x → value_of b.known ≡ y → FoundOf W V a → FoundOf W V b → Sees W V (Maybe (FoundOf W V)) (operation_by o at k j a b x y)
+  v-operation_by o at k j a b (Some u) (Some v) d e g h = v-static_operation o k j a u b v (both-mentions a b u v g h d e)
+  v-operation_by o at k j a b (Some u) None d e g h = v-operation_on o at k j a b g h
+  v-operation_by o at k j a b None y d e g h = v-operation_on o at k j a b g h
 
   v-typed_operation : (o : Op) (at : ℕ) (k j : Kind) (a b : Found) → FoundOf W V a → FoundOf W V b → Sees W V (Maybe (FoundOf W V)) (typed_operation o at k j a b)
   unfolding typed_operation
-  v-typed_operation o at k j a b g h = v-operation_by o at k j a b (value_of a.known) (value_of b.known) g h
+  v-typed_operation o at k j a b g h = v-operation_by o at k j a b (value_of a.known) (value_of b.known) refl refl g h
 
   -- ---- on universal values
 
@@ -71,8 +74,11 @@ module _ (W : World) (V : Sight) where
   abbrev pub WaitsOf : Limits × TypedPart → Type 0
   WaitsOf x = OpenOf W V (as_expr x.1)
 
+  leaf-open : (first : ℕ) (z : ℤ) (x : TypedPart) → MentionsOf W V x → OpenOf W V (leaf first z x)
+  leaf-open first z x h c = exprs-seen W V x h
+
   open-form : (f : Known) (x : TypedPart) → KnownOf W V f x → Maybe WaitsOf (open_form f x)
-  open-form (known.Universal first z alone) x h = λ c. tt
+  open-form (known.Universal first z alone) x h = leaf-open first z x h
   open-form (known.Open first l) x h = h
   open-form f x h = tt
 
@@ -87,14 +93,14 @@ module _ (W : World) (V : Sight) where
   unfolding open_binary
   v-open_binary o at a b g h = joint WaitsOf WaitsOf (FoundOf W V) (open_two o at (first_of a.known)) (open_of a) (open_of b) (open-found a g) (open-found b h) (λ x y p q. open-two o at (first_of a.known) x y p q)
 
-  v-universal_by : (o : Op) (at : ℕ) (a b : Found) (x y : Option ℤ) → FoundOf W V a → FoundOf W V b → Sees W V (Maybe (FoundOf W V)) (universal_by o at a b x y)
-  v-universal_by o at a b (Some u) (Some v) g h = v-static_universal (first_of a.known) (both_mentions a b) (exact o u v)
-  v-universal_by o at a b (Some u) None g h = v-pure W V (Maybe (FoundOf W V)) (open_binary o at a b) (v-open_binary o at a b g h)
-  v-universal_by o at a b None y g h = v-pure W V (Maybe (FoundOf W V)) (open_binary o at a b) (v-open_binary o at a b g h)
+  v-universal_by : (o : Op) (at : ℕ) (a b : Found) (x y : Option ℤ) → value_of a.known ≡ x → value_of b.known ≡ y → FoundOf W V a → FoundOf W V b → Sees W V (Maybe (FoundOf W V)) (universal_by o at a b x y)
+  v-universal_by o at a b (Some u) (Some v) d e g h = v-static_universal (first_of a.known) (both_mentions a b) (exact o u v) (both-mentions a b u v g h d e)
+  v-universal_by o at a b (Some u) None d e g h = v-pure W V (Maybe (FoundOf W V)) (open_binary o at a b) (v-open_binary o at a b g h)
+  v-universal_by o at a b None y d e g h = v-pure W V (Maybe (FoundOf W V)) (open_binary o at a b) (v-open_binary o at a b g h)
 
   v-universal_operation : (o : Op) (at : ℕ) (a b : Found) → FoundOf W V a → FoundOf W V b → Sees W V (Maybe (FoundOf W V)) (universal_operation o at a b)
   unfolding universal_operation
-  v-universal_operation o at a b g h = v-universal_by o at a b (value_of a.known) (value_of b.known) g h
+  v-universal_operation o at a b g h = v-universal_by o at a b (value_of a.known) (value_of b.known) refl refl g h
 
   v-by_kinds : (o : Op) (at : ℕ) (a b : Found) (x y : Option Kind) → FoundOf W V a → FoundOf W V b → Sees W V (Maybe (FoundOf W V)) (by_kinds o at a b x y)
   v-by_kinds o at a b None None g h = v-universal_operation o at a b g h
@@ -124,20 +130,20 @@ module _ (W : World) (V : Sight) where
       v-given W V (ExprOf W V) (FoundOf W V) y _ q (λ n r.
       v-pure W V (Maybe (FoundOf W V)) (option_map (open_power at (first_of a.known) n) (open_of a)) (mapped WaitsOf (FoundOf W V) (open_power at (first_of a.known) n) (open_of a) (open-found a g) (λ x p. open-power at (first_of a.known) n x r p))))
 
-  v-static_power : (a : Found) (u : ℤ) (b : Found) (v : ℤ) → Sees W V (Maybe (FoundOf W V)) (static_power a u b v)
+  v-static_power : (a : Found) (u : ℤ) (b : Found) (v : ℤ) → MentionsOf W V (both_mentions a b) → Sees W V (Maybe (FoundOf W V)) (static_power a u b v)
   unfolding static_power
-  v-static_power a u b v =
+  v-static_power a u b v m =
       v-bind W V Any (Maybe (FoundOf W V)) (fitting kind.Integer (first_of b.known) v) _ (v-fitting W V kind.Integer (first_of b.known) v) (λ y q.
-      v-if W V (Maybe (FoundOf W V)) y (static_universal (first_of a.known) (both_mentions a b) (exact op.Pow u v)) (pure None) (v-static_universal (first_of a.known) (both_mentions a b) (exact op.Pow u v)) (v-none W V (FoundOf W V)))
+      v-if W V (Maybe (FoundOf W V)) y (static_universal (first_of a.known) (both_mentions a b) (exact op.Pow u v)) (pure None) (v-static_universal (first_of a.known) (both_mentions a b) (exact op.Pow u v) m) (v-none W V (FoundOf W V)))
 
-  v-universal_to : (at : ℕ) (a b : Found) (x y : Option ℤ) → FoundOf W V a → FoundOf W V b → Sees W V (Maybe (FoundOf W V)) (universal_to at a b x y)
-  v-universal_to at a b (Some u) (Some v) g h = v-static_power a u b v
-  v-universal_to at a b (Some u) None g h = v-universal_power at a b g h
-  v-universal_to at a b None y g h = v-universal_power at a b g h
+  v-universal_to : (at : ℕ) (a b : Found) (x y : Option ℤ) → value_of a.known ≡ x → value_of b.known ≡ y → FoundOf W V a → FoundOf W V b → Sees W V (Maybe (FoundOf W V)) (universal_to at a b x y)
+  v-universal_to at a b (Some u) (Some v) d e g h = v-static_power a u b v (both-mentions a b u v g h d e)
+  v-universal_to at a b (Some u) None d e g h = v-universal_power at a b g h
+  v-universal_to at a b None y d e g h = v-universal_power at a b g h
 
   v-power_to : (at : ℕ) (a b : Found) (k : Option Kind) → FoundOf W V a → FoundOf W V b → Sees W V (Maybe (FoundOf W V)) (power_to at a b k)
   v-power_to at a b (Some k) g h = v-typed_operation op.Pow at k kind.Integer a b g h
-  v-power_to at a b None g h = v-universal_to at a b (value_of a.known) (value_of b.known) g h
+  v-power_to at a b None g h = v-universal_to at a b (value_of a.known) (value_of b.known) refl refl g h
 
   pub v-power : (at : ℕ) (x y : Option Found) → Maybe (FoundOf W V) x → Maybe (FoundOf W V) y → Sees W V (Maybe (FoundOf W V)) (power at x y)
   unfolding power
@@ -146,43 +152,43 @@ module _ (W : World) (V : Sight) where
 
   -- ---- unary operators
 
-  v-static_unary : (s : Sign) (at : ℕ) (k : Kind) (a : Found) (z : ℤ) → Sees W V (Maybe (FoundOf W V)) (static_unary s at k a z)
-  v-static_unary s at k a z =
+  v-static_unary : (s : Sign) (at : ℕ) (k : Kind) (a : Found) (z : ℤ) → MentionsOf W V a.part → Sees W V (Maybe (FoundOf W V)) (static_unary s at k a z)
+  v-static_unary s at k a z m =
       v-bind W V Any (Maybe (FoundOf W V)) (fitting k (first_of a.known) z) _ (v-fitting W V k (first_of a.known) z) (λ x q.
-      v-if W V (Maybe (FoundOf W V)) x (static_of at k a.part (signed s z)) (pure None) (v-static_of at k a.part (signed s z)) (v-none W V (FoundOf W V)))
+      v-if W V (Maybe (FoundOf W V)) x (static_of at k a.part (signed s z)) (pure None) (v-static_of at k a.part (signed s z) m) (v-none W V (FoundOf W V)))
 
-  v-unary_typed : (s : Sign) (at : ℕ) (k : Kind) (a : Found) (z : Option ℤ) → FoundOf W V a → Sees W V (Maybe (FoundOf W V)) (unary_typed s at k a z)
-  v-unary_typed s at k a (Some z) g = v-static_unary s at k a z
-  v-unary_typed s at k a None g =
+  v-unary_typed : (s : Sign) (at : ℕ) (k : Kind) (a : Found) (z : Option ℤ) → value_of a.known ≡ z → FoundOf W V a → Sees W V (Maybe (FoundOf W V)) (unary_typed s at k a z)
+  v-unary_typed s at k a (Some z) e g = v-static_unary s at k a z (static-part W V a.known a.part z g e)
+  v-unary_typed s at k a None d g =
       v-bind W V (Maybe (ExprOf W V)) (Maybe (FoundOf W V)) (asked k a) _ (v-asked W V k a g) (λ x q.
       v-given W V (ExprOf W V) (FoundOf W V) x _ q (λ n r. v-some W V (FoundOf W V) (scalar at k None (typed.Unary at s (class_of k) (as_expr n))) r))
 
-  v-unary_open : (s : Sign) (at : ℕ) (a : Found) (z : Option ℤ) → FoundOf W V a → Sees W V (Maybe (FoundOf W V)) (unary_open s at a z)
-  v-unary_open s at a (Some z) g = v-static_universal at a.part (signed s z)
-  v-unary_open s at a None g = v-pure W V (Maybe (FoundOf W V)) (option_map (open_unary s at) (open_of a)) (mapped WaitsOf (FoundOf W V) (open_unary s at) (open_of a) (open-found a g) (λ x p. p))
+  v-unary_open : (s : Sign) (at : ℕ) (a : Found) (z : Option ℤ) → value_of a.known ≡ z → FoundOf W V a → Sees W V (Maybe (FoundOf W V)) (unary_open s at a z)
+  v-unary_open s at a (Some z) e g = v-static_universal at a.part (signed s z) (static-part W V a.known a.part z g e)
+  v-unary_open s at a None d g = v-pure W V (Maybe (FoundOf W V)) (option_map (open_unary s at) (open_of a)) (mapped WaitsOf (FoundOf W V) (open_unary s at) (open_of a) (open-found a g) (λ x p. p))
 
   v-unary_by : (s : Sign) (at : ℕ) (a : Found) (k : Option Kind) → FoundOf W V a → Sees W V (Maybe (FoundOf W V)) (unary_by s at a k)
-  v-unary_by s at a (Some k) g = v-unary_typed s at k a (value_of a.known) g
-  v-unary_by s at a None g = v-unary_open s at a (value_of a.known) g
+  v-unary_by s at a (Some k) g = v-unary_typed s at k a (value_of a.known) refl g
+  v-unary_by s at a None g = v-unary_open s at a (value_of a.known) refl g
 
   pub v-unary : (s : Sign) (at : ℕ) (x : Option Found) → Maybe (FoundOf W V) x → Sees W V (Maybe (FoundOf W V)) (unary s at x)
   unfolding unary
   v-unary s at x g = v-given W V (FoundOf W V) (FoundOf W V) x _ g (λ a p.
       v-if W V (Maybe (FoundOf W V)) (is_number a.known) (unary_by s at a (kind_of a.known)) (fault at WrongType) (v-unary_by s at a (kind_of a.known) p) (v-fault W V (FoundOf W V) at WrongType))
 
-  v-plain_typed : (at : ℕ) (k : Kind) (a : Found) (z : Option ℤ) → FoundOf W V a → Sees W V (Maybe (FoundOf W V)) (plain_typed at k a z)
-  v-plain_typed at k a (Some z) g = v-static_of at k a.part (Some z)
-  v-plain_typed at k a None g =
+  v-plain_typed : (at : ℕ) (k : Kind) (a : Found) (z : Option ℤ) → value_of a.known ≡ z → FoundOf W V a → Sees W V (Maybe (FoundOf W V)) (plain_typed at k a z)
+  v-plain_typed at k a (Some z) e g = v-static_of at k a.part (Some z) (static-part W V a.known a.part z g e)
+  v-plain_typed at k a None d g =
       v-bind W V (Maybe (ExprOf W V)) (Maybe (FoundOf W V)) (asked k a) _ (v-asked W V k a g) (λ x q.
       v-given W V (ExprOf W V) (FoundOf W V) x _ q (λ n r. v-some W V (FoundOf W V) (record { known = known.Scalar at k None; part = n }) r))
 
-  v-plain_open : (at : ℕ) (a : Found) (z : Option ℤ) → FoundOf W V a → Sees W V (Maybe (FoundOf W V)) (plain_open at a z)
-  v-plain_open at a (Some z) g = v-some W V (FoundOf W V) (universal at z false a.part) tt
-  v-plain_open at a None g = v-pure W V (Maybe (FoundOf W V)) _ (mapped WaitsOf (FoundOf W V) (λ x. record { known = known.Open at x.0; part = x.1 }) (open_of a) (open-found a g) (λ x p. p))
+  v-plain_open : (at : ℕ) (a : Found) (z : Option ℤ) → value_of a.known ≡ z → FoundOf W V a → Sees W V (Maybe (FoundOf W V)) (plain_open at a z)
+  v-plain_open at a (Some z) e g = v-some W V (FoundOf W V) (universal at z false a.part) (static-part W V a.known a.part z g e)
+  v-plain_open at a None d g = v-pure W V (Maybe (FoundOf W V)) _ (mapped WaitsOf (FoundOf W V) (λ x. record { known = known.Open at x.0; part = x.1 }) (open_of a) (open-found a g) (λ x p. p))
 
   v-plain_by : (at : ℕ) (a : Found) (k : Option Kind) → FoundOf W V a → Sees W V (Maybe (FoundOf W V)) (plain_by at a k)
-  v-plain_by at a (Some k) g = v-plain_typed at k a (value_of a.known) g
-  v-plain_by at a None g = v-plain_open at a (value_of a.known) g
+  v-plain_by at a (Some k) g = v-plain_typed at k a (value_of a.known) refl g
+  v-plain_by at a None g = v-plain_open at a (value_of a.known) refl g
 
   pub v-plain : (at : ℕ) (x : Option Found) → Maybe (FoundOf W V) x → Sees W V (Maybe (FoundOf W V)) (plain at x)
   unfolding plain

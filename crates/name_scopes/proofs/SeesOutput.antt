@@ -38,8 +38,8 @@ use Rattle.typed_tree.specs.Decoded.{as_expr}
 use Rattle.typed_tree.specs.Syntax.{Expr as TypedExpr}
 use Rattle.typed_tree.specs.declared.scalars.Class.{Class}
 use Rattle.typed_tree.specs.declared.scalars.Class.TheVariants as class
-use Rattle.name_scopes.proofs.Seen.{SeenExpr, SeenPieces}
-use Rattle.name_scopes.proofs.SeesValues.{as-variable, v-asked, v-static_of_kind, pieces-seen}
+use Rattle.name_scopes.proofs.Seen.{SeenExpr, SeenExprs, SeenPieces}
+use Rattle.name_scopes.proofs.SeesValues.{StaticValue, as-variable, exprs-seen, v-asked, v-static_of_kind, pieces-seen, static-mentions}
 
 module _ (W : World) (V : Sight) where
   v-no_name : (name : Option ℕ) → Sees W V Any (no_name name)
@@ -72,25 +72,25 @@ module _ (W : World) (V : Sight) where
 
   -- a width is static (A.10.8)
   abbrev IsStatic : TypedExpr → Type 0
-  IsStatic (typed.Static at z alone ms) = Unit {0}
+  IsStatic (typed.Static at z alone ms) = SeenExprs W.program W.shown V.around ms
   IsStatic e = ⊥
 
   abbrev WidthOf : TypedPart → Type 0
   WidthOf x = IsStatic (as_expr x)
 
   padded : (c : Class) (e w : TypedExpr) → IsStatic w → SeenExpr W.program W.shown V.around e → SeenPieces W.program W.shown V.around (typed.Padded c e w typed.NoPiece)
-  padded c e (typed.Static at z alone ms) h k = (k, tt)
+  padded c e (typed.Static at z alone ms) h k = (k, h, tt)
   padded c e w h k = absurd h
 
-  v-in_width : (f : Found) (z : ℤ) → Sees W V (Maybe WidthOf) (in_width f z)
-  v-in_width f z =
+  v-in_width : (f : Found) (z : ℤ) → FoundOf W V f → StaticValue W V f z → Sees W V (Maybe WidthOf) (in_width f z)
+  v-in_width f z h e =
       v-if W V (Maybe WidthOf) (int_le (pos 0) z && int_le z (pos 255)) (some (literal (first_of f.known) z false (mentions_of f))) (fault (first_of f.known) StaticRange)
-      (v-some W V WidthOf (literal (first_of f.known) z false (mentions_of f)) tt) (v-fault W V WidthOf (first_of f.known) StaticRange)
+      (v-some W V WidthOf (literal (first_of f.known) z false (mentions_of f)) (exprs-seen W V (mentions_of f) (static-mentions W V f.known f.part z h e))) (v-fault W V WidthOf (first_of f.known) StaticRange)
 
   v-width_of : (f : Found) → FoundOf W V f → Sees W V (Maybe WidthOf) (width_of f)
   unfolding width_of
   v-width_of f h =
-      v-bind W V (Maybe Any) (Maybe WidthOf) (static_of_kind kind.Integer f) _ (v-static_of_kind W V kind.Integer f h) (λ v q. v-given W V Any WidthOf v (in_width f) q (λ z s. v-in_width f z))
+      v-bind W V (Maybe (StaticValue W V f)) (Maybe WidthOf) (static_of_kind kind.Integer f) _ (v-static_of_kind W V kind.Integer f h) (λ v q. v-given W V (StaticValue W V f) WidthOf v (in_width f) q (λ z s. v-in_width f z h s))
 
   abbrev PuttingOf : Putting → Type 0
   PuttingOf p = Maybe NumberOf p.item × Maybe WidthOf p.width
@@ -123,7 +123,7 @@ module _ (W : World) (V : Sight) where
     where
       by : (b : Bool) → Maybe WidthOf (if b then p.width else Some (literal first (pos 11) false part.Nothing))
       by true = h.1
-      by false = tt
+      by false = exprs-seen W V part.Nothing tt
 
   v-put_complete : (at first last : ℕ) (p : Putting) → PuttingOf p → Sees W V (Maybe (DenotedOf W V)) (put_complete at first last p)
   v-put_complete at first last p h =

@@ -1,5 +1,5 @@
 -- What is found is in scope: names as wholes.
-use Rattle.std.proofs.Common.{◌≡◌, refl, sym, ap, subst, ◌∙◌, true≢false, ◌≤◌, nat_lt, length, slice_get, arith, ℕ, suc, List, Option, Some, None, Bool, true, false, option_map}
+use Rattle.std.proofs.Common.{◌≡◌, refl, sym, ap, subst, ◌∙◌, true≢false, nat_lt, length, slice_get, ℕ, List, Option, Some, None, Bool, true, false, option_map}
 use Rattle.std.specs.Prelude.{not, ◌/◌}
 use Rattle.syntax_tree.specs.Syntax as syntax
 use Rattle.syntax_tree.specs.Syntax.{Args, Expr, Name, NameParts}
@@ -41,8 +41,7 @@ use Rattle.name_rules.specs.declared.log.Dimension.{Dimension}
 use Rattle.name_rules.specs.declared.log.Log.{Log}
 use Rattle.name_rules.specs.declared.log.Shape.{Shape}
 use Rattle.name_rules.specs.declared.log.Shape.TheVariants as shape
-use Rattle.name_rules.specs.declared.scope.What.TheVariants as what
-use Rattle.name_scopes.proofs.SeesAttributes.{v-attribute_found, v-bound_with, v-scalar_with, v-settled_attribute, mentioned-formed}
+use Rattle.name_scopes.proofs.SeesAttributes.{v-attribute_found, v-bound_with, v-scalar_with, v-settled_attribute, mentioned-seen}
 use Rattle.name_scopes.proofs.SeesCalls.{v-conversion, v-sub_call}
 use Rattle.name_scopes.proofs.SeesExpressions.{v-expr}
 use Rattle.name_scopes.proofs.SeesNames.{v-args_alone, v-field, v-object_call, v-wrong_call}
@@ -165,7 +164,7 @@ module _ (W : World) (V : Sight) where
   v-of_array names inside here first p x at a bracket as' l r h =
       v-if W V (Maybe (DenotedOf W V)) (is_bound a) (read (λ log. dimensions_in log (prefix_subtype p)) >>= bound_with names inside here first (mentioned p x) a bracket as') (wrong_call names inside here first as')
       (v-bind W V Any (Maybe (DenotedOf W V)) (read (λ log. dimensions_in log (prefix_subtype p))) (bound_with names inside here first (mentioned p x) a bracket as') (v-read W V Any (λ log. dimensions_in log (prefix_subtype p)) (λ log g. tt)) (λ ds q.
-      v-bound_with W V names inside here first (mentioned p x) a bracket as' ds l r (mentioned-formed W V p x h)))
+      v-bound_with W V names inside here first (mentioned p x) a bracket as' ds l r (mentioned-seen W V p x h)))
       (v-wrong_call W V names inside here first as' l r)
 
   v-other_with : (names : Names) (inside : Inside) (here : Context) (first : ℕ) (p : Prefix) (x : TypedPart) (at : ℕ) (a : Attribute) (bracket : ℕ) (as' : Args) → LevelSees W inside → Around W V here → PrefixOf W V p x → Sees W V (Maybe (DenotedOf W V)) (other_with names inside here first p x at a bracket as')

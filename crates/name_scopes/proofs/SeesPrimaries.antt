@@ -1,5 +1,5 @@
 -- What is found is in scope: conditional expressions, brackets, primaries, at every level.
-use Rattle.std.proofs.Common.{◌≡◌, refl, ◌≤◌, max, arith, ℕ, ℤ, zero, suc, List, [], ◌∷◌, Option, Some, None, Bool, true, false, option_map}
+use Rattle.std.proofs.Common.{◌≡◌, refl, ◌≤◌, arith, ℕ, ℤ, zero, suc, List, [], ◌∷◌, Option, Some, None, Bool, true, false, option_map}
 use Rattle.std.specs.Prelude.{is_some, not, ◌||◌}
 use Rattle.syntax_tree.specs.FirstTokens as first_token
 use Rattle.syntax_tree.specs.Syntax as syntax
@@ -42,7 +42,6 @@ use Rattle.name_rules.specs.Symbols.{number, text}
 use Rattle.name_rules.specs.TypedParts.{also}
 use Rattle.name_rules.specs.declared.log.Rule.TheVariants.{ChunkRule}
 use Rattle.std.proofs.Common.{◌≡◌, refl, sym, ap, subst, ◌∙◌, ◌≤◌, true≢false, arith}
-use Rattle.ada_meaning.specs.Shapes.{size, subtype_shape}
 use Rattle.typed_tree.specs.Decoded.{as_chunk, as_iteration}
 use Rattle.name_rules.specs.Shapes.{is_aggregate_form}
 use Rattle.name_laws.proofs.KeepsPrimaries.{k-inside, k-level_above}
@@ -56,7 +55,7 @@ use Rattle.name_scopes.proofs.SeesIterations.{EnteredOf, Entering, IsUnchunked, 
 use Rattle.name_scopes.proofs.SeesOperators.{WaitsOf, open-found}
 use Rattle.name_scopes.proofs.SeesParts.{v-name, v-value_named}
 use Rattle.name_scopes.proofs.SeesReducers.{FoldingOf, v-folded_by, v-reducer_of}
-use Rattle.name_scopes.proofs.SeesValues.{v-asked, v-composite_asked}
+use Rattle.name_scopes.proofs.SeesValues.{static-mentions, v-asked, v-composite_asked}
 
 module _ (W : World) (V : Sight) where
   -- ---- conditional expressions
@@ -141,7 +140,7 @@ module _ (W : World) (V : Sight) where
   v-grouped_scalar bracket f None None h = v-none W V (FoundOf W V)
 
   v-grouped_by : (bracket : ℕ) (f : Found) (k : Option Kind) (z : Option ℤ) → kind_of f.known ≡ k → value_of f.known ≡ z → FoundOf W V f → Sees W V (Finding W V) (grouped_by bracket f k z)
-  v-grouped_by bracket f (Some k) (Some z) e g h = v-some W V (FoundOf W V) (static bracket k z (mentions_of f)) tt
+  v-grouped_by bracket f (Some k) (Some z) e g h = v-some W V (FoundOf W V) (static bracket k z (mentions_of f)) (static-mentions W V f.known f.part z h g)
   v-grouped_by bracket f (Some k) None e g h = v-grouped_scalar bracket f (Some k) (composite_in f.known) h
   v-grouped_by bracket f None z e g h = v-grouped_scalar bracket f None (composite_in f.known) h
 

@@ -1,12 +1,11 @@
 -- Profiles of subprograms that may be called.
-use Rattle.std.proofs.Common.{◌≡◌, refl, sym, ap, subst, ◌∙◌, ℕ, ◌<◌, ◌≤◌, List, [], ◌∷◌, length, map, slice_get, Option, Some, None, option_map, arith}
+use Rattle.std.proofs.Common.{◌≡◌, refl, sym, ap, subst, ◌∙◌, ℕ, ◌<◌, [], length, map, slice_get, Option, Some, None, option_map, arith}
 use Rattle.std.proofs.lemmas.Option.{slice_get-get_or}
 use Rattle.name_flow.specs.Order.{AreIn}
 use Rattle.name_rules.specs.Calls.{profile_in}
 use Rattle.name_rules.specs.Judging.{read}
 use Rattle.name_rules.specs.Programs.{typed_formal}
 use Rattle.name_rules.specs.Types.{typed_scalar}
-use Rattle.name_rules.specs.declared.log.Log.{Log}
 use Rattle.name_rules.specs.declared.log.Profile.{Profile}
 use Rattle.name_scopes.proofs.Sees.{Sees, Sight, World}
 

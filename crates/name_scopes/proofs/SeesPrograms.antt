@@ -1,9 +1,7 @@
 -- What is found is in scope: subprograms and programs.
-use Rattle.std.proofs.Common.{◌≡◌, refl, sym, ap, subst, ◌∙◌, ℕ, zero, suc, ◌+◌, ◌-◌, ◌<◌, ◌≤◌, List, [], ◌∷◌, ◌++◌, length, length-append, map, drop, slice_get, Option, Some, None, Bool, true, false, if◌then◌else◌, option_map, nat_lt, ltb-true, ltb-false, true≢false, arith}
+use Rattle.std.proofs.Common.{◌≡◌, refl, sym, ap, subst, ◌∙◌, ℕ, zero, suc, ◌+◌, ◌-◌, ◌<◌, ◌≤◌, List, [], ◌∷◌, ◌++◌, length, length-append, map, drop, slice_get, Option, Some, None, Bool, true, false, option_map, nat_lt, ltb-true, ltb-false, true≢false, arith}
 use Rattle.std.specs.Prelude.{cond, not}
 use Rattle.behaviours.specs.Paths.{Entity, ConstantOf, VariableOf, entity_eq}
-use Rattle.ada_meaning.specs.Meaning.{sub_at}
-use Rattle.ada_meaning.specs.Shapes.{size}
 use Rattle.syntax_tree.specs.Syntax as syntax
 use Rattle.syntax_tree.specs.Syntax.{Aspect, Body, Clause, Decl, Expr, Formal, Formals, Main, Pack, Program, Sub, Unit'}
 use Rattle.syntax_tree.specs.declared.operators.ClauseWord.{ClauseWord}
@@ -21,7 +19,6 @@ use Rattle.typed_tree.specs.declared.program.Mode.TheVariants as mode
 use Rattle.name_rules.specs.Declarations.{all_ids, begun_names, cells_counted, declaration, declarations, ended_name, new_object}
 use Rattle.name_rules.specs.Expressions.{judged_alone, value_for}
 use Rattle.name_rules.specs.Judging.{joined}
-use Rattle.name_rules.specs.Limits.{most_cells}
 use Rattle.name_rules.specs.Primaries.{inside}
 use Rattle.name_rules.specs.Programs as p
 use Rattle.name_rules.specs.Programs.{Declared', Profiled, Whole, typed_formal}
@@ -48,19 +45,18 @@ use Rattle.name_laws.proofs.KeepsScope.{k-free, k-subtype_named}
 use Rattle.name_laws.proofs.KeepsStatements.{k-around, k-body}
 use Rattle.name_laws.proofs.Places.{one-place, steady}
 use Rattle.name_laws.specs.OwnNames.{AreNumbered}
-use Rattle.name_formed.proofs.Forms.{Small, shape_of}
 use Rattle.name_scopes.proofs.Seen.{SeenAll, SeenDecls, SeenHandlers, SeenStmt, past}
 use Rattle.name_scopes.proofs.Sees.{Any, AreTaken, IsTaken, Maybe, Sight, World, any, joint, seeing, v-weaken}
 use Rattle.name_scopes.proofs.SeesBack.{And, Back, Leads, Near, b-any, b-bind, b-lift, b-none, b-pure, leading, leads_joined, leads_many, now, profiling}
-use Rattle.name_scopes.proofs.SeesDeclarations.{BegunIn, Grown, LevelBoth, ObjectIn, Standing, after, b-begun_names, b-declaration, b-declarations, b-new_object, begin, declaration-none, its-object, near-declared, near-ended, near-wider, object-cells, stand, wider-grown}
+use Rattle.name_scopes.proofs.SeesDeclarations.{BegunIn, LevelBoth, ObjectIn, Standing, after, b-begun_names, b-declaration, b-declarations, b-new_object, begin, declaration-none, its-object, near-declared, near-ended, near-wider, object-cells, wider-grown}
 use Rattle.name_scopes.proofs.SeesExpressions.{v-value_for}
 use Rattle.name_rules.specs.declared.scope.Target.{Target}
 use Rattle.name_rules.specs.declared.scope.Target.TheVariants as target
 use Rattle.name_rules.specs.declared.scope.What.{What}
 use Rattle.name_scopes.proofs.SeesFound.{AreOf, TargetOf, ValueOf, WhatOf, entity}
-use Rattle.name_scopes.proofs.SeesIterations.{Wider, are-both, are-wider, either, wider-joined, wider-same}
+use Rattle.name_scopes.proofs.SeesIterations.{Wider, are-both, are-wider, wider-joined, wider-same}
 use Rattle.name_scopes.proofs.SeesPrimaries.{inside-sees}
-use Rattle.name_scopes.proofs.SeesShapes.{Facts, kept}
+use Rattle.name_scopes.proofs.SeesShapes.{Facts}
 use Rattle.name_scopes.proofs.SeesSimple.{number-seen, one-small}
 use Rattle.name_scopes.proofs.SeesStatements.{BodyIn, around-sees, b-body, level-sees}
 

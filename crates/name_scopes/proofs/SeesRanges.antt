@@ -27,7 +27,8 @@ use Rattle.name_rules.specs.declared.types.Wanted.TheVariants as wanted
 use Rattle.name_scopes.proofs.Sees.{Any, Sees, Maybe, Sight, World, any, v-bind, v-both, v-fault, v-given, v-if, v-none, v-pure, v-some, v-unless, joint, mapped}
 use Rattle.name_scopes.proofs.SeesExpressions.{v-simple}
 use Rattle.name_scopes.proofs.SeesFound.{Around, DenotedOf, DenotesOf, ExprOf, Finding, FoundOf, LevelSees, MentionsOf}
-use Rattle.name_scopes.proofs.SeesValues.{v-asked, v-static_of, v-static_of_kind}
+use Rattle.name_scopes.proofs.SeesOperators.{both-mentions}
+use Rattle.name_scopes.proofs.SeesValues.{StaticValue, exprs-seen, v-asked, v-static_of, v-static_of_kind, static-mentions}
 
 module _ (W : World) (V : Sight) where
   -- ---- ranges
@@ -72,7 +73,7 @@ module _ (W : World) (V : Sight) where
       v-bind W V (Maybe RangeOf) (Maybe BoundedOf) (bounds_of s.kind a z) _ (v-bounds_of s.kind a z g h) (λ x q. v-pure W V (Maybe BoundedOf) (option_map (bounded_by first s (Some s) a z) x) (mapped RangeOf BoundedOf (bounded_by first s (Some s) a z) x q (λ y t. t)))
 
   whole-range : (first : ℕ) (k : Kind) (low high : ℤ) (ms : TypedPart) → MentionsOf W V ms → BoundedOf (whole_range first k low high ms)
-  whole-range first k low high ms h = (tt, tt)
+  whole-range first k low high ms h = (exprs-seen W V ms h, exprs-seen W V part.Nothing tt)
 
   v-named_range : (k : KnownDenoted) (x : TypedPart) → DenotesOf W V k x → Sees W V (Maybe BoundedOf) (named_range k x)
   v-named_range (denoted.Range first d) x h = v-some W V BoundedOf (whole_range first d.kind d.low d.high x) (whole-range first d.kind d.low d.high x h)
@@ -108,10 +109,10 @@ module _ (W : World) (V : Sight) where
       v-bind W V (Maybe (ExprOf W V)) (Maybe (λ r. MentionsOf W V (both_mentions a z))) (asked k a) _ (v-asked W V k a g) (λ x p.
       v-bind W V (Maybe (ExprOf W V)) (Maybe (λ r. MentionsOf W V (both_mentions a z))) (asked k z) _ (v-asked W V k z h) (λ y q.
       v-both W V (ExprOf W V) (ExprOf W V) (λ r. MentionsOf W V (both_mentions a z)) x y _ p q (λ e f s t.
-      v-bind W V (Maybe Any) (Maybe (λ r. MentionsOf W V (both_mentions a z))) (static_value (first_of a.known) (value_of a.known)) _ (v-static_of W V a) (λ u m.
-      v-bind W V (Maybe Any) (Maybe (λ r. MentionsOf W V (both_mentions a z))) (static_value (first_of z.known) (value_of z.known)) _ (v-static_of W V z) (λ v n.
-      v-both W V Any Any (λ r. MentionsOf W V (both_mentions a z)) u v _ m n (λ i j c d.
-      v-some W V (λ r. MentionsOf W V (both_mentions a z)) (i, j) tt))))))
+      v-bind W V (Maybe (StaticValue W V a)) (Maybe (λ r. MentionsOf W V (both_mentions a z))) (static_value (first_of a.known) (value_of a.known)) _ (v-static_of W V a) (λ u m.
+      v-bind W V (Maybe (StaticValue W V z)) (Maybe (λ r. MentionsOf W V (both_mentions a z))) (static_value (first_of z.known) (value_of z.known)) _ (v-static_of W V z) (λ v n.
+      v-both W V (StaticValue W V a) (StaticValue W V z) (λ r. MentionsOf W V (both_mentions a z)) u v _ m n (λ i j c d.
+      v-some W V (λ r. MentionsOf W V (both_mentions a z)) (i, j) (both-mentions W V a z i j g h c d)))))))
 
   v-spanned : (first : ℕ) (must : Bool) (k : Kind) (a z : Found) (r : ℤ × ℤ) → MentionsOf W V (both_mentions a z) → Sees W V (Maybe StaticOf) (spanned first must k a z r)
   v-spanned first must k a z r h =
@@ -174,14 +175,14 @@ module _ (W : World) (V : Sight) where
 
   v-one_value : (k : Kind) (f : Found) → FoundOf W V f → Sees W V (Maybe ChosenOf) (one_value k f)
   v-one_value k f h =
-      v-bind W V (Maybe Any) (Maybe ChosenOf) (static_of_kind k f) _ (v-static_of_kind W V k f h) (λ v q.
-      v-given W V Any ChosenOf v _ q (λ z e. v-some W V ChosenOf (record { known = record { at = first_of f.known; low = z; high = z }; part = mentions_of f }) tt))
+      v-bind W V (Maybe (StaticValue W V f)) (Maybe ChosenOf) (static_of_kind k f) _ (v-static_of_kind W V k f h) (λ v q.
+      v-given W V (StaticValue W V f) ChosenOf v _ q (λ z e. v-some W V ChosenOf (record { known = record { at = first_of f.known; low = z; high = z }; part = mentions_of f }) (static-mentions W V f.known f.part z h e)))
 
   v-two_values : (k : Kind) (a z : Found) → FoundOf W V a → FoundOf W V z → Sees W V (Maybe ChosenOf) (two_values k a z)
   v-two_values k a z g h =
-      v-bind W V (Maybe Any) (Maybe ChosenOf) (static_of_kind k a) _ (v-static_of_kind W V k a g) (λ u p.
-      v-bind W V (Maybe Any) (Maybe ChosenOf) (static_of_kind k z) _ (v-static_of_kind W V k z h) (λ v q.
-      v-both W V Any Any ChosenOf u v _ p q (λ i j c d. v-some W V ChosenOf (record { known = record { at = first_of a.known; low = i; high = j }; part = both_mentions a z }) tt)))
+      v-bind W V (Maybe (StaticValue W V a)) (Maybe ChosenOf) (static_of_kind k a) _ (v-static_of_kind W V k a g) (λ u p.
+      v-bind W V (Maybe (StaticValue W V z)) (Maybe ChosenOf) (static_of_kind k z) _ (v-static_of_kind W V k z h) (λ v q.
+      v-both W V (StaticValue W V a) (StaticValue W V z) ChosenOf u v _ p q (λ i j c d. v-some W V ChosenOf (record { known = record { at = first_of a.known; low = i; high = j }; part = both_mentions a z }) (both-mentions W V a z i j g h c d))))
 
   v-values_of : (k : Option Kind) (x : Option Found) → Finding W V x → Sees W V (Maybe ChosenOf) (values_of k x)
   v-values_of None x h = v-none W V ChosenOf

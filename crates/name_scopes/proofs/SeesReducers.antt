@@ -1,5 +1,5 @@
 -- What is found is in scope: reducers and reductions.
-use Rattle.std.proofs.Common.{◌≡◌, sym, subst, ℕ, ◌<◌, List, [], ◌∷◌, Option, Some, None, ◌&&◌}
+use Rattle.std.proofs.Common.{◌≡◌, sym, subst, ℕ, List, [], ◌∷◌, Option, Some, None, ◌&&◌}
 use Rattle.std.specs.Prelude.{is_some, not, ◌||◌}
 use Rattle.ada_base.specs.declared.operation.Op.{Op}
 use Rattle.syntax_tree.specs.FirstTokens as first_token
@@ -9,7 +9,6 @@ use Rattle.typed_tree.specs.Classes.{with_class}
 use Rattle.typed_tree.specs.Decoded.{TypedPart, as_expr, as_iteration}
 use Rattle.typed_tree.specs.declared.expressions.Reducer.{Reducer}
 use Rattle.typed_tree.specs.declared.expressions.Reducer.TheVariants as reducer'
-use Rattle.typed_tree.specs.declared.scalars.Class.TheVariants as class
 use Rattle.name_rules.specs.Calls.{gives_in, profile_in, takes_in}
 use Rattle.name_rules.specs.Expressions.{Inside, judged_alone}
 use Rattle.name_rules.specs.Found.{Found, scalar}
@@ -50,7 +49,7 @@ use Rattle.name_scopes.proofs.Seen.{IsChunked, SeenExpr, SeenIteration}
 use Rattle.name_scopes.proofs.SeesProfiles.{ProfileOf, called-modes, v-profile}
 use Rattle.name_scopes.proofs.Sees.{AreTaken, Any, seeing, v-seeing, Sees, Maybe, Sight, World, v-bind, v-both, v-fault, v-given, v-if, v-pure, v-read, v-some, v-where_clean, joint}
 use Rattle.name_scopes.proofs.SeesExpressions.{v-judged_alone}
-use Rattle.name_scopes.proofs.SeesFound.{IsCalled, Around, ChunkOf, DenotedOf, DenotesOf, ExprOf, FoundOf, IterationOf, LevelSees}
+use Rattle.name_scopes.proofs.SeesFound.{IsCalled, Around, ChunkOf, DenotedOf, DenotesOf, ExprOf, FoundOf, LevelSees}
 use Rattle.name_scopes.proofs.SeesOperators.{WaitsOf, open-found}
 use Rattle.name_scopes.proofs.SeesScope.{v-stands_for}
 use Rattle.name_scopes.proofs.SeesValues.{v-asked, iteration-map}

@@ -1,5 +1,5 @@
 -- What is found is in scope: what a name denotes by its declaration.
-use Rattle.std.proofs.Common.{◌≡◌, sym, ap, subst, ◌⊎◌, inl, inr, ℕ, List, [], ◌∷◌, ◌++◌, Some, Bool, true, false, if◌then◌else◌, ◌==◌, ◌&&◌}
+use Rattle.std.proofs.Common.{◌≡◌, sym, subst, ◌⊎◌, inl, inr, ℕ, List, [], ◌∷◌, ◌++◌, Some, Bool, true, false, if◌then◌else◌, ◌==◌, ◌&&◌}
 use Rattle.std.specs.Prelude.{not, ◌||◌}
 use Rattle.ada_base.specs.declared.reason.Reason.TheVariants as reason
 use Rattle.typed_tree.specs.Decoded as part
@@ -66,7 +66,7 @@ module _ (W : World) (V : Sight) where
 
   -- an object or an item stands for all of itself
   pub whole-place : (p : ObjectName) → RootOf V p.variable p.root → Small (shape_of W.program p.subtype) → PlaceOf W V p part.Nothing
-  whole-place p g h = record { root = g; path = λ r s. s; small = h }
+  whole-place p g h = record { root = g; path = λ r s. s; small = h; static = λ z e. tt }
 
   object-root : (n : ℕ) (v : Bool) → V.around.object (entity v n) ≡ true → RootOf V v (root.Object n)
   object-root n true e = e

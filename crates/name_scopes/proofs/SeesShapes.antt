@@ -1,15 +1,14 @@
 -- What holds of a program's table of subtypes and of its subprograms, by its log.
-use Rattle.std.proofs.Common.{◌≡◌, refl, sym, ap, subst, ◌∙◌, ℕ, zero, suc, ◌+◌, ◌≤◌, List, [], ◌∷◌, ◌++◌, length, slice_get, Option, Some, None, Bool, arith}
+use Rattle.std.proofs.Common.{◌≡◌, refl, sym, ap, ◌∙◌, ℕ, zero, suc, ◌≤◌, List, [], ◌∷◌, ◌++◌, slice_get, Option, Some, None, Bool, arith}
 use Rattle.behaviours.specs.Paths.{Entity}
 use Rattle.ada_meaning.specs.Shapes.{cells_of, object_shape, size, subtype_shape}
-use Rattle.ada_meaning.specs.Meaning.{object_layout}
 use Rattle.ada_meaning.proofs.Shapes.{shape_law}
 use Rattle.ada_meaning.proofs.Sizes.{size_law}
 use Rattle.typed_scopes.specs.Scopes.{object_cells}
 use Rattle.typed_tree.specs.Layout as typed
 use Rattle.typed_tree.specs.Syntax.{Program}
 use Rattle.typed_tree.specs.declared.program.Object.{Object}
-use Rattle.name_rules.specs.Types.{cells_in, cells_of_shape, saturated}
+use Rattle.name_rules.specs.Types.{cells_of_shape, saturated}
 use Rattle.name_rules.specs.Limits.{most_cells}
 use Rattle.name_rules.specs.declared.log.Dimension.{Dimension}
 use Rattle.name_rules.specs.declared.log.Field.{Field}
@@ -19,8 +18,8 @@ use Rattle.name_rules.specs.declared.log.Shape.{Shape as Entry}
 use Rattle.name_rules.specs.declared.log.Shape.TheVariants as entry
 use Rattle.name_rules.specs.declared.types.Subtype.{Subtype}
 use Rattle.name_laws.proofs.CellsCounted.{HaveValues}
-use Rattle.name_laws.proofs.CellsSound.{NumberIn, get_kept, table_of}
-use Rattle.name_formed.proofs.Forms.{HasDimensions, HasFields, Small, shape_of}
+use Rattle.name_laws.proofs.CellsSound.{table_of}
+use Rattle.name_formed.proofs.Forms.{Small}
 use Rattle.name_formed.proofs.FormsShapes as formed
 use Rattle.name_scopes.proofs.Sees.{HasUnit, World}
 

@@ -4,14 +4,12 @@ use Rattle.std.specs.Prelude.{not}
 use Rattle.syntax_tree.specs.FirstTokens as first_token
 use Rattle.syntax_tree.specs.Syntax as syntax
 use Rattle.syntax_tree.specs.Syntax.{Choice, Expr, Name}
-use Rattle.typed_tree.specs.Decoded as part
 use Rattle.typed_tree.specs.Decoded.{TypedPart, as_stmt}
-use Rattle.typed_tree.specs.Latest.{turned}
 use Rattle.name_rules.specs.Cases as cases
 use Rattle.name_rules.specs.Cases.{Choosing, Covering}
 use Rattle.name_rules.specs.Expressions.{Inside, expr}
 use Rattle.name_rules.specs.Found.{Denoted, Found}
-use Rattle.name_rules.specs.Judging.{Judging, fault, given, pure, unless, ◌>>=◌}
+use Rattle.name_rules.specs.Judging.{fault, given, pure, unless, ◌>>=◌}
 use Rattle.name_rules.specs.Names.{denoted_first}
 use Rattle.name_rules.specs.Parts.{valued_by}
 use Rattle.name_rules.specs.Ranges.{Chosen, chosen_span, chosen_value}
@@ -29,8 +27,6 @@ use Rattle.name_rules.specs.declared.scope.Context.{Context}
 use Rattle.name_rules.specs.declared.scope.Entry.{Entry}
 use Rattle.name_rules.specs.declared.scope.Names.{Names}
 use Rattle.name_rules.specs.declared.scope.Target.TheVariants as target
-use Rattle.name_rules.specs.declared.scope.What.{What}
-use Rattle.name_rules.specs.declared.scope.What.TheVariants as what
 use Rattle.name_rules.specs.declared.types.Kind.{Kind}
 use Rattle.name_rules.specs.declared.types.Scalar.{Scalar}
 use Rattle.name_rules.specs.declared.types.Subtype.{Subtype}
@@ -49,7 +45,7 @@ use Rattle.name_rules.specs.Limits.{most_cells}
 use Rattle.name_formed.proofs.Forms.{shape_of}
 use Rattle.name_scopes.proofs.Seen.{SeenNumber, SeenStmt, SeenValue}
 use Rattle.name_scopes.proofs.Sees.{Any, Sees, Maybe, Sight, World, seeing, v-bind, v-fault, v-given, v-if, v-none, v-pure, v-seeing, v-some, v-unless, v-where_clean, mapped}
-use Rattle.name_scopes.proofs.SeesFound.{AreOf, Around, DenotedOf, DenotesOf, ExprOf, Finding, FoundOf, LevelSees, MentionsOf, PlaceOf, ValueOf}
+use Rattle.name_scopes.proofs.SeesFound.{AreOf, Around, DenotedOf, DenotesOf, ExprOf, Finding, FoundOf, LevelSees, MentionsOf, PlaceOf, ValueOf, each-all}
 use Rattle.name_scopes.proofs.SeesIterations.{are-wider}
 use Rattle.name_scopes.proofs.SeesValues.{as-variable, v-settled_found, v-stored}
 
@@ -177,7 +173,7 @@ module _ (W : World) (V : Sight) where
 
   v-maybe_covered : (c : Covering) (d : Choosing) (x : Option Chosen) → MentionsOf W V d.mentions → Maybe ChosenOf x → Sees W V ChoosingOf (cases.maybe_covered c d x)
   v-maybe_covered c d None h g = v-pure W V ChoosingOf (cases.as_faulty c, d) h
-  v-maybe_covered c d (Some x) h g = v-covered_by c (cases.also_mentioned d x.part) x.known.at x.known.low x.known.high tt
+  v-maybe_covered c d (Some x) h g = v-covered_by c (cases.also_mentioned d x.part) x.known.at x.known.low x.known.high (each-all (ExprOf W V) d.mentions x.part h g)
 
   v-case_choice : (level : Inside) (here : Context) (k : Option Kind) (single last : Bool) (c : Covering) (d : Choosing) (x : Choice) → LevelSees W level → Around W V here → MentionsOf W V d.mentions
       → Sees W V ChoosingOf (cases.case_choice level here k single last c d x)

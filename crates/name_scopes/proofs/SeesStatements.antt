@@ -51,7 +51,7 @@ use Rattle.name_scopes.proofs.SeesIterations.{chunk-around, v-chunk_count, v-ent
 use Rattle.name_scopes.proofs.SeesPrimaries.{above-sees, inside-sees}
 use Rattle.name_scopes.proofs.SeesShapes.{Facts}
 use Rattle.name_scopes.proofs.SeesSimple.{v-assign, v-call_stmt, v-case_choices, v-returned, v-selecting}
-use Rattle.name_scopes.proofs.SeesValues.{iteration-map}
+use Rattle.name_scopes.proofs.SeesValues.{exprs-within, iteration-map}
 
 module _ (P : Program) (shown : ℕ → Entity → Bool) (L : Log) (F : Facts P shown L) where
   -- ---- lists
@@ -218,11 +218,11 @@ module _ (P : Program) (shown : ℕ → Entity → Bool) (L : Log) (F : Facts P 
   CasesIn V r = Maybe (Each (IsAlternative V)) r.1
 
   abbrev ChoicesIn : Sight → Covering × Choosing → Type 0
-  ChoicesIn V r = Unit {0}
+  ChoicesIn V r = Each (ExprIn V) r.1.mentions
 
-  also-alternative : (V : Sight) (d : Choosing) (made ss : Option TypedPart) → Maybe (Each (IsAlternative V)) made → Maybe (StmtsIn V) ss → Maybe (Each (IsAlternative V)) (s.also_alternative d made ss)
+  also-alternative : (V : Sight) (d : Choosing) (made ss : Option TypedPart) → Each (ExprIn V) d.mentions → Maybe (Each (IsAlternative V)) made → Maybe (StmtsIn V) ss → Maybe (Each (IsAlternative V)) (s.also_alternative d made ss)
   unfolding s.also_alternative
-  also-alternative V d made ss g h = joint (Each (IsAlternative V)) (StmtsIn V) (Each (IsAlternative V)) (s.with_alternative d) made ss g h (λ a b m n. ((λ as' r. (n, r)), m))
+  also-alternative V d made ss e g h = joint (Each (IsAlternative V)) (StmtsIn V) (Each (IsAlternative V)) (s.with_alternative d) made ss g h (λ a b m n. ((λ as' r. (exprs-within P shown V.around d.mentions e, n, r)), m))
 
   b-alternative : (V : Sight) (G : Type 0) (a : Judges) (here : Context) (kind : Option Kind) (last : Bool) (c : Covering) (made : Option TypedPart) (x : Alt) → AroundSees a → (G → Near P shown L F V here) → (G → Maybe (Each (IsAlternative V)) made)
       → Back L V.bound G (CasesIn V) (s.alternative a here kind last c made x)
@@ -232,7 +232,7 @@ module _ (P : Program) (shown : ℕ → Entity → Bool) (L : Log) (F : Facts P 
       b-bind L V.bound G (ChoicesIn V) (CasesIn V) j _ (b-lift P shown L F V G (ChoicesIn V) j (k-case_choices leading.walk a.level here kind (length ys == 0) last c s.no_choosing (x ∷ ys) f.keeps.level)
       (λ log l h. v-case_choices (now P shown L F log l) V a.level here kind (length ys == 0) last c s.no_choosing (x ∷ ys) (f.level (now P shown L F log l)) (r h log l) tt)) (λ y.
       b-bind L V.bound _ (Maybe (StmtsIn V)) (CasesIn V) (s.stmts a here t) _ (b-stmts V _ a here t f (λ h. r h.old)) (λ ss.
-      b-pure L V.bound _ (CasesIn V) (y.0, s.also_alternative y.1 made ss) (λ h. also-alternative V y.1 made ss (g h.old.old) h.new)))
+      b-pure L V.bound _ (CasesIn V) (y.0, s.also_alternative y.1 made ss) (λ h. also-alternative V y.1 made ss h.old.new (g h.old.old) h.new)))
 
   b-alts : (V : Sight) (G : Type 0) (a : Judges) (here : Context) (kind : Option Kind) (c : Covering) (made : Option TypedPart) (xs : Alts) → AroundSees a → (G → Near P shown L F V here) → (G → Maybe (Each (IsAlternative V)) made)
       → Back L V.bound G (CasesIn V) (s.alts a here kind c made xs)

@@ -1,5 +1,5 @@
 -- The subprograms of a program are as their profiles say, each at its number.
-use Rattle.std.proofs.Common.{◌≡◌, refl, sym, ap, subst, ◌∙◌, ℕ, zero, suc, ◌+◌, ◌-◌, List, [], ◌∷◌, ◌++◌, length, length-append, map, slice_get, Option, Some, None, Bool, option_map, arith, false}
+use Rattle.std.proofs.Common.{◌≡◌, refl, sym, ap, subst, ◌∙◌, ℕ, zero, suc, ◌-◌, List, [], ◌∷◌, ◌++◌, length, length-append, map, slice_get, Option, Some, None, Bool, option_map, arith, false}
 use Rattle.std.proofs.lemmas.List.{append-nil}
 use Rattle.ada_meaning.specs.Meaning.{sub_at}
 use Rattle.syntax_tree.specs.Syntax as syntax

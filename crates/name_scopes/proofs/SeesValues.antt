@@ -4,33 +4,32 @@ use Rattle.behaviours.specs.Paths.{Entity}
 use Rattle.ada_meaning.specs.Shapes.{cells_of, size, subtype_shape}
 use Rattle.typed_scopes.specs.Scopes as scopes
 use Rattle.typed_scopes.specs.Scopes.{ConstantSeen, VariableSeen, with_chunk, with_parameter}
-use Rattle.name_scopes.proofs.Seen.{SeenComposite, SeenExpr, SeenIteration, SeenPieces, SeenSelections}
+use Rattle.name_scopes.proofs.Seen.{SeenExpr, SeenIteration, SeenExprs, SeenPieces, SeenSelections}
 use Rattle.typed_tree.specs.Classes.{with_class}
 use Rattle.typed_tree.specs.Decoded as part
-use Rattle.typed_tree.specs.Decoded.{TypedPart, Nothing, Cons, as_composite, as_expr, as_pieces}
+use Rattle.typed_tree.specs.Decoded.{TypedPart, Nothing, Cons, as_composite, as_expr, as_exprs, as_pieces}
+use Rattle.typed_tree.specs.Indexes.{indexes_from, indexes_in}
 use Rattle.typed_tree.specs.Latest.{turned}
 use Rattle.typed_tree.specs.Syntax as typed
-use Rattle.typed_tree.specs.Syntax.{Expr as TypedExpr, Iteration}
+use Rattle.typed_tree.specs.Syntax.{Expr as TypedExpr, Iteration, Selections}
 use Rattle.typed_tree.specs.declared.expressions.Reducer.TheVariants as reducer'
 use Rattle.typed_tree.specs.declared.scalars.Class.{Class}
 use Rattle.name_rules.specs.Found.{Found}
 use Rattle.name_rules.specs.Judging.{fault, some, unless}
-use Rattle.name_rules.specs.TypedParts.{selections_of}
+use Rattle.name_rules.specs.TypedParts.{exprs_of, selections_of}
 use Rattle.name_rules.specs.Types.{check_at, class_of, in_base, is_integer, same}
-use Rattle.name_rules.specs.Values.{any_integer, any_scalar, asked, asked_form, beyond, composite_asked, composite_form, first_of, fitting, is_number, is_scalar, literal, object_expr, object_value, own_kind, place_asked, settled, settled_by, settled_found, static_integer, static_of_kind, static_value, stored, value_of, valued, whole_object, whole_of}
+use Rattle.name_rules.specs.Values.{any_integer, any_scalar, asked, asked_form, beyond, composite_asked, composite_form, first_of, fitting, is_number, is_scalar, literal, mentions_of, object_expr, object_value, own_kind, place_asked, settled, settled_by, settled_found, static_integer, static_of_kind, static_value, stored, value_of, valued, whole_object, whole_of}
 use Rattle.name_rules.specs.declared.found.Found.TheVariants as known
 use Rattle.name_rules.specs.declared.found.Found.{Found as Known}
 use Rattle.name_rules.specs.declared.found.Limits.{Limits}
 use Rattle.name_rules.specs.declared.found.ObjectName.{ObjectName}
 use Rattle.name_rules.specs.declared.log.Rule.TheVariants.{NotStatic, StaticRange, WrongType}
 use Rattle.name_rules.specs.declared.types.Kind.{Kind}
-use Rattle.name_rules.specs.declared.types.Kind.TheVariants as kind
 use Rattle.name_rules.specs.declared.types.Scalar.{Scalar}
 use Rattle.name_rules.specs.declared.types.Subtype.{Subtype}
 use Rattle.name_rules.specs.declared.types.Subtype.TheVariants as subtype
-use Rattle.name_formed.proofs.Forms.{shape_of}
-use Rattle.name_scopes.proofs.Sees.{Any, Sees, Maybe, Sight, World, v-bind, v-fault, v-given, v-if, v-pure, v-some, v-test, v-unless, v-weaken}
-use Rattle.name_scopes.proofs.SeesFound.{Each, ExprOf, FoundOf, IsPiece, KnownOf, OpenOf, PlaceOf, RootOf, ValueOf, WideOf, each-turned}
+use Rattle.name_scopes.proofs.Sees.{Any, Sees, Maybe, Sight, World, v-bind, v-fault, v-given, v-if, v-pure, v-some, v-test, v-unless}
+use Rattle.name_scopes.proofs.SeesFound.{Each, ExprOf, FoundOf, IsPiece, KnownOf, MentionsOf, OpenOf, PlaceOf, RootOf, ValueOf, WideOf, each-turned}
 
 -- ---- iterations
 
@@ -66,8 +65,20 @@ scoped-class program shown v c (typed.Membership b negated x low high) h = h
 scoped-class program shown v c (typed.Call at callee n as') h = h
 scoped-class program shown v c (typed.Convert check e) h = h
 
+-- ---- what is mentioned
+
+exprs-list : (program : typed.Program) (shown : ℕ → Entity → Bool) (v : scopes.Around) (x : TypedPart) → Each (λ y. SeenExpr program shown v (as_expr y)) x → SeenExprs program shown v (as_exprs x)
+exprs-list program shown v (Cons p q) h = (h.0, exprs-list program shown v q h.1)
+exprs-list program shown v x h = tt
+
+pub exprs-within : (program : typed.Program) (shown : ℕ → Entity → Bool) (v : scopes.Around) (x : TypedPart) → Each (λ y. SeenExpr program shown v (as_expr y)) x → SeenExprs program shown v (exprs_of x)
+exprs-within program shown v x h = exprs-list program shown v (turned x) (each-turned (λ y. SeenExpr program shown v (as_expr y)) x h)
+
 module _ (W : World) (V : Sight) where
   -- ---- lists that grow
+
+  pub exprs-seen : (x : TypedPart) → MentionsOf W V x → SeenExprs W.program W.shown V.around (exprs_of x)
+  exprs-seen x h = exprs-within W.program W.shown V.around x h
 
   pieces-list : (x : TypedPart) → Each (IsPiece W V) x → SeenPieces W.program W.shown V.around (as_pieces x)
   pieces-list (Cons p q) h = h.0 (as_pieces q) (pieces-list q h.1)
@@ -95,11 +106,46 @@ module _ (W : World) (V : Sight) where
   pub as-constant : (p : ObjectName) (x : TypedPart) → PlaceOf W V p x → p.variable ≡ false → ConstantOf p x
   as-constant p x h e = (subst (λ b. RootOf V b p.root) e h.root, path-whole p x h)
 
+  -- indexes in a name
+  indexes-on : (x : TypedPart) (ss : Selections) → MentionsOf W V x → SeenSelections W.program W.shown V.around ss → MentionsOf W V (indexes_from x ss)
+  indexes-on x typed.Whole g h = g
+  indexes-on x (typed.Field number offset ss) g h = indexes-on x ss g h
+  indexes-on x (typed.Index at e low high stride ss) g h = indexes-on (Cons (part.AnExpr e) x) ss (h.0, g) h.1
+
+  pub indexes-seen : (ss : Selections) → SeenSelections W.program W.shown V.around ss → MentionsOf W V (indexes_in ss)
+  unfolding indexes_in
+  indexes-seen ss h = indexes-on Nothing ss tt h
+
+  -- what a static expression mentions
+  pub static-mentions : (f : Known) (x : TypedPart) (z : ℤ) → KnownOf W V f x → value_of f ≡ Some z → MentionsOf W V (mentions_of (record { known = f; part = x }))
+  static-mentions (known.Universal first y alone) x z h e = h
+  static-mentions (known.Static first k y) x z h e = h
+  static-mentions (known.Object p) x z h e = tt
+  static-mentions (known.Open first l) x z h e = absurd cc
+  static-mentions (known.Scalar first k n) x z h e = absurd cc
+  static-mentions (known.Composite first n) x z h e = absurd cc
+  static-mentions (known.Rest first) x z h e = absurd cc
+  static-mentions (known.Text first) x z h e = absurd cc
+
+  -- the same of its part itself
+  pub static-part : (f : Known) (x : TypedPart) (z : ℤ) → KnownOf W V f x → value_of f ≡ Some z → MentionsOf W V x
+  static-part (known.Universal first y alone) x z h e = h
+  static-part (known.Static first k y) x z h e = h
+  static-part (known.Object p) x z h e = h.static z e
+  static-part (known.Open first l) x z h e = absurd cc
+  static-part (known.Scalar first k n) x z h e = absurd cc
+  static-part (known.Composite first n) x z h e = absurd cc
+  static-part (known.Rest first) x z h e = absurd cc
+  static-part (known.Text first) x z h e = absurd cc
+
   -- ---- an expression whose place asks for a type
 
-  v-valued : (k : Kind) (first : ℕ) (z : ℤ) (alone : Bool) (x : TypedPart) → Sees W V (Maybe (ExprOf W V)) (valued k first z alone x)
+  literal-seen : (first : ℕ) (z : ℤ) (alone : Bool) (x : TypedPart) → MentionsOf W V x → ExprOf W V (literal first z alone x)
+  literal-seen first z alone x h = exprs-seen x h
+
+  v-valued : (k : Kind) (first : ℕ) (z : ℤ) (alone : Bool) (x : TypedPart) → MentionsOf W V x → Sees W V (Maybe (ExprOf W V)) (valued k first z alone x)
   unfolding valued
-  v-valued k first z alone x = v-if W V (Maybe (ExprOf W V)) (in_base k z) (some (literal first z alone x)) (fault first StaticRange) (v-some W V (ExprOf W V) (literal first z alone x) tt) (v-fault W V (ExprOf W V) first StaticRange)
+  v-valued k first z alone x h = v-if W V (Maybe (ExprOf W V)) (in_base k z) (some (literal first z alone x)) (fault first StaticRange) (v-some W V (ExprOf W V) (literal first z alone x) (literal-seen first z alone x h)) (v-fault W V (ExprOf W V) first StaticRange)
 
   pub v-fitting : (k : Kind) (first : ℕ) (z : ℤ) → Sees W V Any (fitting k first z)
   unfolding fitting
@@ -130,11 +176,11 @@ module _ (W : World) (V : Sight) where
   v-place_asked k p x (subtype.Composite n) h = v-fault W V (ExprOf W V) p.first WrongType
 
   v-asked_form : (k : Kind) (f : Known) (x : TypedPart) → KnownOf W V f x → Sees W V (Maybe (ExprOf W V)) (asked_form k f x)
-  v-asked_form k (known.Universal first z alone) x h = v-if W V (Maybe (ExprOf W V)) (is_integer k) (valued k first z alone x) (fault first WrongType) (v-valued k first z alone x) (v-fault W V (ExprOf W V) first WrongType)
+  v-asked_form k (known.Universal first z alone) x h = v-if W V (Maybe (ExprOf W V)) (is_integer k) (valued k first z alone x) (fault first WrongType) (v-valued k first z alone x h) (v-fault W V (ExprOf W V) first WrongType)
   v-asked_form k (known.Open first l) x h = v-if W V (Maybe (ExprOf W V)) (is_integer k) (settled k l (as_expr x)) (fault first WrongType) (v-settled k l (as_expr x) h) (v-fault W V (ExprOf W V) first WrongType)
   v-asked_form k (known.Static first j z) x h =
       v-if W V (Maybe (ExprOf W V)) (same j k) (some (literal first z false x)) (fault first WrongType)
-      (v-some W V (ExprOf W V) (literal first z false x) tt) (v-fault W V (ExprOf W V) first WrongType)
+      (v-some W V (ExprOf W V) (literal first z false x) (literal-seen first z false x h)) (v-fault W V (ExprOf W V) first WrongType)
   v-asked_form k (known.Object p) x h = v-place_asked k p x p.subtype h
   v-asked_form k (known.Scalar first j n) x h = v-if W V (Maybe (ExprOf W V)) (same j k) (some x) (fault first WrongType) (v-some W V (ExprOf W V) x h) (v-fault W V (ExprOf W V) first WrongType)
   v-asked_form k f x h = v-fault W V (ExprOf W V) (first_of f) WrongType
@@ -157,22 +203,26 @@ module _ (W : World) (V : Sight) where
 
   -- ---- static expressions
 
-  v-static_value : (first : ℕ) (v : Option ℤ) → Sees W V (Maybe Any) (static_value first v)
-  v-static_value first None = v-fault W V Any first NotStatic
-  v-static_value first (Some z) = v-some W V Any z tt
+  -- a static value of what was found
+  abbrev pub StaticValue : Found → ℤ → Type 0
+  StaticValue f z = value_of f.known ≡ Some z
 
-  pub v-static_of : (f : Found) → Sees W V (Maybe Any) (static_value (first_of f.known) (value_of f.known))
-  v-static_of f = v-static_value (first_of f.known) (value_of f.known)
+  v-static_value : (first : ℕ) (f : Found) (v : Option ℤ) → value_of f.known ≡ v → Sees W V (Maybe (StaticValue f)) (static_value first v)
+  v-static_value first f None e = v-fault W V (StaticValue f) first NotStatic
+  v-static_value first f (Some z) e = v-some W V (StaticValue f) z e
 
-  pub v-static_of_kind : (k : Kind) (f : Found) → FoundOf W V f → Sees W V (Maybe Any) (static_of_kind k f)
+  pub v-static_of : (f : Found) → Sees W V (Maybe (StaticValue f)) (static_value (first_of f.known) (value_of f.known))
+  v-static_of f = v-static_value (first_of f.known) f (value_of f.known) refl
+
+  pub v-static_of_kind : (k : Kind) (f : Found) → FoundOf W V f → Sees W V (Maybe (StaticValue f)) (static_of_kind k f)
   unfolding static_of_kind
   v-static_of_kind k f h =
-      v-bind W V (Maybe (ExprOf W V)) (Maybe Any) (asked k f) _ (v-asked k f h) (λ e q.
-      v-given W V (ExprOf W V) Any e (λ x. static_value (first_of f.known) (value_of f.known)) q (λ x r. v-static_value (first_of f.known) (value_of f.known)))
+      v-bind W V (Maybe (ExprOf W V)) (Maybe (StaticValue f)) (asked k f) _ (v-asked k f h) (λ e q.
+      v-given W V (ExprOf W V) (StaticValue f) e (λ x. static_value (first_of f.known) (value_of f.known)) q (λ x r. v-static_of f))
 
-  pub v-static_integer : (f : Found) → Sees W V (Maybe Any) (static_integer f.known)
+  pub v-static_integer : (f : Found) → Sees W V (Maybe (StaticValue f)) (static_integer f.known)
   unfolding static_integer
-  v-static_integer f = v-if W V (Maybe Any) (is_number f.known) (static_value (first_of f.known) (value_of f.known)) (fault (first_of f.known) WrongType) (v-static_value (first_of f.known) (value_of f.known)) (v-fault W V Any (first_of f.known) WrongType)
+  v-static_integer f = v-if W V (Maybe (StaticValue f)) (is_number f.known) (static_value (first_of f.known) (value_of f.known)) (fault (first_of f.known) WrongType) (v-static_of f) (v-fault W V (StaticValue f) (first_of f.known) WrongType)
 
   -- ---- what is stored
 

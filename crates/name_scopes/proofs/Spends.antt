@@ -1,6 +1,6 @@
 -- Judging that is counted: what it finds counts for no more than what it was given, together with what of it is no longer left
 -- and with what has come to be owed on the way.
-use Rattle.std.proofs.Common.{Bool, None, Option, Some, arith, false, if◌then◌else◌, length, length-append, option_map, true, ℕ, ◌+◌, ◌≤◌}
+use Rattle.std.proofs.Common.{Bool, None, Option, Some, arith, false, if◌then◌else◌, option_map, true, ℕ, ◌+◌, ◌≤◌}
 use Rattle.typed_tree.specs.declared.program.SiteKind.{SiteKind}
 use Rattle.name_rules.specs.Judging.{Judging, ◌>>=◌, both, clean, fault, given, joined, pure, read, some, where_clean}
 use Rattle.name_rules.specs.Parts.{new_site}

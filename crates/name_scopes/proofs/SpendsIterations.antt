@@ -30,7 +30,7 @@ use Rattle.std.specs.Prelude.{Bool, None, Option, Some, false, if◌then◌else�
 use Rattle.typed_tree.specs.Decoded as part
 use Rattle.name_rules.specs.TypedParts.{selections_of}
 use Rattle.typed_tree.specs.Decoded.{TypedPart, as_iteration, as_optional}
-use Rattle.name_rules.specs.Iterations.{Chunked, Entered, array_walked, chunk_count, chunked_by, counted, each_chunk, entered, entered_with, filter_where, filtered, in_construct, is_reduce, no_array, only_reduce_rules, over_denoted, over_form, over_place, parallel_at, parameter_what, range_made, reverse_rule, sequence, sequence_folded, sequence_given, sequence_rules, walked, with_chunk, with_walked}
+use Rattle.name_rules.specs.Iterations.{Chunked, Entered, array_walked, chunk_count, chunked_by, counted, each_chunk, entered, entered_with, filter_where, filtered, in_construct, is_reduce, no_array, only_reduce_rules, over_denoted, over_form, over_place, parallel_at, parameter_what, range_made, sequence, sequence_folded, sequence_given, sequence_rules, walked, with_chunk, with_walked}
 use Rattle.std.proofs.Common.{arith}
 use Rattle.name_rules.specs.TypedParts.{left_of, right_of}
 use Rattle.name_laws.proofs.KeepsIterations.{k-sequence_folded, k-with_walked}

@@ -1,6 +1,6 @@
 -- What is counted in a typed program, against what is written on the way: constructs by their number, and reductions whose
 -- iterations go backwards. What is mentioned and not evaluated counts too.
-use Rattle.std.specs.Prelude.{List, None, Option, Some, [], false, length, true, ℕ, ◌+◌, ◌++◌, ◌≤◌, ◌∷◌}
+use Rattle.std.specs.Prelude.{List, None, Option, Some, [], false, length, true, ℕ, ◌+◌, ◌≤◌, ◌∷◌}
 use Rattle.typed_tree.specs.Syntax.{Absent, Actuals, Aggregate, Alternative, Alternatives, AlsoExpr, AndThen, Arm, Arms, Assign, Association, Associations, Binary, Block, Body, Call, CallProcedure, Case, Cells, Chunk, Components, Composite, CompositeIf, CompositeInOut, CompositeOut, Constant, Convert, Count, DeclareConstant, DeclareDefault, DeclareVariable, Decls, Each, End, Exit, Expr, Exprs, Field, For, Get, Group, Handler, Handlers, If, IfThen, Image, In, InOut, Index, Iteration, Loop, Membership, Mentions, NoActual, NoAlternative, NoArm, NoAssociation, NoChunk, NoDecl, NoExpr, NoHandler, NoPiece, Null, Number, Optional, OrElse, Out, Padded, Parallel, ParallelFor, Parameter, Pieces, Present, Program, Put, Raise, Range, Reduction, Relation, Reraise, Return, ReturnValue, Selections, Static, Stmt, Stmts, Sub, Target, Text, Then, Unary, Value, Variable, Whole, WholeConstant, WholeTarget, WholeVariable}
 use Rattle.name_rules.specs.Iterations.{reverse_rule}
 use Rattle.name_rules.specs.Parts.{new_site}

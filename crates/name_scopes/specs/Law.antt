@@ -2,6 +2,7 @@
 use Rattle.std.specs.Prelude.{◌≡◌, ℕ, Some, Bool}
 use Rattle.behaviours.specs.Paths.{Entity}
 use Rattle.syntax_tree.specs.Syntax.{Program}
+use Rattle.typed_scopes.specs.Named.{IsNamed}
 use Rattle.typed_scopes.specs.Scopes.{IsScoped}
 use Rattle.typed_tree.specs.Syntax as typed
 use Rattle.name_rules.specs.Resolved.{TypedOf}
@@ -11,3 +12,8 @@ use Rattle.name_rules.specs.declared.scope.Names.{Names}
 -- main procedure that are declared before it.
 abbrev pub ScopedProgramsLaw : Type 0
 ScopedProgramsLaw = (names : Names) (text : Program) (program : typed.Program) → TypedOf names text ≡ Some program → (shown : ℕ → Entity → Bool) × IsScoped program shown
+
+-- All of that is so: no exit leaves a body, no array is empty, each object is declared once, and parallel constructs have numbers
+-- of their own, from the outside in.
+abbrev pub NamedProgramsLaw : Type 0
+NamedProgramsLaw = (names : Names) (text : Program) (program : typed.Program) → TypedOf names text ≡ Some program → (shown : ℕ → Entity → Bool) × IsNamed program shown

@@ -12,7 +12,7 @@ use Rattle.typed_tree.specs.declared.expressions.Reducer.TheVariants.{Operator, 
 use Rattle.typed_tree.specs.declared.program.Formal.{Formal}
 use Rattle.typed_tree.specs.declared.program.Mode.{Mode}
 use Rattle.typed_tree.specs.declared.program.Mode.TheVariants as mode
-use Rattle.typed_tree.specs.Syntax.{Expr, Static, Variable, Constant, Parameter, Target, Group, Unary, Binary, AndThen, OrElse, Relation, Membership, If, Call, Convert, Reduction, Optional, Absent, Present, Selections, Whole, Field, Index, Actuals, NoActual, In, InOut, Out, CompositeInOut, CompositeOut, Value, Number, Cells, Composite, WholeVariable, WholeConstant, WholeTarget, CompositeIf, Aggregate, Associations, NoAssociation, Association, Iteration, Range, Components, Chunk, NoChunk, Count, Each, Pieces, NoPiece, Text, Image, Padded, Decls, NoDecl, DeclareDefault, DeclareVariable, DeclareConstant, Mentions, Stmt, Null, Assign, CallProcedure, Exit, Return, ReturnValue, Raise, Reraise, IfThen, Case, Loop, For, ParallelFor, Parallel, Block, Put, Get, Stmts, End, Then, Alternatives, NoAlternative, Alternative, Arms, NoArm, Arm, Handled, Others, Handlers, NoHandler, Handler, Sub, Program}
+use Rattle.typed_tree.specs.Syntax.{Expr, Static, Variable, Constant, Parameter, Target, Group, Unary, Binary, AndThen, OrElse, Relation, Membership, If, Call, Convert, Reduction, Exprs, NoExpr, AlsoExpr, Optional, Absent, Present, Selections, Whole, Field, Index, Actuals, NoActual, In, InOut, Out, CompositeInOut, CompositeOut, Value, Number, Cells, Composite, WholeVariable, WholeConstant, WholeTarget, CompositeIf, Aggregate, Associations, NoAssociation, Association, Iteration, Range, Components, Chunk, NoChunk, Count, Each, Pieces, NoPiece, Text, Image, Padded, Decls, NoDecl, DeclareDefault, DeclareVariable, DeclareConstant, Mentions, Stmt, Null, Assign, CallProcedure, Exit, Return, ReturnValue, Raise, Reraise, IfThen, Case, Loop, For, ParallelFor, Parallel, Block, Put, Get, Stmts, End, Then, Alternatives, NoAlternative, Alternative, Arms, NoArm, Arm, Handled, Others, Handlers, NoHandler, Handler, Sub, Program}
 use Rattle.ada_meaning.specs.Meaning.{sub_at, object_layout, arms_of, most_threads}
 use Rattle.ada_meaning.specs.Shapes.{cells_of}
 
@@ -128,7 +128,7 @@ module _ (program : Program) (shown : ℕ → Entity → Bool) where
 
   abbrev mutual
     pub ScopedExpr : Around → Expr → Type 0
-    ScopedExpr v (Static at value literal mentions) = Unit {0}
+    ScopedExpr v (Static at value literal mentions) = ScopedExprs v mentions
     ScopedExpr v (Variable at from selections scalar) = VariableSeen v from × ScopedSelections v selections
     ScopedExpr v (Constant at from selections scalar) = ConstantSeen v from × ScopedSelections v selections
     ScopedExpr v (Parameter at k) = v.parameter k ≡ true
@@ -146,6 +146,11 @@ module _ (program : Program) (shown : ℕ → Entity → Bool) where
     ScopedExpr v (Reduction at attribute by initial site chunk iteration value) =
         ScopedExpr v initial × ScopedChunk v chunk × ScopedReducer v by × IsFolded site chunk iteration
         × ScopedIteration v (with_chunk chunk v) iteration (λ u. ScopedExpr u value)
+
+    -- text that is mentioned and isn't evaluated is in scope, too (4.1.4, 8.2)
+    pub ScopedExprs : Around → Exprs → Type 0
+    ScopedExprs v NoExpr = Unit {0}
+    ScopedExprs v (AlsoExpr e es) = ScopedExpr v e × ScopedExprs v es
 
     pub ScopedOptional : Around → Optional → Type 0
     ScopedOptional v Absent = Unit {0}
@@ -181,7 +186,7 @@ module _ (program : Program) (shown : ℕ → Entity → Bool) where
     pub ScopedAssociations : Around → ℕ → Associations → Type 0
     ScopedAssociations v n NoAssociation = Unit {0}
     ScopedAssociations v n (Association runs iterated mentions value rest) =
-        IsGiven iterated runs × ((m : ℕ) × LieWithin n m runs × ScopedValue (with_index iterated v) m value) × ScopedAssociations v n rest
+        IsGiven iterated runs × ScopedExprs v mentions × ((m : ℕ) × LieWithin n m runs × ScopedValue (with_index iterated v) m value) × ScopedAssociations v n rest
 
     -- an iteration, with its body; the filter and the body have its parameter, and that of the chunks
     pub ScopedIteration : Around → Around → Iteration → (Around → Type 0) → Type 0
@@ -212,7 +217,7 @@ module _ (program : Program) (shown : ℕ → Entity → Bool) where
   ScopedPieces v NoPiece = Unit {0}
   ScopedPieces v (Text bytes rest) = ScopedPieces v rest
   ScopedPieces v (Image class e rest) = ScopedExpr v e × ScopedPieces v rest
-  ScopedPieces v (Padded class e (Static at value literal mentions) rest) = ScopedExpr v e × ScopedPieces v rest
+  ScopedPieces v (Padded class e (Static at value literal mentions) rest) = ScopedExpr v e × ScopedExprs v mentions × ScopedPieces v rest
   ScopedPieces v (Padded class e most rest) = ⊥
 
   -- declarations, with what is in their scope (3.1); none is of an object that is in scope already
@@ -221,7 +226,7 @@ module _ (program : Program) (shown : ℕ → Entity → Bool) where
   ScopedDecls v (DeclareDefault x more) body = (v.taken (VariableOf x) ≡ false) × ScopedDecls (with_object (VariableOf x) v) more body
   ScopedDecls v (DeclareVariable x initial more) body = (v.taken (VariableOf x) ≡ false) × ScopedValue v (object_cells program x) initial × ScopedDecls (with_object (VariableOf x) v) more body
   ScopedDecls v (DeclareConstant x initial more) body = (v.taken (ConstantOf x) ≡ false) × ScopedValue v (object_cells program x) initial × ScopedDecls (with_object (ConstantOf x) v) more body
-  ScopedDecls v (Mentions es more) body = ScopedDecls v more body
+  ScopedDecls v (Mentions es more) body = ScopedExprs v es × ScopedDecls v more body
 
   -- those of the main procedure
   abbrev pub ScopedMain : Around → Decls → (Around → Type 0) → Type 0
@@ -229,7 +234,7 @@ module _ (program : Program) (shown : ℕ → Entity → Bool) where
   ScopedMain v (DeclareDefault x more) body = (v.taken (VariableOf x) ≡ false) × ScopedMain (with_outer (VariableOf x) v) more body
   ScopedMain v (DeclareVariable x initial more) body = (v.taken (VariableOf x) ≡ false) × ScopedValue v (object_cells program x) initial × ScopedMain (with_outer (VariableOf x) v) more body
   ScopedMain v (DeclareConstant x initial more) body = (v.taken (ConstantOf x) ≡ false) × ScopedValue v (object_cells program x) initial × ScopedMain (with_outer (ConstantOf x) v) more body
-  ScopedMain v (Mentions es more) body = ScopedMain v more body
+  ScopedMain v (Mentions es more) body = ScopedExprs v es × ScopedMain v more body
 
   abbrev mutual
     pub ScopedStmt : Around → Stmt → Type 0
@@ -258,7 +263,7 @@ module _ (program : Program) (shown : ℕ → Entity → Bool) where
 
     pub ScopedAlternatives : Around → Alternatives → Type 0
     ScopedAlternatives v NoAlternative = Unit {0}
-    ScopedAlternatives v (Alternative others choices mentions stmts rest) = IsLast others rest × ScopedAll v stmts × ScopedAlternatives v rest
+    ScopedAlternatives v (Alternative others choices mentions stmts rest) = IsLast others rest × ScopedExprs v mentions × ScopedAll v stmts × ScopedAlternatives v rest
 
     pub ScopedArms : Around → Arms → Type 0
     ScopedArms v NoArm = Unit {0}
