@@ -152,7 +152,7 @@ in_shape now (Dimension low high u) (s ∷ ss) n (v, m, b, f, e, h) = let l = in
 
 -- from steps to coordinates
 
-component_size : (t : Shape) (d n : ℕ) (u : Shape) → ComponentAt t d n u → size t ≡ n * size u
+pub component_size : (t : Shape) (d n : ℕ) (u : Shape) → ComponentAt t d n u → size t ≡ n * size u
 component_size t zero n u h = ap size (sym h.1) ∙ sym (mul_comm n (size u) ∙ ap (λ z. size u * z) h.0 ∙ mul-one (size u))
 component_size Single (suc d) n u h = absurd h
 component_size (Record us) (suc d) n u h = absurd h
@@ -203,7 +203,7 @@ item_fits : (now : Now) (judged : Bool) (f t : ℕ) → IsItem now judged f t �
 item_fits now false f t h v = tt
 item_fits now true f t h v = subst (λ z. Loose z (pos 0) v) (sym h.0) tt
 
-enters_item : (t : Shape) (judged : Bool) (n stride d : ℕ) (u : Shape) → Enters t (ItemStep judged n stride d) u → ComponentAt t d n u × (stride ≡ size u)
+pub enters_item : (t : Shape) (judged : Bool) (n stride d : ℕ) (u : Shape) → Enters t (ItemStep judged n stride d) u → ComponentAt t d n u × (stride ≡ size u)
 enters_item Single judged n stride d u e = e
 enters_item (Record us) judged n stride d u e = e
 enters_item (Dimension low high w) judged n stride d u e = e
@@ -239,7 +239,7 @@ HasLoop [] = ⊥
 HasLoop (LoopIndex d ∷ ss) = Unit {0}
 HasLoop (s ∷ ss) = HasLoop ss
 
-loop_somewhere : (ss ts : List Selector) → HasLoop (ss ++ ts) → HasLoop ss ⊎ HasLoop ts
+pub loop_somewhere : (ss ts : List Selector) → HasLoop (ss ++ ts) → HasLoop ss ⊎ HasLoop ts
 loop_somewhere [] ts h = inr h
 loop_somewhere (LoopIndex d ∷ ss) ts h = inl tt
 loop_somewhere (At k ∷ ss) ts h = loop_somewhere ss ts h
@@ -247,7 +247,7 @@ loop_somewhere (Fixed k ∷ ss) ts h = loop_somewhere ss ts h
 loop_somewhere (ChunkIndex k ∷ ss) ts h = loop_somewhere ss ts h
 loop_somewhere (Any ∷ ss) ts h = loop_somewhere ss ts h
 
-no_loop : (d : ℕ) → HasLoop (replicate d Any) → ⊥
+pub no_loop : (d : ℕ) → HasLoop (replicate d Any) → ⊥
 no_loop zero h = h
 no_loop (suc d) h = no_loop d h
 

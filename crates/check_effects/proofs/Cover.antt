@@ -5,7 +5,7 @@ use Rattle.ada_base.specs.Image.{padded}
 use Rattle.behaviours.specs.Doings.{through, folded}
 use Rattle.behaviours.specs.Paths.{Leave, Exits, Returns, Raises, Entity, VariableOf, ConstantOf, Region, Everywhere, Here, Instance}
 use Rattle.behaviours.specs.Events.{Keeps, Puts}
-use Rattle.behaviours.specs.Joins.{Now, Site, deal}
+use Rattle.behaviours.specs.Joins.{Now, Share, Site, deal}
 use Rattle.behaviours.specs.Behaviours.{Behaviour, Asks}
 use Rattle.ada_meaning.specs.Formed.{width, composite_width}
 use Rattle.std.proofs.Math.IntN.{neg_ℤ, neg_ℤ-neg_ℤ, +ℤ-neg_ℤ_cancel, +ℤ_comm, +ℤ_idr}
@@ -41,7 +41,7 @@ use Rattle.check_effects.proofs.Distances.{there}
 use Rattle.check_effects.proofs.Good.{none_some, some_same, Allowed, MayTouch, Can, Good, Placed, Roomy, Grown, with_object, called, ret_good, leaves_good, spent_good, checks_good, emits_good, look_good, turn_good, recalls_good, takes_good, reads_good, writes_good, choose_good, bind_good, handles_good, through_good, onto_good, elaborates_good, apart_good}
 use Rattle.check_effects.proofs.Teams.{sum, team_good}
 use Rattle.check_effects.proofs.Scenes.{Tie, Suits, leads_append, suits_unknown, suits_forget, suits_inside, suits_handled, suits_target, suits_hide, suits_iterated, suits_item, suits_loop, suits_chunk, suits_root, of_ret, of_leaves, of_bind, of_checks, of_apart, of_elaborates, one_of, Into, part, Exact, exact}
-use Rattle.check_effects.specs.Covered.{site_of, arm_of, AreDistinct}
+use Rattle.check_effects.specs.Covered.{site_of, arm_of, AreDistinct, Items, ItemsLie, items_in, items_of}
 use Rattle.check_effects.proofs.Counting.{plus_zero, plus_suc, sum_evens, sum_without_zeros, BackFine, AllBack, Fitted, AllFitted, FitSoFar, length_laid, length_zeros, le_left, le_right, no_more, all_back, one_more, fit_more, fit_all}
 use Rattle.check_effects.proofs.Entering.{CallInto, call_into, touched, touched_one, grown_into, more_into, constant_into}
 use Rattle.check_effects.proofs.Separation.{TeamLaw}
@@ -419,6 +419,14 @@ module _ (program : Program) (fine : Construct → Type 0) where
         pub suits : (j i : ℕ) → i < c.count → Suits (now j i) (judging chunk it r) (c.bound i (k.bound (number k.even j) env))
         pub apart : (j l i m : ℕ) → (j ≡ l → ⊥) → (i ≡ m → ⊥) → Distinct (now j i) (now l m)
         pub same : (j i : ℕ) → now j i ≡ Meaning.now_of chunk it j i (k.bound (number k.even j) env) (c.bound i (k.bound (number k.even j) env))
+        pub items : (b : Share) → b.first + b.size ≤ c.count → ItemsLie (items_in it r) now b
+
+      same_items : (t : Option Items) (now then : ℕ → ℕ → Now) (b : Share) → ((j i : ℕ) → now j i ≡ then j i) → ItemsLie t now b → ItemsLie t then b
+      same_items None now then b same h = tt
+      same_items (Some t) now then b same (o, h) = (
+        o,
+        λ i lo hi. let (lt, leads, first) = h i lo hi in (lt, subst (λ z. Leads z 0 t.array.steps o) (same b.number i) leads, ap (λ (z : Now). z.first) (sym (same b.number i)) ∙ first),
+      )
 
       -- by what the parameters are
       module _ (chunk : Chunk) (it : Iteration) (r : Roles) (env : Env) (k : Chunking) (c : Course) (number : Bool → ℕ → ℕ) (J : Judges chunk it r env k c number) where
@@ -430,6 +438,9 @@ module _ (program : Program) (fine : Construct → Type 0) where
 
         actual_apart : AreDistinct actual
         actual_apart j l i m nj ni = subst (λ z. Distinct (actual j i) z) (J.same l m) (subst (λ z. Distinct z (J.now l m)) (J.same j i) (J.apart j l i m nj ni))
+
+        actual_items : (b : Share) → b.first + b.size ≤ c.count → ItemsLie (items_in it r) actual b
+        actual_items b le = same_items (items_in it r) J.now actual b J.same (J.items b le)
 
       counts : (i k : ℕ) → pos i ≡ pos k → i ≡ k
       counts i k e = cc
@@ -477,6 +488,7 @@ module _ (program : Program) (fine : Construct → Type 0) where
             same = λ j i.
                 subst (λ (z : Course). record { loop = Some (cond reverse (b.0 -ℤ pos i) (a.0 +ℤ pos i)); chunk = v.0 +ℤ pos j; first = 0; size = 0 } ≡ Meaning.now_of chunk (Range x reverse low high check filter) j i (k.bound (number k.even j) (inside s.env)) (z.bound i (k.bound (number k.even j) (inside s.env)))) (sym e)
                 (ap₂ (λ (l : ℤ) (d : ℤ). let n : Now = record { loop = Some l; chunk = d; first = 0; size = 0 } in n) (own_value x (cond reverse (b.0 -ℤ pos i) (a.0 +ℤ pos i)) ((k.bound (number k.even j) (inside s.env)).parameter x)) (v.2 j (inside s.env)));
+            items = λ b le. tt;
           }
       judges s chunk (Components x constant at from selections count stride dimensions filter) k c number own can can' =
           let v = chunk_from (inside s.env) chunk k number own can in
@@ -494,8 +506,14 @@ module _ (program : Program) (fine : Construct → Type 0) where
             same = λ j i.
                 subst (λ (z : Course). at_item j i ≡ Meaning.now_of chunk (Components x constant at from selections count stride dimensions filter) j i (k.bound (number k.even j) (inside s.env)) (z.bound i (k.bound (number k.even j) (inside s.env)))) (sym e)
                 (ap₂ (λ (f : ℕ) (d : ℤ). let n : Now = record { loop = cond constant (Some (pos i)) None; chunk = d; first = f; size = stride } in n) (own_item constant x (moved a.0 (i * stride)) (k.bound (number k.even j) (inside s.env))) (v.2 j (inside s.env)));
+            items = λ b le. lie constant at_item a.0 (λ j i. found (at_item j i) constant a.0 a.1) (λ j i. refl) b (subst (λ (z : Course). b.first + b.size ≤ z.count) e le);
           }
         where
+          lie : (constant : Bool) (now : ℕ → ℕ → Now) (p : ObjectPart) → ((j i : ℕ) → constant ≡ false → Tie (now j i) (name (forget s.roles) from selections) p) → ((j i : ℕ) → (now j i).first ≡ p.offset + i * stride) → (b : Share) → b.first + b.size ≤ count
+              → ItemsLie (items_in (Components x constant at from selections count stride dimensions filter) (forget s.roles)) now b
+          lie true now p tied first b le = tt
+          lie false now p tied first b le = (p.offset, λ i lo hi. ((let l = le in omega arith), (tied b.number i refl).1, first b.number i))
+
           base : (t : Now) → Suits t (forget s.roles) (inside s.env)
           base t = suits_forget s.now t s.roles (inside s.env) (suits_inside s.now s.roles s.env s.suits)
 
@@ -527,11 +545,11 @@ module _ (program : Program) (fine : Construct → Type 0) where
 
       -- a construct whose threads are judged apart from the text around it
       construct : {A : Type 0} (s : Scene) (site : Site) (con : Construct) → site_of con ≡ site.number → ((j l i m : ℕ) → (j ≡ l → ⊥) → (i ≡ m → ⊥) → Compared program con (arm_of con j i) (arm_of con l m)) → (s.asks → fine con)
-          → AreDistinct site.now → (first_value : A) (f : ℕ → ℕ → A → Behaviour Instance A) (total : ℕ) (ns : List ℕ) → sum ns ≤ total
+          → AreDistinct site.now → (first_value : A) (f : ℕ → ℕ → A → Behaviour Instance A) (total : ℕ) (ns : List ℕ) → sum ns ≤ total → ((b : Share) → b.first + b.size ≤ total → ItemsLie (items_of con) site.now b)
           → ((j i : ℕ) (a : A) → i < total → Good program ⊥ (Exact program (site.now j i) (InThread program.subtypes con (arm_of con j i))) (f j i a)) → ((j i : ℕ) (a : A) → i < total → Fine s (f j i a))
           → Fine s (Behaviours.par demands one site (deal 0 0 ns) (λ c. Behaviours.within c.number (through (Behaviours.doings Instance) c.first c.size first_value (λ i a. f c.number i a))))
-      construct {A} s site con same compared good distinct first_value f total ns bound mine around =
-          team_good program s.asks first_value f total demands s.allowed admits limit cuts one site ns bound (λ z b t p lives. law A first_value f site con same (good z) compared distinct total ns bound mine b t p lives) around
+      construct {A} s site con same compared good distinct first_value f total ns bound items mine around =
+          team_good program s.asks first_value f total demands s.allowed admits limit cuts one site ns bound (λ z b t p lives. law A first_value f site con same (good z) compared distinct total ns bound items mine b t p lives) around
 
       mutual
         pub eval_good : (e : Expr) (s : Scene) → Has s (InExpr program.subtypes s.roles e) → Fine s (Meaning.eval ops limit program calls e s.env)
@@ -567,7 +585,7 @@ module _ (program : Program) (fine : Construct → Type 0) where
             seq s (construct s (Meaning.site_at site chunk iteration (value_cut_of c d.count) c d (inside s.env)) con refl (λ j l i m nj ni. tt) (λ z. k.clean z con (inl refl)) (actual_apart chunk iteration (forget s.roles) (inside s.env) c d number J) start
             (λ j i so_far. Behaviours.◌>>=◌ (Meaning.iterate_value ops (Meaning.filtered ops limit program calls iteration (d.bound i (c.bound (chunk_of (value_cut_of c d.count) j) (inside s.env)))) (Meaning.eval ops limit program calls value (d.bound i (c.bound (chunk_of (value_cut_of c d.count) j) (inside s.env)))))
             (folded (Behaviours.doings Instance) (reduce (Behaviours.doings Instance) Runs.checks by attribute (Meaning.fold_call ops limit program calls by (suc s.env.nested))) so_far))
-            d.count (Runs.sizes_of Instance this admits demands limit cuts one (value_cut_of c d.count)) (value_cut_sum c.even c.most d.count)
+            d.count (Runs.sizes_of Instance this admits demands limit cuts one (value_cut_of c d.count)) (value_cut_sum c.even c.most d.count) (actual_items chunk iteration (forget s.roles) (inside s.env) c d number J)
             (λ j i so_far lt. let t = judged (now j i) (judging chunk iteration (forget s.roles)) (d.bound i (c.bound (chunk_of (value_cut_of c d.count) j) (inside s.env))) (actual_suits chunk iteration (forget s.roles) (inside s.env) c d number J j i lt) (InThread program.subtypes con j) in
             let x = exact program fine (now j i) (InThread program.subtypes con j) in
             seq t (iterates_value t (filter_good iteration t (part program fine (λ i h. inr (inl h)) x)) (eval_good value t (part program fine (λ i h. inr (inr h)) x)))
@@ -713,7 +731,7 @@ module _ (program : Program) (fine : Construct → Type 0) where
             let now = actual chunk iteration (forget s.roles) (inside s.env) c d dealt J in
             caught s (exits number) (seq s (construct s (Meaning.site_at site chunk iteration (cut_of c d.count) c d (inside s.env)) con refl (λ j l i m nj ni. tt) (λ z. k.clean z con (inl refl)) (actual_apart chunk iteration (forget s.roles) (inside s.env) c d dealt J) tt
             (λ j i u. Meaning.iterate ops (Meaning.filtered ops limit program calls iteration (d.bound i (c.bound (chunk_of (cut_of c d.count) j) (inside s.env)))) (Meaning.exec_all ops limit program calls stmts (d.bound i (c.bound (chunk_of (cut_of c d.count) j) (inside s.env)))))
-            d.count (Runs.sizes_of Instance this admits demands limit cuts one (cut_of c d.count)) (cut_sum c.even c.most d.count)
+            d.count (Runs.sizes_of Instance this admits demands limit cuts one (cut_of c d.count)) (cut_sum c.even c.most d.count) (actual_items chunk iteration (forget s.roles) (inside s.env) c d dealt J)
             (λ j i u lt. let t = judged (now j i) (judging chunk iteration (forget s.roles)) (d.bound i (c.bound (chunk_of (cut_of c d.count) j) (inside s.env))) (actual_suits chunk iteration (forget s.roles) (inside s.env) c d dealt J j i lt) (InThread program.subtypes con j) in
             let x = exact program fine (now j i) (InThread program.subtypes con j) in
             iterates t (filter_good iteration t (part program fine (λ i h. inl h) x)) (exec_all_good stmts t (part program fine (λ i h. inr h) x)))
@@ -723,7 +741,7 @@ module _ (program : Program) (fine : Construct → Type 0) where
         exec_good (Parallel site number arms) s k =
             seq s (opens s) (λ _ _. seq s (threads_good number (inner s) (part program fine (λ i h. inr (inl h)) k)) (λ n _.
             let con = BlockOf site (forget s.roles) number arms in
-            seq s (construct s (Meaning.block_site site) con refl (λ j l i m nj ni. ni) (λ z. k.clean z con (inl refl)) (λ j l i m nj ni. record { chunk = λ q. nj (counts j l q); loops = λ q. ni (counts i m q) }) tt (λ j i u. Meaning.exec_arm ops limit program calls arms i (inside s.env)) (arms_of arms) _ (sum_evens (arms_of arms) (min n (arms_of arms)))
+            seq s (construct s (Meaning.block_site site) con refl (λ j l i m nj ni. ni) (λ z. k.clean z con (inl refl)) (λ j l i m nj ni. record { chunk = λ q. nj (counts j l q); loops = λ q. ni (counts i m q) }) tt (λ j i u. Meaning.exec_arm ops limit program calls arms i (inside s.env)) (arms_of arms) _ (sum_evens (arms_of arms) (min n (arms_of arms))) (λ b le. tt)
             (λ j i u lt. let t = judged (at_arm j i) (forget s.roles) (inside s.env) (suits_forget s.now (at_arm j i) s.roles (inside s.env) (suits_inside s.now s.roles s.env s.suits)) (InThread program.subtypes con i) in
             exec_arm_good arms i t (exact program fine (at_arm j i) (InThread program.subtypes con i)))
             (λ j i u lt. exec_arm_good arms i (inner s) (part program fine (λ x h. inr (inr (i, h))) k)))

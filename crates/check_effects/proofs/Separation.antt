@@ -9,7 +9,7 @@ use Rattle.ada_meaning.specs.Shapes.{Shape, object_shape}
 use Rattle.typed_tree.specs.Syntax.{Program}
 use Rattle.check_effects.specs.Effects.{Access, Construct, Holds, InThread}
 use Rattle.check_effects.specs.Conflicts.{LiesUnder, Distinct, LoopsDiffer, Compared, AreSeparated, IsLaid, IsClean, InProgram, Follows, path}
-use Rattle.check_effects.specs.Covered.{site_of, arm_of, AreDistinct, IsSeen, AllCovered, EachCovered, asks_covered}
+use Rattle.check_effects.specs.Covered.{site_of, arm_of, AreDistinct, IsSeen, AllCovered, EachCovered, ItemsLie, items_of, asks_covered}
 use Rattle.check_effects.proofs.Good.{Allowed, Good, Lives, lives_on, Seen, Okay, Each}
 use Rattle.check_effects.proofs.Teams.{Either, sum, under, Theirs, theirs, one_of, asked}
 use Rattle.behaviours.specs.Behaviours
@@ -68,7 +68,7 @@ abbrev pub TeamLaw : Program → (Construct → Type 0) → Asks Instance → Ty
 TeamLaw program fine demands =
     (A : Type 0) (first_value : A) (f : ℕ → ℕ → A → Behaviour Instance A) (site : Site) (con : Construct) → site_of con ≡ site.number → fine con
     → ((j l i m : ℕ) → (j ≡ l → ⊥) → (i ≡ m → ⊥) → Compared program con (arm_of con j i) (arm_of con l m))
-    → AreDistinct site.now → (total : ℕ) (ns : List ℕ) → sum ns ≤ total
+    → AreDistinct site.now → (total : ℕ) (ns : List ℕ) → sum ns ≤ total → ((c : Share) → c.first + c.size ≤ total → ItemsLie (items_of con) site.now c)
     → ((j i : ℕ) (a : A) → i < total → Good program ⊥ (Exact program (site.now j i) (InThread program.subtypes con (arm_of con j i))) (f j i a))
     → (b : Bool) (s : Scope Instance) (p : Path Instance) → Lives program s p
     → demands b p.name site p.constructs s (deal 0 0 ns) (λ j tr. MayTrace (within j.number (through (Behaviours.doings Instance) j.first j.size first_value (λ i a. f j.number i a))) s p tr)
@@ -88,7 +88,7 @@ module _ (program : Program) where
 
   -- threads of a clean construct have no races
   pub apart_law : TeamLaw program (IsClean program) asks_apart
-  apart_law A first_value f site con same clean compared distinct total ns bound mine b s p lives =
+  apart_law A first_value f site con same clean compared distinct total ns bound items mine b s p lives =
       let now = site.now in
       asked program (Unit {0}) first_value f total (λ j i. Exact program (now j i) (InThread program.subtypes con (arm_of con j i))) mine
       (λ z j l i m w x n nj ni g h. threads_separated con clean (arm_of con j i) (arm_of con l m) (compared j l i m nj ni) (now j i) (now l m) (distinct j l i m nj ni) w x n g h)
@@ -116,15 +116,16 @@ module _ (program : Program) where
     covered s p c (Puts x ∷ tr) h = (tt, covered s p c tr h.1)
     covered s p c (Looks ∷ tr) h = (tt, covered s p c tr h.1)
 
-    each_covered : (s : Scope Instance) (p : Path Instance) → Lives program s p → (number first : ℕ) (ns : List ℕ) → first + sum ns ≤ total
+    each_covered : ((c : Share) → c.first + c.size ≤ total → ItemsLie (items_of con) now c) → (s : Scope Instance) (p : Path Instance) → Lives program s p → (number first : ℕ) (ns : List ℕ) → first + sum ns ≤ total
         → EachCovered program con now p.name p.constructs s (deal number first ns) (λ j tr. MayTrace (within j.number (through (Behaviours.doings Instance) j.first j.size first_value (λ i a. f j.number i a))) s p tr)
-    each_covered s p lives number first [] le = tt
-    each_covered s p lives number first (n ∷ ns) le =
+    each_covered items s p lives number first [] le = tt
+    each_covered items s p lives number first (n ∷ ns) le =
         let c : Share = record { number = number; first = first; size = n } in (
           (λ tr m. let run = m.run in covered s p c tr ((theirs program ⊥ first_value f total (λ j i. Exact program (now j i) (InThread program.subtypes con (arm_of con j i))) mine c (omega arith)).covers s (enter number p) tr m.early run.0 m.end (lives_on program s p (enter number p) (goes_enter number p) lives) run.2).0),
-          each_covered s p lives (suc number) (first + n) ns (omega arith),
+          items c (omega arith),
+          each_covered items s p lives (suc number) (first + n) ns (omega arith),
         )
 
   pub covered_law : TeamLaw program (λ k. InProgram program (Holds k)) (asks_covered program)
-  covered_law A first_value f site con same held compared distinct total ns bound mine b s p lives =
-      (con, held, same, distinct, each_covered first_value f con site.now total mine s p lives 0 0 ns (omega arith))
+  covered_law A first_value f site con same held compared distinct total ns bound items mine b s p lives =
+      (con, held, same, distinct, each_covered first_value f con site.now total mine items s p lives 0 0 ns (omega arith))

@@ -12,7 +12,7 @@ use Rattle.ada_meaning.proofs.Lays.{Mode, Tie, place, Tied, Visible, Seen, Found
 use Rattle.ada_meaning.proofs.Simulates.{Acts, Shows, AllShow}
 use Rattle.ada_meaning.proofs.Visits.{IsShare, AllKnown, LawFor, program_visits}
 use Rattle.check_effects.specs.Effects.{Construct}
-use Rattle.check_effects.specs.Covered.{IsOwn, IsTouched, IsSeen, IsFound, AllCovered, EachCovered, asks_covered}
+use Rattle.check_effects.specs.Covered.{IsOwn, IsTouched, IsSeen, IsFound, AllCovered, EachCovered, ItemsLie, items_of, asks_covered}
 use Rattle.check_effects.specs.Touching.{LiesAt, IsTouchCovered, AllTouchesCovered, AllThreadsCovered, IsTeamCovered, TouchLaw}
 use Rattle.check_effects.proofs.Races.{all_covered}
 
@@ -96,7 +96,12 @@ module _ (input : List ℕ) (b : Mode) (ls gs : List Tie) (s : State) (t : Scope
 covered_share : (program : Program) (k : Construct) (now : ℕ → ℕ → Now) (p : Path Instance) (t : Scope Instance) (may : Share → Trace Instance → Type 0) (js : List Share) (j : Share) → EachCovered program k now p.name p.constructs t js may → IsShare j js → (tr : Trace Instance) → may j tr → AllCovered program k now p.name p.constructs t j tr
 covered_share program k now p t may [] j each i tr m = absurd i
 covered_share program k now p t may (l ∷ js) j each (inl e) tr m = subst (λ z. AllCovered program k now p.name p.constructs t z tr) (sym e) (each.0 tr (subst (λ z. may z tr) e m))
-covered_share program k now p t may (l ∷ js) j each (inr i) tr m = covered_share program k now p t may js j each.1 i tr m
+covered_share program k now p t may (l ∷ js) j each (inr i) tr m = covered_share program k now p t may js j each.2 i tr m
+
+items_share : (program : Program) (k : Construct) (now : ℕ → ℕ → Now) (p : Path Instance) (t : Scope Instance) (may : Share → Trace Instance → Type 0) (js : List Share) (j : Share) → EachCovered program k now p.name p.constructs t js may → IsShare j js → ItemsLie (items_of k) now j
+items_share program k now p t may [] j each i = absurd i
+items_share program k now p t may (l ∷ js) j each (inl e) = subst (λ z. ItemsLie (items_of k) now z) (sym e) each.1
+items_share program k now p t may (l ∷ js) j each (inr i) = items_share program k now p t may js j each.2 i
 
 covered_law_for : (program : Program) (input : List ℕ) → LawFor input (asks_covered program) (IsTeamCovered program)
 covered_law_for program input b ls gs s t p n v h ordered site js may (k, held, same, distinct, each) bs known u = (k, held, same, distinct, go bs known)
@@ -105,6 +110,7 @@ covered_law_for program input b ls gs s t p n v h ordered site js may (k, held, 
     go [] known = tt
     go (c ∷ more) known = (
       covered_touches input b ls gs s t p n v h program k (record { site = site; begun = s; ended = u; threads = bs }) refl c.share known.0.1.0 (covered_share program k site.now p t may js c.share each known.0.0 known.0.1.0 known.0.1.1) c.touches known.0.1.2,
+      items_share program k site.now p t may js c.share each known.0.0,
       go more known.1,
     )
 

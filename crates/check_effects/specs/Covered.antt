@@ -1,14 +1,14 @@
 -- What the threads of parallel constructs touch lies under the effects of their texts.
-use Rattle.std.specs.Prelude.{◌≡◌, ℕ, ◌+◌, ◌<◌, ◌≤◌, List, [], ◌∷◌, ◌++◌, ◌⊎◌, Some, Bool, true, false}
-use Rattle.typed_tree.specs.Syntax.{Program}
+use Rattle.std.specs.Prelude.{◌≡◌, ℕ, ◌+◌, ◌*◌, ◌<◌, ◌≤◌, List, [], ◌∷◌, ◌++◌, ◌⊎◌, Option, Some, None, Bool, true, false}
+use Rattle.typed_tree.specs.Syntax.{Iteration, Range, Components, Program}
 use Rattle.behaviours.specs.Paths.{Entity, VariableOf, ConstantOf, ThreadName, Instance, Scope, find, within_extent, start, nothing_visible}
 use Rattle.behaviours.specs.Events.{Event, Reads, Writes, Trace}
 use Rattle.behaviours.specs.Joins.{Now, Share}
 use Rattle.behaviours.specs.Behaviours.{Asks}
 use Rattle.ada_meaning.specs.Runs.{anything}
 use Rattle.ada_meaning.specs.Programs.{Setting, runs_of}
-use Rattle.check_effects.specs.Effects.{Access, Construct, LoopOf, BlockOf, ReductionOf, Holds}
-use Rattle.check_effects.specs.Conflicts.{LiesUnder, Distinct, IsThreadEffect, InProgram, IsClean}
+use Rattle.check_effects.specs.Effects.{Roles, Named, Access, Construct, LoopOf, BlockOf, ReductionOf, Holds, name}
+use Rattle.check_effects.specs.Conflicts.{Leads, LiesUnder, Distinct, IsThreadEffect, InProgram, IsClean}
 
 abbrev pub site_of : Construct → ℕ
 site_of (LoopOf site r chunk iteration stmts) = site
@@ -27,6 +27,39 @@ IsOwn who c j l = (inner : List ℕ) × (l.thread ≡ inner ++ (j ∷ c ∷ who)
 
 abbrev pub AreDistinct : (ℕ → ℕ → Now) → Type 0
 AreDistinct now = (j l i m : ℕ) → (j ≡ l → ⊥) → (i ≡ m → ⊥) → Distinct (now j i) (now l m)
+
+-- an array that is named, gone through by so many items of so many cells (5.5.2)
+pub record Items : Type 0 where
+  pub array : Named
+  pub count : ℕ
+  pub stride : ℕ
+  pub dimensions : ℕ
+
+-- the array of variables that is gone through
+abbrev pub items_in : Iteration → Roles → Option Items
+items_in (Range k reverse low high check filter) r = None
+items_in (Components k true at from selections count stride dimensions filter) r = None
+items_in (Components k false at from selections count stride dimensions filter) r = Some (record { array = name r from selections; count = count; stride = stride; dimensions = dimensions })
+
+-- an array of variables or constants is
+abbrev pub goes_through_array : Iteration → Bool
+goes_through_array (Range k reverse low high check filter) = false
+goes_through_array (Components k constant at from selections count stride dimensions filter) = true
+
+abbrev pub items_of : Construct → Option Items
+items_of (LoopOf site r chunk iteration stmts) = items_in iteration r
+items_of (BlockOf site r most arms) = None
+items_of (ReductionOf site r by chunk iteration value) = items_in iteration r
+
+abbrev pub has_items : Construct → Bool
+has_items (LoopOf site r chunk iteration stmts) = goes_through_array iteration
+has_items (BlockOf site r most arms) = false
+has_items (ReductionOf site r by chunk iteration value) = goes_through_array iteration
+
+-- in each iteration of a thread the item is the component of that number, from where the array begins
+abbrev pub ItemsLie : Option Items → (ℕ → ℕ → Now) → Share → Type 0
+ItemsLie None now j = Unit {0}
+ItemsLie (Some t) now j = (o : ℕ) × ((i : ℕ) → j.first ≤ i → i < j.first + j.size → (i < t.count) × Leads (now j.number i) 0 t.array.steps o × ((now j.number i).first ≡ o + i * t.stride))
 
 -- the instance is the object's where that is visible, or everywhere, and has a cell at the offset
 abbrev pub IsFound : Scope Instance → Entity → ℕ → Instance → Type 0
@@ -59,11 +92,11 @@ module _ (program : Program) (k : Construct) (now : ℕ → ℕ → Now) where
 
   abbrev pub EachCovered : ThreadName → (construct : ℕ) → Scope Instance → List Share → (Share → Trace Instance → Type 0) → Type 0
   EachCovered who c s [] may = Unit {0}
-  EachCovered who c s (j ∷ js) may = ((tr : Trace Instance) → may j tr → AllCovered who c s j tr) × EachCovered who c s js may
+  EachCovered who c s (j ∷ js) may = ((tr : Trace Instance) → may j tr → AllCovered who c s j tr) × ItemsLie (items_of k) now j × EachCovered who c s js may
 
 -- it is asked that what each thread touches, beside what was made in it, lies under the effects of its text in a
--- construct of that site, in iterations of its own, by what the construct's parameters are in them; and that no two
--- iterations of two threads have a parameter alike
+-- construct of that site, in iterations of its own, by what the construct's parameters are in them; that its items are those
+-- of an array that is named; and that no two iterations of two threads have a parameter alike
 abbrev pub asks_covered : Program → Asks Instance
 asks_covered program ordered who site c s js may =
     (k : Construct) × InProgram program (Holds k) × (site_of k ≡ site.number) × AreDistinct site.now × EachCovered program k site.now who c s js may

@@ -10,7 +10,7 @@ use Rattle.ada_meaning.specs.Stored.{State, Address, Kept, Touch, Thread, Team, 
 use Rattle.ada_meaning.specs.Touched.{Before, EachTeam}
 use Rattle.check_effects.specs.Effects.{Construct, Holds}
 use Rattle.check_effects.specs.Conflicts.{InProgram}
-use Rattle.check_effects.specs.Covered.{site_of, AreDistinct, IsTouched}
+use Rattle.check_effects.specs.Covered.{site_of, AreDistinct, IsTouched, ItemsLie, items_of}
 
 -- the place of a cell of an object that is visible in a state, or everywhere
 abbrev pub LiesAt : State → Entity → ℕ → Address → Type 0
@@ -27,9 +27,10 @@ AllTouchesCovered program k t j (a ∷ more) = IsTouchCovered program k t j a ×
 
 abbrev pub AllThreadsCovered : Program → Construct → Team → List Thread → Type 0
 AllThreadsCovered program k t [] = Unit {0}
-AllThreadsCovered program k t (b ∷ bs) = AllTouchesCovered program k t b.share b.touches × AllThreadsCovered program k t bs
+AllThreadsCovered program k t (b ∷ bs) = AllTouchesCovered program k t b.share b.touches × ItemsLie (items_of k) t.site.now b.share × AllThreadsCovered program k t bs
 
--- one construct of that site covers all threads of a team, and no two iterations of two threads have a parameter alike
+-- one construct of that site covers all threads of a team, by items of an array that is named, and no two iterations of two
+-- threads have a parameter alike
 abbrev pub IsTeamCovered : Program → Team → Type 0
 IsTeamCovered program t = (k : Construct) × InProgram program (Holds k) × (site_of k ≡ t.site.number) × AreDistinct t.site.now × AllThreadsCovered program k t t.threads
 

@@ -18,7 +18,7 @@ ghost use Rattle.check_effects.specs.DisjointRows.{DisjointRows, ChunksAccepted,
 /// - granted: no cell that one thread of a construct may write lies under an effect of another.
 /// - clashes: the effects of a construct are disjoint exactly where no two of them clash.
 /// - covered: in every run, consistent or not, each cell that a thread touches was made in it or lies under an effect of
-///   its text, a write under a write.
+///   its text, a write under a write; the items of a construct over an array are the components of the array that is named.
 /// - touching: what the threads of a stored run by notes touch, of the cells that were there before their construct, lies
 ///   under an effect of their texts, by what the construct's parameters are, a write under a write.
 /// - shares: no cell that one thread of a construct may write in any of its iterations lies under what another one
