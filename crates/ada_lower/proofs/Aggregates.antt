@@ -12,7 +12,7 @@ use Rattle.stack_code.specs.declared.code.Code.{Code}
 use Rattle.ada_base.specs.Cells.{Mine}
 use Rattle.stack_code.specs.Deeds.{GoesOn}
 use Rattle.ada_lower.specs.Driven.{Dyn, Fixed, Step, on, At, On, state_of, driven}
-use Rattle.ada_lower.specs.Sights.{Emit, Named, Sight, Stands, Where, iterated_sight, looped, none, one, own, taking, when_, with_parameter, ◌⨟◌}
+use Rattle.ada_lower.specs.Sights.{Emit, Named, Sight, Stands, Where, looped, none, one, own, taking, when_, with_parameter, ◌⨟◌}
 use Rattle.ada_lower.specs.Emission
 use Rattle.ada_lower.specs.Emission.{emit, selected, load, binary_instr, unary_instr, compare_instr, Shape, shapes, shapes_cells}
 use Rattle.ada_lower.specs.Fits.{Free, Keeps, Ghost, Ends, place_in, Spread, Knows, Stands as StandsFor, Holds, Fit}

@@ -17,7 +17,6 @@ use Rattle.ada_meaning.specs.Meaning.{Env, Back, Passed, Returned}
 use Rattle.stack_code.specs.declared.code.Code.{Code}
 use Rattle.stack_code.specs.declared.code.CodeSub.{CodeSub}
 use Rattle.stack_code.specs.declared.instr.Instr.{Instr}
-use Rattle.stack_code.specs.declared.instr.Instr.TheVariants as i
 use Rattle.stack_code.specs.Machine.{Goes, entered_at, failed}
 use Rattle.ada_lower.specs.Driven.{Dyn, Fixed, Step, on, state_of, driven, thrown, cut_to, At, Alike}
 use Rattle.ada_lower.proofs.Alike.{alike}

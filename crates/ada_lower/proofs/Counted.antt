@@ -10,7 +10,7 @@ use Rattle.ada_base.specs.declared.reason.Reason.{Reason}
 use Rattle.behaviours.specs.Paths.{VariableOf, ConstantOf}
 use Rattle.ada_meaning.specs.Turns.{several, is_plain_expr, is_plain, is_plain_composite, are_plain, takes_turns}
 use Rattle.ada_meaning.specs.Values.{components}
-use Rattle.ada_meaning.specs.Meaning.{object_layout, arms_of}
+use Rattle.ada_meaning.specs.Meaning.{object_layout}
 use Rattle.ada_meaning.proofs.Cells.{some_same}
 use Rattle.typed_tree.specs.declared.scalars.Class.{Class}
 use Rattle.typed_tree.specs.declared.scalars.Class.TheVariants as class
@@ -26,10 +26,9 @@ use Rattle.typed_tree.specs.declared.statements.Span.{Span}
 use Rattle.typed_tree.specs.declared.program.Field.{Field as Part}
 use Rattle.typed_tree.specs.declared.program.Site.{Site as Row}
 use Rattle.typed_tree.specs.Syntax.{Expr, Static, Variable, Constant, Parameter, Target, Group, Unary, Binary, AndThen, OrElse, Relation, Membership, If, Call, Convert, Reduction, Iteration, Range, Components, Chunk, NoChunk, Count, Each, Optional, Absent, Present, Selections, Whole, Field, Index, Actuals, NoActual, In, InOut, Out, CompositeInOut, CompositeOut, Value, Number, Cells, Composite, WholeVariable, WholeConstant, WholeTarget, CompositeIf, Aggregate, Associations, NoAssociation, Association, Pieces, NoPiece, Text, Image, Padded, Decls, NoDecl, DeclareDefault, DeclareVariable, DeclareConstant, Mentions, Stmt, Null, Assign, CallProcedure, Exit, Return, ReturnValue, Raise, Reraise, IfThen, Case, Loop, For, ParallelFor, Parallel, Block, Put, Get, Stmts, End, Then, Alternatives, NoAlternative, Alternative, Handled, Others, Reasons, Handlers, NoHandler, Handler, Arms, NoArm, Arm, Sub, Subtype, OfScalar, Array, Record, Program}
-use Rattle.typed_sites.specs.Sites.{in_number, in_site, in_expr, in_exprs, in_optional, in_selections, in_actuals, in_value, in_composite, in_associations, in_iteration, in_chunk, in_pieces, in_decls, in_stmt, in_stmts, in_alternatives, in_arms, in_handlers, in_body, in_subs, in_program, SitesAreDistinct, SitesAreListed}
+use Rattle.typed_sites.specs.Sites.{in_number, in_expr, in_exprs, in_optional, in_selections, in_actuals, in_value, in_composite, in_associations, in_iteration, in_chunk, in_pieces, in_decls, in_stmt, in_stmts, in_alternatives, in_arms, in_handlers, in_subs, in_program, SitesAreDistinct, SitesAreListed}
 use Rattle.stack_code.specs.declared.code.Around.{Around as Body}
 use Rattle.stack_code.specs.declared.code.Around.TheVariants as body
-use Rattle.stack_code.specs.declared.code.SiteKind.{SiteKind}
 use Rattle.stack_code.specs.declared.instr.Instr.{Instr}
 use Rattle.stack_code.specs.declared.instr.Instr.TheVariants as i
 use Rattle.lower_emission.specs.declared.types.Mark.{Mark}
@@ -41,10 +40,10 @@ use Rattle.lower_emission.specs.declared.types.Level.TheVariants.{Own, Around, M
 use Rattle.lower_emission.specs.declared.types.Leaving.{Leaving}
 use Rattle.lower_emission.specs.declared.types.Leaving.TheVariants.{ByReturn, ByValue, ByEnd, ByLeave}
 use Rattle.lower_emission.specs.Emits.{Emit, Nothing, One, Seq, Choose, When, Looped, Guarded, Aside, listed}
-use Rattle.lower_emission.specs.Scope.{Scope, own, taking, nested, thread_scope, with_target, with_handled, with_exit, with_entry, root_of, constant_root_of, array_root_of, none, one, ◌⨟◌, load_at, address_at, store_at, address_of}
-use Rattle.lower_emission.specs.Emission.{Shape, load_by, load_named, load_where, address, is_whole, part_of, unary_instr, binary_instr, compare_instr, negated_code, counting, bounds_code, folding, combined, doubled, filling, fillings, turned_scope, turned_low, turning, entering_next, run_steps, run_turnings, turn_height, turnings, entering, chunk_scope, ends_code, fork_code, passing, composite_width, width, cells_of}
+use Rattle.lower_emission.specs.Scope.{Scope, taking, nested, thread_scope, with_exit, with_entry, root_of, constant_root_of, array_root_of, none, one, load_at, address_at, store_at, address_of}
+use Rattle.lower_emission.specs.Emission.{load_by, load_named, load_where, address, is_whole, part_of, unary_instr, binary_instr, compare_instr, negated_code, counting, bounds_code, folding, combined, doubled, filling, fillings, turned_scope, turned_low, turning, entering_next, run_steps, run_turnings, turn_height, turnings, ends_code, passing, composite_width, width, cells_of}
 unfoldable use Rattle.lower_emission.specs.Emission.{emit, selected, passed, put_into, composed, associated, component, filtered, iterated, chunk_code, course_code, threaded}
-use Rattle.lower_emission.specs.Statements.{no_handler, is_end, assigned, chosen, has_reason, handled_by, returning, returning_value, away, exiting, handled_target, image_instr, send_instr, piece_texts, object_here, exits_of, arm_exits, exit_code, exits_code, is_own, left_code, field_defaults, default_of, defaults_within, subtype_or_none, defaulted, declared, parallel_for, arms_code, chunk_by, arm_scope, parallel_block}
+use Rattle.lower_emission.specs.Statements.{no_handler, is_end, assigned, chosen, has_reason, handled_by, returning, returning_value, away, exiting, handled_target, image_instr, send_instr, piece_texts, object_here, exits_of, arm_exits, exit_code, exits_code, is_own, left_code, field_defaults, default_of, defaults_within, subtype_or_none, defaulted, declared, arms_code, chunk_by, arm_scope}
 unfoldable use Rattle.lower_emission.specs.Statements.{back_code, piece_values, stmt, all, cases, handling, arm_codes}
 use Rattle.lower_emission.specs.Bodies as code
 use Rattle.lower_emission.specs.Programs.{is_fork, has_fork, idle_fork, idle_forks, text_in, placed_code}

@@ -27,7 +27,9 @@ use Rattle.ada_lower.specs.Bodies.{formal_named, sub_scope, sub_code, BodyStands
 use Rattle.ada_lower.specs.Fitted.{FittedStmt}
 use Rattle.ada_lower.proofs.Calls.{CallsDo}
 use Rattle.ada_lower.proofs.Bodies.{call_do}
+use Rattle.ada_lower.proofs.ExecLeaves.{call_only}
 use Rattle.ada_lower.proofs.Main.{first_dyn, program_gives}
+use Rattle.typed_scopes.specs.Outs.{AllClosed, OutAll, OutHandlers}
 
 abbrev pub four_each : ℕ → ℕ
 four_each n = 4
@@ -130,7 +132,12 @@ main_stands = (here refl, (here refl, (here refl, (here refl, (here refl, (here 
 main_fitted : FittedStmt program none_there none_main no_threads no_fork (main_scope program none_there none_main [] text four_each 3) (Block NoDecl main NoHandler)
 main_fitted = ((omega arith, ((record { unit = function; is = refl; outer = λ y n e. absurd (none-some n e); main = λ y e. e }, (integer, refl), refl, omega arith, (0, [], inl (refl, refl), refl, tt, refl)), tt)), tt)
 
+-- no exit leaves a body
+closed : AllClosed program
+closed zero sub e = subst (λ (u : Sub). OutAll (λ n. ⊥) u.body.stmts × OutHandlers (λ n. ⊥) u.body.handlers) (some_same function sub e) ((((tt, tt), tt), (tt, tt)), tt)
+closed (suc n) sub e = absurd (none-some sub e)
+
 -- and where the stored run of the program gives a value, the machine ends with its output
 pub comes : (limit : ℕ) (cuts : ℕ → ℕ → List ℕ) (slots : ℕ) (input before : List ℕ) (notes : Schedule) → let r = (Meaning.main (stored.noted_operations limit cuts) limit program).does (stored.noted_outset slots input before notes) in r.end ≡ Ok tt
     → (d : Dyn) × Finally limit code (On (record { state = begun 18 0 [] 0 0 0 None (replicate 3 (Mine (pos 0))); world = (first_dyn notes cuts 3 input before).world })) (record { how = Done None; dyn = d }) × (d.world.output ≡ r.state.output) × (d.turns ≡ r.state.turns)
-comes limit cuts slots input before notes e = let (d, a, b, g, w) = program_gives None limit cuts program code none_there none_main no_threads [] text four_each no_fork slots 3 refl (λ f fa depth all. record { forked = (λ e from to g env x s h st k en w l. absurd w); parallel = (λ t from to g env x s k u w l. absurd w) }) all_stand 18 27 main_stands main_fitted input before notes tt e in (d, a, b, g)
+comes limit cuts slots input before notes e = let (d, a, b, g, w) = program_gives None limit cuts program code none_there none_main no_threads [] text four_each no_fork slots 3 refl (call_only limit cuts program closed 1000) (λ f fa depth all. record { forked = (λ e from to g env x s h st k en w l. absurd w); parallel = (λ t from to g env x s k u w l. absurd w) }) all_stand 18 27 main_stands main_fitted input before notes tt e in (d, a, b, g)

@@ -178,7 +178,7 @@ module _ (asked : Option Program) (lent : Bool → Sight → ℕ → CodeSite �
       let all_in : (f' : Fixed) → Alike f' f → InnerDo limit cuts program globals mains epar c f' calls = (λ f' e. record { called = calls_all f' e; forked = folds_do n f' (e.1 ∙ fa) calls calls_only (λ f'' e'. calls_all f'' (e'.0 ∙ e.0, e'.1 ∙ e.1)) }) in
       site_items_does limit cuts program c globals mains epar calls f calls_only all_in x g env s k en room h st chunk by attribute at cs site site_at kind four entry initial filter value
       (finishes limit cuts program c globals mains epar calls f all_in x g env s k en room h st chunk by attribute cs site site_at kind four entry initial (values_of limit cuts program c globals mains epar calls filter value) wk)
-      within five {e = e} p constant a r selections count stride dimensions (λ start cl ch q a0 k told gg kk part. lending.item_folds f fa s env site cs here chunk p constant a r selections count stride dimensions filter k start cl ch q a0 told gg kk part) wi wc is reach ws wf wb wv from to l
+      within five {e = e} p constant a r selections count stride dimensions (λ start cl ch q a0 k told gg kk part. lending.item_folds f fa s env site cs here chunk p constant a r selections count stride dimensions filter k start cl ch q a0 by kind told gg kk part) wi wc is reach ws wf wb wv from to l
   folds_do (suc n) f fa calls calls_only calls_all (Static a1 a2 a3 a4) from to g env x s h st k en w l = absurd w
   folds_do (suc n) f fa calls calls_only calls_all (Variable a1 a2 a3 a4) from to g env x s h st k en w l = absurd w
   folds_do (suc n) f fa calls calls_only calls_all (Constant a1 a2 a3 a4) from to g env x s h st k en w l = absurd w

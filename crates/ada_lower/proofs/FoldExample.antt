@@ -21,6 +21,7 @@ use Rattle.stack_code.specs.declared.code.SiteKind.TheVariants as kind
 use Rattle.stack_code.specs.declared.instr.Instr.{Instr}
 use Rattle.stack_code.specs.declared.instr.Instr.TheVariants as i
 use Rattle.stack_code.specs.Machine.{Done}
+use Rattle.lower_leased.specs.Homes.{main_variables}
 use Rattle.ada_lower.specs.Driven.{on, off}
 use Rattle.ada_lower.specs.Sights.{Named, Own, Main, Placed, Sight, listed}
 use Rattle.ada_lower.specs.FittedForks.{FittedForks, FittedReductions, Within, unleased}
@@ -124,6 +125,6 @@ fitted = (
 )
 
 pub comes : (limit : ℕ) (cuts : ℕ → ℕ → List ℕ) (within : Within cuts) (slots : ℕ) (input before : List ℕ) (notes : Schedule) → let r = (Meaning.main (stored.noted_operations limit cuts) limit program).does (stored.noted_outset slots input before notes) in
-    Ending limit code (outermost None) main_ends (0 ∷ []) (on (outermost None) 0 [] (first_dyn notes cuts 12 input before)) 0 (λ d. off (Done None) d) r.state r.end
+    Ending limit code (outermost None) main_ends (main_variables program 0 program.body.decls) (on (outermost None) 0 [] (first_dyn notes cuts 12 input before)) 0 (λ d. off (Done None) d) r.state r.end
 comes limit cuts within slots input before notes =
     whole_does None unleased limit cuts (not_lending limit cuts unleased) within program code (main_names program text) none_main [] text frames slots 12 1 (λ n sub e. absurd (none-some sub e)) refl is_code (record { same = λ k unit e q. absurd (none-some unit e) }) (λ k unit sub e. absurd (none-some unit e)) fitted input before notes tt

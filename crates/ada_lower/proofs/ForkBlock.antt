@@ -1,5 +1,5 @@
 -- Parallel blocks, whole.
-use Rattle.std.proofs.Common.{◌≡◌, ℕ, ◌+◌, ◌-◌, ◌<◌, ◌≤◌, min, ℤ, pos, ◌+ℤ◌, ◌-ℤ◌, nat_le, List, [], ◌∷◌, length, slice_get, Option, None, Some, Err, Bool, true, false, ◌&&◌, refl, sym, ap, ap₂, ◌∙◌, subst, le_refl, arith, le-leb, inl}
+use Rattle.std.proofs.Common.{◌≡◌, ℕ, ◌+◌, ◌-◌, ◌<◌, ◌≤◌, min, ℤ, pos, ◌+ℤ◌, ◌-ℤ◌, nat_le, List, [], ◌∷◌, length, slice_get, Option, None, Some, Err, Bool, true, ◌&&◌, refl, sym, ap, ap₂, ◌∙◌, subst, le_refl, arith, le-leb, inl}
 use Rattle.std.proofs.lemmas.Int.{ints}
 use Rattle.ada_base.specs.Cuts.{evens}
 use Rattle.behaviours.specs.Doings.{through}

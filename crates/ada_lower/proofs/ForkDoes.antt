@@ -147,7 +147,7 @@ module _ (asked : Option Program) (lent : Bool → Sight → ℕ → CodeSite �
       ((c_through (Out (λ m. (m ≡ number) ⊎ Amid m loops)) (λ i (a : Unit {0}). Meaning.iterate ops (Meaning.holds ops limit program calls filter (envs i)) (Meaning.exec_all ops limit program calls stmts (envs i)))
       (λ i a. c_iterate (Out (λ m. (m ≡ number) ⊎ Amid m loops)) (λ r. tt) limit cuts _ _ (o_holds limit cuts program calls (λ n s ps. calls_only n s (stored.ret tt) ps (c_ret Raised tt)) calls_only (λ m. (m ≡ number) ⊎ Amid m loops) filter (envs i))
       (o_all limit cuts program calls (λ n s ps. calls_only n s (stored.ret tt) ps (c_ret Raised tt)) calls_only (λ m. (m ≡ number) ⊎ Amid m loops) stmts (envs i) outs)) first size tt).by st w e))
-      (λ k cl ch q a told gg kk part. lending.items f fa s env site cs here chunk p constant a0 r0 selections count stride dimensions filter k cl ch q a told gg kk part)
+      (λ k cl ch q a told gg kk part. lending.items f fa s env site cs here chunk p constant a0 r0 selections count stride dimensions filter k cl ch q a kind told gg kk part)
       {e = e} wc is reach wsel from to l
   forks_do (suc n) f fa calls calls_only calls_all (Parallel site count arms) from to g env x s k u (cs, (site_at, frame, four, entry), here, kind', room, some_arms, few_arms, wc, loops, among, known, outs, wa) l =
       let all_in : (f' : Fixed) → Alike f' f → InnerDo limit cuts program globals mains (FittedReductions program globals mains lent c n) c f' calls = inner_all asked lent limit cuts lending within program c globals mains n f fa calls calls_only calls_all in

@@ -24,7 +24,7 @@ use Rattle.lower_emission.specs.Emission.{is_plain, takes_turns, Shape, lead, sh
 unfoldable use Rattle.lower_emission.specs.Emission.{emit, selected, passed, put_into, composed, associated, component, filtered, iterated, chunk_code, course_code, threaded}
 use Rattle.ada_lower.specs.Ready.{RunsIn, Calls, ReadyReducer, ReadyExpr, ReadyOptional, ReadySelections, ReadyActuals, ReadyValue, ReadyComposite, ReadyAssociations, ReadyIteration, ReadyChunk}
 use Rattle.ada_lower.proofs.Heights.{Place, Here, Behind, up, Also, In, Told, Kept, Firm}
-use Rattle.ada_lower.proofs.HeightsScopes.{at, Known, in_le, known_taking, known_nested, known_more, known_parameter, known_item, known_leaving, known_thread, known_chunk, plain, firm_raise, firm_own, firm_local, kept_next, firm_keep, firm_cond, firm_named, firm_where, firm_address, root_fits, constant_root_fits, array_root_fits, firm_part, firm_unary, firm_binary, firm_compare, firm_within, firm_negated, firm_checked, firm_bounds, firm_ascending, firm_raise_above, firm_raise_beyond, firm_counting, firm_call, firm_call_back, firm_stepping}
+use Rattle.ada_lower.proofs.HeightsScopes.{at, Known, in_le, known_taking, known_nested, known_more, known_parameter, known_item, known_leaving, known_thread, known_chunk, plain, firm_own, firm_local, kept_next, firm_keep, firm_cond, firm_named, firm_where, firm_address, root_fits, constant_root_fits, array_root_fits, firm_part, firm_unary, firm_binary, firm_compare, firm_within, firm_negated, firm_checked, firm_bounds, firm_ascending, firm_raise_above, firm_raise_beyond, firm_counting, firm_call, firm_call_back, firm_stepping}
 use Rattle.ada_meaning.specs.Meaning.{most_threads}
 
 -- ---- scopes that differ in names alone

@@ -1,5 +1,5 @@
 -- Where a construct goes through a range or is a block, the cells of a path are those at its coordinates.
-use Rattle.std.proofs.Common.{◌≡◌, ℕ, ◌+◌, ◌<◌, ℤ, ◌+ℤ◌, List, [], ◌∷◌, Option, Some, None, false, refl, sym, ◌∙◌, ap, subst}
+use Rattle.std.proofs.Common.{◌≡◌, ℕ, ◌<◌, ℤ, ◌+ℤ◌, List, [], ◌∷◌, Some, None, false, refl, sym, ◌∙◌, ap, subst}
 use Rattle.ada_meaning.specs.Shapes.{Shape, Single, Record, Dimension, size}
 use Rattle.behaviours.specs.Joins.{Now}
 use Rattle.check_effects.specs.Effects.{Selector, At, Fixed, LoopIndex, ChunkIndex, Any}

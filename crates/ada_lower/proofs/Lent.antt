@@ -32,7 +32,7 @@ pub record Lending (limit : ℕ) (cuts : ℕ → ℕ → List ℕ) (whose : Opti
   pub loops : (f : Fixed) → f.asked ≡ whose → (s : Sight) (env : Env) (site : ℕ) (cs : CodeSite) → lent false s site cs → (chunk : Chunk) (p : ℕ) (low high : Expr) (check : Option Check) (filter : Optional) (k : Chunking) (cl ch l u : ℤ) → cs.kind ≡ loop_kind chunk → Chunks chunk cl ch k
       → (g : Ghost) → Knows limit cuts g (nested_in f) (taking 2 (taking 2 s)) (inside env)
       → Lends (nested_in f) g cs (asked site l u cl ch (pos 0)) (Meaning.site_at site chunk (Range p false low high check filter) (cut_of k (Values.count l u)) k (ranged p l u) (inside env)) (deal 0 0 (sizes_for g.plan cs.kind (asked site l u cl ch (pos 0))))
-  pub items : (f : Fixed) → f.asked ≡ whose → (s : Sight) (env : Env) (site : ℕ) (cs : CodeSite) → lent true s site cs → (chunk : Chunk) (p : ℕ) (constant : Bool) (at : ℕ) (root : Root) (selections : Selections) (count stride dimensions : ℕ) (filter : Optional) (k : Chunking) (cl ch : ℤ) (q : ObjectPart) (a : ℕ) → Chunks chunk cl ch k
+  pub items : (f : Fixed) → f.asked ≡ whose → (s : Sight) (env : Env) (site : ℕ) (cs : CodeSite) → lent true s site cs → (chunk : Chunk) (p : ℕ) (constant : Bool) (at : ℕ) (root : Root) (selections : Selections) (count stride dimensions : ℕ) (filter : Optional) (k : Chunking) (cl ch : ℤ) (q : ObjectPart) (a : ℕ) → cs.kind ≡ loop_kind chunk → Chunks chunk cl ch k
       → (g : Ghost) → Knows limit cuts g (nested_in f) (taking 2 (taking 2 s)) (inside env) → Spread g (named_entity constant q.object) q.offset (count * stride) a
       → Lends (nested_in f) g cs (asked site (pos 1) (pos count) cl ch (pos 0)) (Meaning.site_at site chunk (Components p constant at root selections count stride dimensions filter) (cut_of k count) k (listed constant p count stride q) (inside env)) (deal 0 0 (sizes_for g.plan cs.kind (asked site (pos 1) (pos count) cl ch (pos 0))))
   pub blocks : (f : Fixed) → f.asked ≡ whose → (s : Sight) (env : Env) (site : ℕ) (cs : CodeSite) → lent false s site cs → (arms : ℕ) (ch : ℤ) → cs.kind ≡ kind.Block arms → (g : Ghost) → Knows limit cuts g (nested_in f) (taking 2 s) (inside env)
@@ -40,7 +40,7 @@ pub record Lending (limit : ℕ) (cuts : ℕ → ℕ → List ℕ) (whose : Opti
   pub folds : (f : Fixed) → f.asked ≡ whose → (s : Sight) (env : Env) (site : ℕ) (cs : CodeSite) → lent false s site cs → (chunk : Chunk) (p : ℕ) (low high : Expr) (check : Option Check) (filter : Optional) (k : Chunking) (start cl ch l u : ℤ) (by : Reducer) → cs.kind ≡ reduction_kind by chunk → Chunks chunk cl ch k
       → (g : Ghost) → Knows limit cuts g (nested_in f) (taking 2 (taking 2 (taking 1 s))) (inside env)
       → Lends (nested_in f) g cs (asked site l u cl ch start) (Meaning.site_at site chunk (Range p false low high check filter) (value_cut_of k (Values.count l u)) k (ranged p l u) (inside env)) (deal 0 0 (sizes_for g.plan cs.kind (asked site l u cl ch start)))
-  pub item_folds : (f : Fixed) → f.asked ≡ whose → (s : Sight) (env : Env) (site : ℕ) (cs : CodeSite) → lent true s site cs → (chunk : Chunk) (p : ℕ) (constant : Bool) (at : ℕ) (root : Root) (selections : Selections) (count stride dimensions : ℕ) (filter : Optional) (k : Chunking) (start cl ch : ℤ) (q : ObjectPart) (a : ℕ) → Chunks chunk cl ch k
+  pub item_folds : (f : Fixed) → f.asked ≡ whose → (s : Sight) (env : Env) (site : ℕ) (cs : CodeSite) → lent true s site cs → (chunk : Chunk) (p : ℕ) (constant : Bool) (at : ℕ) (root : Root) (selections : Selections) (count stride dimensions : ℕ) (filter : Optional) (k : Chunking) (start cl ch : ℤ) (q : ObjectPart) (a : ℕ) (by : Reducer) → cs.kind ≡ reduction_kind by chunk → Chunks chunk cl ch k
       → (g : Ghost) → Knows limit cuts g (nested_in f) (taking 2 (taking 2 (taking 1 s))) (inside env) → Spread g (named_entity constant q.object) q.offset (count * stride) a
       → Lends (nested_in f) g cs (asked site (pos 1) (pos count) cl ch start) (Meaning.site_at site chunk (Components p constant at root selections count stride dimensions filter) (value_cut_of k count) k (listed constant p count stride q) (inside env)) (deal 0 0 (sizes_for g.plan cs.kind (asked site (pos 1) (pos count) cl ch start)))
 
@@ -51,8 +51,8 @@ unasked f e = λ owner owns p is s d fit. absurd (let z : ◌≡◌ {A = Option 
 pub not_lending : (limit : ℕ) (cuts : ℕ → ℕ → List ℕ) (lent : Bool → Sight → ℕ → CodeSite → Type 0) → Lending limit cuts None lent
 not_lending limit cuts lent = record {
   loops = λ f e s env site cs h chunk p low high check filter k cl ch l u is told g kn. unasked (nested_in f) e;
-  items = λ f e s env site cs h chunk p constant at root selections count stride dimensions filter k cl ch q a told g kn part. unasked (nested_in f) e;
+  items = λ f e s env site cs h chunk p constant at root selections count stride dimensions filter k cl ch q a is told g kn part. unasked (nested_in f) e;
   blocks = λ f e s env site cs h arms ch is g kn. unasked (nested_in f) e;
   folds = λ f e s env site cs h chunk p low high check filter k start cl ch l u by is told g kn. unasked (nested_in f) e;
-  item_folds = λ f e s env site cs h chunk p constant at root selections count stride dimensions filter k start cl ch q a told g kn part. unasked (nested_in f) e;
+  item_folds = λ f e s env site cs h chunk p constant at root selections count stride dimensions filter k start cl ch q a by is told g kn part. unasked (nested_in f) e;
 }

@@ -59,6 +59,7 @@ mod ForkWhole
 mod ForkArms
 mod ForkBlock
 mod LeaseGeometry
+mod ItemGeometry
 mod LeaseOwners
 mod Formals
 mod Bodies
@@ -99,6 +100,7 @@ mod FoldExample
 pub mod WholeLaws
 mod OnePlace
 mod Leasing
-mod RangesLent
+mod LeaseFinds
+mod LeasesLent
 mod WholeSafe
 mod AllFine

@@ -27,11 +27,14 @@ use Rattle.ada_lower.specs.Teams.{AreSound}
 use Rattle.ada_lower.specs.Fits.{Other, Free, Access, Right, Ghost, Fit, Allows, place_in, Knows, Stands as StandsFor}
 use Rattle.ada_lower.specs.Fitted.{FittedValue}
 pub use Rattle.ada_lower.specs.Outset.{outermost, first_dyn, main_ends}
-use Rattle.ada_lower.specs.Bodies.{main_object, main_scope, main_declared, positions, FittedMain, main_body, main_code, MainFitted, AllStand}
+use Rattle.ada_lower.specs.Bodies.{main_object, main_scope, main_declared, FittedMain, main_body, main_code, MainFitted, AllStand}
 use Rattle.ada_lower.proofs.Framework.{any, To, comes_as, leads_on, sound_split}
 use Rattle.ada_lower.proofs.Standing.{stands_seq}
 use Rattle.ada_lower.proofs.Parts.{Runs}
-use Rattle.ada_lower.proofs.Mains.{holding, knows_holding, fresh_kept_of, Final, final_on, final_variable, final_constant, AllFull, allows_all, full_holding, Ending, elaborates_main, ending_from, values_main}
+use Rattle.lower_leased.specs.Homes.{main_variables}
+use Rattle.ada_lower.specs.Law.{AreFinals}
+use Rattle.ada_lower.proofs.Mains.{holding, knows_holding, fresh_kept_of, Final, AllThere, variable_at, final_on, final_variable, final_constant, AllFull, allows_all, full_holding, Ending, elaborates_main, ending_from, values_main}
+use Rattle.ada_lower.proofs.EvalLeaves.{Closed, Raised, c_cells}
 use Rattle.ada_lower.proofs.Declared.{keeping}
 use Rattle.ada_lower.proofs.Blocks.{fit_unkept}
 use Rattle.ada_lower.proofs.Calls.{CallsDo}
@@ -120,7 +123,7 @@ module _ (asked : Option Program) (limit : ℕ) (cuts : ℕ → ℕ → List ℕ
   halts : {q : ℕ} {e : Option ℕ} (st : List ℤ) (d : Dyn) → At c q i.Halt e → To limit c (on (outermost asked) q st d) (off (Done None) d)
   halts st d at = comes_as limit c (outermost asked) st d at refl
 
-  module _ (same_texts : texts ≡ c.texts)
+  module _ (same_texts : texts ≡ c.texts) (only : (n s : ℕ) (before : Stored (Unit {0})) (passed : List Meaning.Passed) → Closed Raised before → Closed Raised (Meaning.call ops limit program 1000 n s before passed))
       (pars : (f : Fixed) → f.asked ≡ asked → (depth : ℕ) (all : (f' : Fixed) → Alike f' f → CallsDo limit cuts program globals mains c f' (Meaning.call ops limit program depth)) → ForksDo limit cuts program globals mains epar par c f (Meaning.call ops limit program depth) (all f (alike f)))
       (stood : AllStand program globals mains texts text frames epar par c) (entry to : ℕ) (stands : Stands c (main_code program globals mains texts text frames (main_scope program globals mains texts text frames frame).scope) entry to)
       (fitted : MainFitted program globals mains texts text frames epar par (main_scope program globals mains texts text frames frame)) where
@@ -149,29 +152,44 @@ module _ (asked : Option Program) (limit : ℕ) (cuts : ℕ → ℕ → List ℕ
       gives = λ t a b v w d. halts (v ∷ []) d w.0;
     }
 
-    abbrev Ends_in : ℕ → List ℕ → Step → ℕ → stored.State → Result (Unit {0}) Cause → Type 0
+    abbrev Ends_in : ℕ → List Variable → Step → ℕ → stored.State → Result (Unit {0}) Cause → Type 0
     Ends_in to ps from turns t e = Ending limit c (outermost asked) main_ends ps from turns (λ d. on (outermost asked) to [] d) t e
 
     -- a value goes to the first free cells, and what follows begins there
-    value_main : {g : Ghost} (y : Entity) (initial : Value) (m : Stored (Unit {0})) (from mid to : ℕ) (s : Sight) (ps : List ℕ) (z : stored.State) (d : Dyn) → Knows limit cuts g (outermost asked) s (Meaning.outset 0) → s.scope.entry ≡ None → s.scope.free + Emission.width program initial ≤ s.cells → FittedValue program globals mains epar (taking (Emission.width program initial) s) (Emission.width program initial) initial
+    value_main : {g : Ghost} (y : Entity) (initial : Value) (m : Stored (Unit {0})) (from mid to : ℕ) (s : Sight) (ps : List Variable) (z : stored.State) (d : Dyn) → Knows limit cuts g (outermost asked) s (Meaning.outset 0) → s.scope.entry ≡ None → s.scope.free + Emission.width program initial ≤ s.cells → FittedValue program globals mains epar (taking (Emission.width program initial) s) (Emission.width program initial) initial
         → Stands c (Emission.put_into program (taking (Emission.width program initial) s).scope 0 s.scope.free initial) from mid → Final g ps → AllFull g → Fit g z d → AreSound asked ((stored.bind (Meaning.cells ops limit program calls initial (Meaning.outset 0)) (λ cs. (stored.elaborates Everywhere y cs m))).visits z)
         → ((cs : List ℤ) (t : stored.State) (e : Dyn) → length cs ≡ Emission.width program initial → Fit (keeping (0 + s.scope.free) cs g) t e → AreSound asked ((stored.elaborates Everywhere y cs m).visits t) → (let r = (stored.elaborates Everywhere y cs m).does t in Ends_in to ps (on (outermost asked) mid [] e) t.turns r.state r.end))
         → (let r = (stored.bind (Meaning.cells ops limit program calls initial (Meaning.outset 0)) (λ cs. stored.elaborates Everywhere y cs m)).does z in Ends_in to ps (on (outermost asked) from [] d) z.turns r.state r.end)
     value_main {g} y initial m from mid to s ps z d k en room wi l final full fit sound j =
         let n : ℕ = Emission.width program initial in
         let free : (i : ℕ) → i < n → g.what (0 + s.scope.free + i) ≡ Free = free_at limit cuts program c (outermost asked) calls globals mains epar calls_do n room k in
-        values_main limit c (outermost asked) main_ends g from (λ d. on (outermost asked) to [] d) ps n (0 + s.scope.free) mid _ _ z d final full free fit sound
+        values_main limit c (outermost asked) main_ends g from (λ d. on (outermost asked) to [] d) ps n (0 + s.scope.free) mid _ _ z d (c_cells Raised (λ r. tt) limit cuts program calls only initial (Meaning.outset 0)) final full free fit sound
         (λ kept. into_does limit cuts program c (outermost asked) calls globals mains epar calls_do main_ends initial s n from mid none stored.ret room (knows_taking limit cuts program c (outermost asked) calls globals mains epar calls_do n k) en wi free
         (subst (λ ps. Lies c from ps mid) (sym (append-nil (listed (Emission.put_into program (taking n s).scope 0 s.scope.free initial) from))) l)
         (λ cs mid' len same. kept cs mid' len (sym same)))
         j
 
     -- declarations, and the statements behind them
-    decls_does : (decls : Decls) (from to : ℕ) {g : Ghost} (s : Sight) (m : Stored (Unit {0})) (code : Scope → Emit) (body : Sight → Type 0) (ps : List ℕ) → Knows limit cuts g (outermost asked) s (Meaning.outset 0) → Suits limit c (outermost asked) main_ends s → ((k : ℕ) → (slot_at g.here k).frame ≡ g.frame → ⊥) → AllFull g → Final g ps → length ps ≡ length g.declared → FittedMain program globals mains texts text frames epar s decls body
+    decls_does : (decls : Decls) (from to : ℕ) {g : Ghost} (s : Sight) (m : Stored (Unit {0})) (code : Scope → Emit) (body : Sight → Type 0) (ps : List Variable) → Knows limit cuts g (outermost asked) s (Meaning.outset 0) → Suits limit c (outermost asked) main_ends s → ((k : ℕ) → (slot_at g.here k).frame ≡ g.frame → ⊥) → AllFull g → Final g ps → length ps ≡ length g.declared → FittedMain program globals mains texts text frames epar s decls body
         → Stands c (main_declared program globals mains texts text frames s.scope decls code) from to
         → ((t : Sight) (g' : Ghost) (from' : ℕ) → Knows limit cuts g' (outermost asked) t (Meaning.outset 0) → Suits limit c (outermost asked) main_ends t → body t → Stands c (code t.scope) from' to → Runs limit c (outermost asked) main_ends g' any m (λ d. on (outermost asked) from' [] d) (λ _ d. on (outermost asked) to [] d))
-        → (z : stored.State) (d : Dyn) → Fit g z d → AreSound asked ((Meaning.declared ops limit program calls decls Everywhere (Meaning.outset 0) m).visits z) → (let r = (Meaning.declared ops limit program calls decls Everywhere (Meaning.outset 0) m).does z in Ends_in to (ps ++ positions program globals mains texts text frames s.scope.free decls) (on (outermost asked) from [] d) z.turns r.state r.end)
-    decls_does NoDecl from to {g} s m code body ps k u none full final many w l j z d fit sound = (g, final_on g ps [] final, (j s g from k u w l).by z d fit (allows_all g full (m.touches z), sound))
+        → (z : stored.State) (d : Dyn) → Fit g z d → AreSound asked ((Meaning.declared ops limit program calls decls Everywhere (Meaning.outset 0) m).visits z) → (let r = (Meaning.declared ops limit program calls decls Everywhere (Meaning.outset 0) m).does z in Ends_in to (ps ++ main_variables program s.scope.free decls) (on (outermost asked) from [] d) z.turns r.state r.end)
+    decls_does NoDecl from to {g} s m code body ps k u none full final many w l j z d fit sound =
+        let r = m.does z in
+        (g, (final_on g ps [] final, there r.end), (j s g from k u w l).by z d fit (allows_all g full (m.touches z), sound))
+      where
+        whole : length g.declared ≡ length (ps ++ [])
+        whole = sym many ∙ ap length (sym (append-nil ps))
+
+        there : (e : Result (Unit {0}) Cause) → AllThere e g (ps ++ [])
+        there (Ok v) = whole
+        there (Err (Left (Returns v))) = whole
+        there (Err (Left (Exits n))) = whole
+        there (Err (Left (Raises r))) = tt
+        there (Err OutOfTurns) = tt
+        there (Err NoRoom) = tt
+        there (Err CutOff) = tt
+        there (Err Misnoted) = tt
     decls_does (Mentions es more) from to s m code body ps k u none full final many w l j z d fit sound = decls_does more from to s m code body ps k u none full final many w l j z d fit sound
     decls_does (DeclareDefault y more) from to {g} s m code body ps k u none full final many (new, room, filled, w) l j z d fit sound =
         let vs : List ℤ = Values.defaults (Meaning.object_layout program y) in
@@ -180,41 +198,41 @@ module _ (asked : Option Program) (limit : ℕ) (cuts : ℕ → ℕ → List ℕ
         let (m1, l1, l2) = stands_seq c from to (Emission.defaulted program s.scope s.scope.free y) (main_declared program globals mains texts text frames t.scope more code) l in
         let free : (k : ℕ) → k < length vs → g.what (0 + s.scope.free + k) ≡ Free = (λ i lt. free_at limit cuts program c (outermost asked) calls globals mains epar calls_do (length (Meaning.object_layout program y)) room k i (omega (arith, lt, n))) in
         let (d', fit', comes) = defaulted_comes limit cuts program c (outermost asked) main_ends s.scope s.scope.free from m1 y filled (λ i lt. own_free (g.what (0 + s.scope.free + i)) (free i lt)) l1 fit in
-        let qs : List ℕ = positions program globals mains texts text frames (s.scope.free + length (Meaning.object_layout program y)) more in
+        let qs : List Variable = main_variables program (s.scope.free + length (Meaning.object_layout program y)) more in
         let rest = Meaning.declared ops limit program calls more Everywhere (Meaning.outset 0) m in
         let r = (stored.elaborates Everywhere (VariableOf y) vs rest).does z in
-        subst (λ ps. Ends_in to ps (on (outermost asked) from [] d) z.turns r.state r.end) (append_assoc ps (s.scope.free ∷ []) qs)
-        (ending_from limit c (outermost asked) main_ends (λ d. on (outermost asked) to [] d) ((ps ++ (s.scope.free ∷ [])) ++ qs) r.state r.end (comes _) (le_refl z.turns)
-        (elaborates_main limit c (outermost asked) main_ends g rest (on (outermost asked) m1 [] d') (λ d. on (outermost asked) to [] d) ((ps ++ (s.scope.free ∷ [])) ++ qs) (VariableOf y) (0 + s.scope.free) vs z d' (final_on g (ps ++ (s.scope.free ∷ [])) qs (final_on g ps (s.scope.free ∷ []) final)) fit' sound (λ slots fith sound'.
-        decls_does more m1 to t m code body (ps ++ (s.scope.free ∷ []))
+        subst (λ ps. Ends_in to ps (on (outermost asked) from [] d) z.turns r.state r.end) (append_assoc ps (variable_at y s.scope.free (length (Meaning.object_layout program y)) ∷ []) qs)
+        (ending_from limit c (outermost asked) main_ends (λ d. on (outermost asked) to [] d) ((ps ++ (variable_at y s.scope.free (length (Meaning.object_layout program y)) ∷ [])) ++ qs) r.state r.end (comes _) (le_refl z.turns)
+        (elaborates_main limit c (outermost asked) main_ends g rest (on (outermost asked) m1 [] d') (λ d. on (outermost asked) to [] d) ((ps ++ (variable_at y s.scope.free (length (Meaning.object_layout program y)) ∷ [])) ++ qs) (VariableOf y) (0 + s.scope.free) vs z d' (final_on g (ps ++ (variable_at y s.scope.free (length (Meaning.object_layout program y)) ∷ [])) qs (final_on g ps (variable_at y s.scope.free (length (Meaning.object_layout program y)) ∷ []) final)) fit' sound (λ slots fith sound'.
+        decls_does more m1 to t m code body (ps ++ (variable_at y s.scope.free (length (Meaning.object_layout program y)) ∷ []))
         (subst (λ n. Knows limit cuts (holding (VariableOf y) (length z.kept) (0 + s.scope.free) vs g) (outermost asked) (main_object s (VariableOf y) n) (Meaning.outset 0)) n (knows_holding (VariableOf y) (length z.kept) vs refl (omega (arith, room, n)) none slots new (fresh_kept_of fit) k))
         (suits_as t s refl refl refl refl refl (λ n. refl) u) none (full_holding (VariableOf y) (length z.kept) (0 + s.scope.free) vs g full)
-        (final_variable y (length z.kept) (0 + s.scope.free) s.scope.free vs g ps (omega arith) many free final)
-        (length-append ps (s.scope.free ∷ []) ∙ ap (λ n. n + 1) many ∙ sym (length-append g.declared (record { object = y; address = length z.kept; cells = length vs } ∷ [])))
+        (final_variable y (length z.kept) (0 + s.scope.free) s.scope.free (length (Meaning.object_layout program y)) vs g ps (omega arith) n many free final)
+        (length-append ps (variable_at y s.scope.free (length (Meaning.object_layout program y)) ∷ []) ∙ ap (λ n. n + 1) many ∙ sym (length-append g.declared (record { object = y; address = length z.kept; cells = length vs } ∷ [])))
         w l2 j (stored.begun Everywhere (VariableOf y) vs z) d' fith sound')))
     decls_does (DeclareVariable y initial more) from to {g} s m code body ps k u none full final many (new, room, wi, w) l j z d fit sound =
         let n : ℕ = Emission.width program initial in
         let t : Sight = main_object s (VariableOf y) n in
         let (m1, l1, l2) = stands_seq c from to (Emission.put_into program (taking n s).scope 0 s.scope.free initial) (main_declared program globals mains texts text frames t.scope more code) l in
-        let qs : List ℕ = positions program globals mains texts text frames (s.scope.free + n) more in
+        let qs : List Variable = main_variables program (s.scope.free + n) more in
         let rest = Meaning.declared ops limit program calls more Everywhere (Meaning.outset 0) m in
         let r = (stored.bind (Meaning.cells ops limit program calls initial (Meaning.outset 0)) (λ cs. stored.elaborates Everywhere (VariableOf y) cs rest)).does z in
-        let final' : Final g ((ps ++ (s.scope.free ∷ [])) ++ qs) = final_on g (ps ++ (s.scope.free ∷ [])) qs (final_on g ps (s.scope.free ∷ []) final) in
-        subst (λ ps. Ends_in to ps (on (outermost asked) from [] d) z.turns r.state r.end) (append_assoc ps (s.scope.free ∷ []) qs)
-        (value_main (VariableOf y) initial rest from m1 to s ((ps ++ (s.scope.free ∷ [])) ++ qs) z d k u.entry room wi l1 final' full fit sound (λ cs z' d' len fit' sound.
+        let final' : Final g ((ps ++ (variable_at y s.scope.free n ∷ [])) ++ qs) = final_on g (ps ++ (variable_at y s.scope.free n ∷ [])) qs (final_on g ps (variable_at y s.scope.free n ∷ []) final) in
+        subst (λ ps. Ends_in to ps (on (outermost asked) from [] d) z.turns r.state r.end) (append_assoc ps (variable_at y s.scope.free n ∷ []) qs)
+        (value_main (VariableOf y) initial rest from m1 to s ((ps ++ (variable_at y s.scope.free n ∷ [])) ++ qs) z d k u.entry room wi l1 final' full fit sound (λ cs z' d' len fit' sound.
         let free : (i : ℕ) → i < length cs → g.what (0 + s.scope.free + i) ≡ Free = (λ i lt. free_at limit cuts program c (outermost asked) calls globals mains epar calls_do n room k i (omega (arith, lt, len))) in
-        elaborates_main limit c (outermost asked) main_ends g rest (on (outermost asked) m1 [] d') (λ d. on (outermost asked) to [] d) ((ps ++ (s.scope.free ∷ [])) ++ qs) (VariableOf y) (0 + s.scope.free) cs z' d' final' fit' sound (λ slots fith sound'.
-        decls_does more m1 to t m code body (ps ++ (s.scope.free ∷ []))
+        elaborates_main limit c (outermost asked) main_ends g rest (on (outermost asked) m1 [] d') (λ d. on (outermost asked) to [] d) ((ps ++ (variable_at y s.scope.free n ∷ [])) ++ qs) (VariableOf y) (0 + s.scope.free) cs z' d' final' fit' sound (λ slots fith sound'.
+        decls_does more m1 to t m code body (ps ++ (variable_at y s.scope.free n ∷ []))
         (subst (λ n. Knows limit cuts (holding (VariableOf y) (length z'.kept) (0 + s.scope.free) cs g) (outermost asked) (main_object s (VariableOf y) n) (Meaning.outset 0)) len (knows_holding (VariableOf y) (length z'.kept) cs refl (omega (arith, room, len)) none slots new (fresh_kept_of (fit_unkept (0 + s.scope.free) cs g free fit')) k))
         (suits_as t s refl refl refl refl refl (λ n. refl) u) none (full_holding (VariableOf y) (length z'.kept) (0 + s.scope.free) cs g full)
-        (final_variable y (length z'.kept) (0 + s.scope.free) s.scope.free cs g ps (omega arith) many free final)
-        (length-append ps (s.scope.free ∷ []) ∙ ap (λ n. n + 1) many ∙ sym (length-append g.declared (record { object = y; address = length z'.kept; cells = length cs } ∷ [])))
+        (final_variable y (length z'.kept) (0 + s.scope.free) s.scope.free n cs g ps (omega arith) len many free final)
+        (length-append ps (variable_at y s.scope.free n ∷ []) ∙ ap (λ n. n + 1) many ∙ sym (length-append g.declared (record { object = y; address = length z'.kept; cells = length cs } ∷ [])))
         w l2 j (stored.begun Everywhere (VariableOf y) cs z') d' fith sound')))
     decls_does (DeclareConstant y initial more) from to {g} s m code body ps k u none full final many (new, room, wi, w) l j z d fit sound =
         let n : ℕ = Emission.width program initial in
         let t : Sight = main_object s (ConstantOf y) n in
         let (m1, l1, l2) = stands_seq c from to (Emission.put_into program (taking n s).scope 0 s.scope.free initial) (main_declared program globals mains texts text frames t.scope more code) l in
-        let qs : List ℕ = positions program globals mains texts text frames (s.scope.free + n) more in
+        let qs : List Variable = main_variables program (s.scope.free + n) more in
         let rest = Meaning.declared ops limit program calls more Everywhere (Meaning.outset 0) m in
         let final' : Final g (ps ++ qs) = final_on g ps qs final in
         value_main (ConstantOf y) initial rest from m1 to s (ps ++ qs) z d k u.entry room wi l1 final' full fit sound (λ cs z' d' len fit' sound.
@@ -229,12 +247,12 @@ module _ (asked : Option Program) (limit : ℕ) (cuts : ℕ → ℕ → List ℕ
     none_here : (k : ℕ) → (slot_at (replicate slots no_slot) k).frame ≡ 1 → ⊥
     none_here k e = let z : (slot_at (replicate slots no_slot) k).frame ≡ 0 = ap (λ s. s.frame) (no_slots slots k) in omega (arith, z, e)
 
-    abbrev pub main_positions : List ℕ
-    main_positions = positions program globals mains texts text frames 0 program.body.decls
+    abbrev pub variables : List Variable
+    variables = main_variables program 0 program.body.decls
 
     -- the path from the code's beginning comes to what the stored run comes to, and the main procedure's variables stand at their positions
     pub program_does : (input before : List ℕ) (notes : Schedule) → AreSound asked ((Meaning.main ops limit program).visits (stored.noted_outset slots input before notes)) → let r = (Meaning.main ops limit program).does (stored.noted_outset slots input before notes) in
-        Ending limit c (outermost asked) main_ends main_positions (on (outermost asked) entry [] (first_dyn notes cuts frame input before)) 0 (λ d. off (Done None) d) r.state r.end
+        Ending limit c (outermost asked) main_ends variables (on (outermost asked) entry [] (first_dyn notes cuts frame input before)) 0 (λ d. off (Done None) d) r.state r.end
     unfolding stored.handles stored.ret
     program_does input before notes sound =
         let (m, l1, (halt, z)) = stands_seq c entry to (main_declared program globals mains texts text frames s.scope program.body.decls (λ t. stmt program t (main_body program globals mains texts text frames))) (one s.scope 0 i.Halt) stands in
@@ -252,8 +270,8 @@ module _ (asked : Option Program) (limit : ℕ) (cuts : ℕ → ℕ → List ℕ
             → AreSound asked ((Meaning.declared ops limit program calls program.body.decls Everywhere (Meaning.outset 0) rest).visits (stored.noted_outset slots input before notes))
         begun input before notes sound = (sound_split limit c (outermost asked) main_ends asked ((Meaning.declared ops limit program calls program.body.decls Everywhere (Meaning.outset 0) rest).visits (stored.noted_outset slots input before notes)) _ sound).0
 
-        go : {e' : Option ℕ} (m : ℕ) → At c m i.Halt e' → (from : Step) (t : stored.State) (e : Result (Unit {0}) Cause) → Ends_in m main_positions from 0 t e
-            → (let r = stored.handled t e (λ how. not (Meaning.raises how)) (λ _. stored.ret (tt {0})) in Ending limit c (outermost asked) main_ends main_positions from 0 (λ d. off (Done None) d) r.state r.end)
+        go : {e' : Option ℕ} (m : ℕ) → At c m i.Halt e' → (from : Step) (t : stored.State) (e : Result (Unit {0}) Cause) → Ends_in m variables from 0 t e
+            → (let r = stored.handled t e (λ how. not (Meaning.raises how)) (λ _. stored.ret (tt {0})) in Ending limit c (outermost asked) main_ends variables from 0 (λ d. off (Done None) d) r.state r.end)
         go m halt from t (Ok u) (h, w, l) = (h, w, (tt, record { dyn = l.1.dyn; fit = l.1.fit; comes = leads_on limit c l.1.comes (halts [] l.1.dyn halt _); grows = l.1.grows }))
         go m halt from t (Err (Left (Raises r))) e = e
         go m halt from t (Err (Left (Returns v))) (h, w, l) = (h, w, (tt, l))
@@ -264,18 +282,18 @@ module _ (asked : Option Program) (limit : ℕ) (cuts : ℕ → ℕ → List ℕ
         go m halt from t (Err Misnoted) e = e
 
     -- a variable of the main procedure has in the machine's memory what it has in the stored run
-    abbrev pub Finals : stored.State → Dyn → Type 0
-    Finals t d = (k : ℕ) (v : Variable) → slice_get t.declared k ≡ Some v → (m : ℕ) × (slice_get main_positions k ≡ Some m) × ((i : ℕ) → i < v.cells → (u : ℤ) × (slice_get t.kept (v.address + i) ≡ Some u) × (slice_get d.cells (m + i) ≡ Some (Mine u)))
-
-    pub finals_of : (h : Ghost) (t : stored.State) (d : Dyn) → Final h main_positions → Fit h t d → Finals t d
-    finals_of h t d w fit k v e =
-        let (m, at, is) = w k v (subst (λ gs. slice_get gs k ≡ Some v) fit.declared e) in
-        (m, at, λ i lt. subst (λ z. Right z t (slice_get d.cells (m + i))) (is i lt) (fit.cells (m + i)))
+    pub finals_of : (h : Ghost) (t : stored.State) (d : Dyn) → Final h variables → length h.declared ≡ length variables → Fit h t d → AreFinals variables t d
+    finals_of h t d w all fit = record {
+      all = ap length fit.declared ∙ all;
+      each = λ k v e.
+          let (m, at, is) = w k v (subst (λ gs. slice_get gs k ≡ Some v) fit.declared e) in
+          (m, at, record { object = is.0; cells = is.1; values = λ i lt. subst (λ z. Right z t (slice_get d.cells (m.address + i))) (is.2 i lt) (fit.cells (m.address + i)) });
+    }
 
     -- where the stored run gives a value, the machine ends, with the same output and the same finals
     pub program_gives : (input before : List ℕ) (notes : Schedule) → AreSound asked ((Meaning.main ops limit program).visits (stored.noted_outset slots input before notes)) → let r = (Meaning.main ops limit program).does (stored.noted_outset slots input before notes) in r.end ≡ Ok tt
-        → (d : Dyn) × Finally limit c (On (record { state = begun entry 0 [] 0 0 0 None (replicate frame (Mine (pos 0))); world = (first_dyn notes cuts frame input before).world })) (record { how = Done None; dyn = d }) × (d.world.output ≡ r.state.output) × (d.turns ≡ r.state.turns) × Finals r.state d
+        → (d : Dyn) × Finally limit c (On (record { state = begun entry 0 [] 0 0 0 None (replicate frame (Mine (pos 0))); world = (first_dyn notes cuts frame input before).world })) (record { how = Done None; dyn = d }) × (d.world.output ≡ r.state.output) × (d.turns ≡ r.state.turns) × AreFinals variables r.state d
     program_gives input before notes sound e =
         let r = (Meaning.main ops limit program).does (stored.noted_outset slots input before notes) in
-        let (h, w, l) = subst (λ e. Ending limit c (outermost asked) main_ends main_positions (on (outermost asked) entry [] (first_dyn notes cuts frame input before)) 0 (λ d. off (Done None) d) r.state e) e (program_does input before notes sound) in
-        (l.1.dyn, l.1.comes.to (record { how = Done None; dyn = l.1.dyn }) (0, refl), l.1.fit.agrees.output, l.1.fit.agrees.turns, finals_of h r.state l.1.dyn w l.1.fit)
+        let (h, w, l) = subst (λ e. Ending limit c (outermost asked) main_ends variables (on (outermost asked) entry [] (first_dyn notes cuts frame input before)) 0 (λ d. off (Done None) d) r.state e) e (program_does input before notes sound) in
+        (l.1.dyn, l.1.comes.to (record { how = Done None; dyn = l.1.dyn }) (0, refl), l.1.fit.agrees.output, l.1.fit.agrees.turns, finals_of h r.state l.1.dyn w.0 w.1 l.1.fit)

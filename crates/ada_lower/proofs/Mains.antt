@@ -2,7 +2,7 @@
 use Rattle.std.proofs.Common.{◌≡◌, ℕ, zero, suc, ◌+◌, ◌<◌, ◌≤◌, ℤ, List, [], ◌∷◌, ◌++◌, length, set, slice_get, nat_eq, nat_lt, Option, Some, None, Result, Ok, Err, Bool, true, false, cond, refl, sym, ap, ◌∙◌, subst, le_refl, arith, ◌⊎◌, inl, inr, ⊎_elim, true≢false, lt-ltb, ltb-true, is_some}
 use Rattle.std.proofs.lemmas.Bool.{ne_eqb}
 use Rattle.std.proofs.lemmas.Option.{none-some}
-use Rattle.behaviours.specs.Paths.{Entity, VariableOf, ConstantOf, Everywhere, entity_eq}
+use Rattle.behaviours.specs.Paths.{Leave, Exits, Returns, Raises, Entity, VariableOf, ConstantOf, Everywhere, entity_eq}
 use Rattle.ada_meaning.specs.declared.slots.Slot.{Slot}
 use Rattle.ada_meaning.specs.declared.slots.Variable.{Variable}
 use Rattle.ada_meaning.specs.Stored as stored
@@ -16,6 +16,7 @@ use Rattle.ada_lower.specs.Sights.{Named, Sight}
 use Rattle.ada_lower.specs.Bodies.{main_named, main_object}
 use Rattle.ada_lower.specs.Teams.{AreSound}
 use Rattle.ada_lower.specs.Fits.{Access, Barred, Readable, Full, What, Other, Free, Keeps, Shows, Stands, Right, allows, Ghost, Allows, Fit, Ends, Lands, place_in, Refers, AtMain, Knows}
+use Rattle.ada_lower.proofs.EvalLeaves.{Closed, Raised}
 use Rattle.ada_lower.proofs.Framework.{any, To, Doing, comes_here, lands_from, sound_split, sound_join, none_sound}
 use Rattle.ada_lower.proofs.Memory.{set_what, own_free, fit_set, fit_alike, what_other, right_same, at_or_not, IsSolid, Extends, refers_more, holds_more, main_more}
 use Rattle.ada_lower.proofs.Declared.{laid_what, laid_out, laid_in, kept_what, among, keeping, keep_more, length_in, get_of}
@@ -193,12 +194,25 @@ knows_holding {limit} {g} {f} {s} {env} y len vs base room none_here slots new f
 
 -- ---- the variables of the main procedure
 
--- each stands at its position
-abbrev pub Final : Ghost → List ℕ → Type 0
-Final g ps = (k : ℕ) (v : Variable) → slice_get g.declared k ≡ Some v → (m : ℕ) × (slice_get ps k ≡ Some m) × ((i : ℕ) → i < v.cells → g.what (m + i) ≡ Stands Full (Kept (v.address + i)))
+-- it stands from an address of the machine's cells on
+abbrev pub Lies : Ghost → Variable → Variable → Type 0
+Lies g v m = (v.object ≡ m.object) × (v.cells ≡ m.cells) × ((i : ℕ) → i < v.cells → g.what (m.address + i) ≡ Stands Full (Kept (v.address + i)))
 
-pub final_on : (g : Ghost) (ps qs : List ℕ) → Final g ps → Final g (ps ++ qs)
+-- each stands where these say
+abbrev pub Final : Ghost → List Variable → Type 0
+Final g ps = (k : ℕ) (v : Variable) → slice_get g.declared k ≡ Some v → (m : Variable) × (slice_get ps k ≡ Some m) × Lies g v m
+
+pub final_on : (g : Ghost) (ps qs : List Variable) → Final g ps → Final g (ps ++ qs)
 final_on g ps qs w k v e = let (m, at, is) = w k v e in (m, get_left ps qs k m at, is)
+
+-- where the main procedure came to its end all of them are declared
+abbrev pub AllThere : Result (Unit {0}) Cause → Ghost → List Variable → Type 0
+AllThere (Err (Left (Raises r))) g ps = Unit {0}
+AllThere (Err OutOfTurns) g ps = Unit {0}
+AllThere (Err NoRoom) g ps = Unit {0}
+AllThere (Err CutOff) g ps = Unit {0}
+AllThere (Err Misnoted) g ps = Unit {0}
+AllThere e g ps = length g.declared ≡ length ps
 
 get_last : {A : Type 0} (xs : List A) (x : A) (k : ℕ) (v : A) → slice_get (xs ++ (x ∷ [])) k ≡ Some v → (slice_get xs k ≡ Some v) ⊎ ((k ≡ length xs) × (x ≡ v))
 get_last [] x zero v e = inr (refl, some_same x v e)
@@ -212,19 +226,31 @@ still y len a vs g b p free e = ⊎_elim
     (λ out. laid_out a len everywhere_what vs g.what b out ∙ e)
     (among a b vs)
 
-pub final_constant : (x len a : ℕ) (vs : List ℤ) (g : Ghost) (ps : List ℕ) → ((k : ℕ) → k < length vs → g.what (a + k) ≡ Free) → Final g ps → Final (holding (ConstantOf x) len a vs g) ps
-final_constant x len a vs g ps free w k v e = let (m, at, is) = w k v e in (m, at, λ i lt. still (ConstantOf x) len a vs g (m + i) (Kept (v.address + i)) free (is i lt))
+pub final_constant : (x len a : ℕ) (vs : List ℤ) (g : Ghost) (ps : List Variable) → ((k : ℕ) → k < length vs → g.what (a + k) ≡ Free) → Final g ps → Final (holding (ConstantOf x) len a vs g) ps
+final_constant x len a vs g ps free w k v e =
+    let (m, at, is) = w k v e in
+    (m, at, (is.0, is.1, λ i lt. still (ConstantOf x) len a vs g (m.address + i) (Kept (v.address + i)) free (is.2 i lt)))
 
-pub final_variable : (x len a p : ℕ) (vs : List ℤ) (g : Ghost) (ps : List ℕ) → a ≡ p → length ps ≡ length g.declared → ((k : ℕ) → k < length vs → g.what (a + k) ≡ Free) → Final g ps → Final (holding (VariableOf x) len a vs g) (ps ++ (p ∷ []))
-final_variable x len a p vs g ps same many free w k v e = ⊎_elim
-    (λ old. let (m, at, is) = w k v old in (m, get_left ps (p ∷ []) k m at, λ i lt. still (VariableOf x) len a vs g (m + i) (Kept (v.address + i)) free (is i lt)))
-    (λ r. let (at, is) = r in (
-      p,
-      (let z : k ≡ length ps + 0 = omega (arith, at, many) in ap (λ k. slice_get (ps ++ (p ∷ [])) k) z ∙ get_right ps (p ∷ []) 0),
-      λ i lt. subst (λ v. i < v.cells → (holding (VariableOf x) len a vs g).what (p + i) ≡ Stands Full (Kept (v.address + i))) is
-          (λ lt. subst (λ p. (holding (VariableOf x) len a vs g).what (p + i) ≡ Stands Full (Kept (len + i))) same (let (u, at) = get_of vs i lt in laid_in a len everywhere_what vs g.what i u at)) lt,
+abbrev pub variable_at : (x address cells : ℕ) → Variable
+variable_at x address cells = record { object = x; address = address; cells = cells }
+
+pub final_variable : (x len a p n : ℕ) (vs : List ℤ) (g : Ghost) (ps : List Variable) → a ≡ p → length vs ≡ n → length ps ≡ length g.declared → ((k : ℕ) → k < length vs → g.what (a + k) ≡ Free) → Final g ps → Final (holding (VariableOf x) len a vs g) (ps ++ (variable_at x p n ∷ []))
+final_variable x len a p n vs g ps same size many free w k v e = ⊎_elim
+    (λ old. let (m, at, is) = w k v old in (
+      m,
+      get_left ps (variable_at x p n ∷ []) k m at,
+      (is.0, is.1, λ i lt. still (VariableOf x) len a vs g (m.address + i) (Kept (v.address + i)) free (is.2 i lt)),
     ))
-    (get_last g.declared (record { object = x; address = len; cells = length vs }) k v e)
+    (λ r. let (at, is) = r in (
+      variable_at x p n,
+      (let z : k ≡ length ps + 0 = omega (arith, at, many) in ap (λ k. slice_get (ps ++ (variable_at x p n ∷ [])) k) z ∙ get_right ps (variable_at x p n ∷ []) 0),
+      subst (λ v. Lies (holding (VariableOf x) len a vs g) v (variable_at x p n)) is (
+        refl,
+        size,
+        λ i lt. subst (λ p. (holding (VariableOf x) len a vs g).what (p + i) ≡ Stands Full (Kept (len + i))) same (let (u, at) = get_of vs i lt in laid_in a len everywhere_what vs g.what i u at),
+      ),
+    ))
+    (get_last g.declared (variable_at x len (length vs)) k v e)
 
 -- all that stands for cells of the stored run may be written
 abbrev pub AllFull : Ghost → Type 0
@@ -279,8 +305,8 @@ fit_patch a (v ∷ vs) g {s} {d} free w =
 
 module _ (limit : ℕ) (c : Code) (f : Fixed) (x : Ends) where
   -- a part lands where something fits in which the variables stand
-  abbrev pub Ending : List ℕ → Step → ℕ → (Dyn → Step) → stored.State → Result (Unit {0}) Cause → Type 0
-  Ending ps from turns to t e = (h : Ghost) × Final h ps × Lands limit c f x any h from turns (λ _ d. to d) t e
+  abbrev pub Ending : List Variable → Step → ℕ → (Dyn → Step) → stored.State → Result (Unit {0}) Cause → Type 0
+  Ending ps from turns to t e = (h : Ghost) × (Final h ps × AllThere e h ps) × Lands limit c f x any h from turns (λ _ d. to d) t e
 
   fit_over : (y : Entity) (s t : stored.State) (h : Ghost) {d : Dyn} → Fit h t d → Fit (record h { everywhere = set h.everywhere (key y) (slot_at s.everywhere (key y)) }) (stored.ended Everywhere y s t) d
   fit_over y s t h {d} w = record {
@@ -298,7 +324,7 @@ module _ (limit : ℕ) (c : Code) (f : Fixed) (x : Ends) where
   }
 
   -- a new object that is visible everywhere, whose first values stand in its cells
-  pub elaborates_main : (g : Ghost) (m : Stored (Unit {0})) (from : Step) (to : Dyn → Step) (ps : List ℕ) (y : Entity) (a : ℕ) (vs : List ℤ) (s : stored.State) (d : Dyn) → Final g ps → Fit (keeping a vs g) s d → AreSound f.asked ((stored.elaborates Everywhere y vs m).visits s)
+  pub elaborates_main : (g : Ghost) (m : Stored (Unit {0})) (from : Step) (to : Dyn → Step) (ps : List Variable) (y : Entity) (a : ℕ) (vs : List ℤ) (s : stored.State) (d : Dyn) → Final g ps → Fit (keeping a vs g) s d → AreSound f.asked ((stored.elaborates Everywhere y vs m).visits s)
       → (key y < length g.everywhere → Fit (holding y (length s.kept) a vs g) (stored.begun Everywhere y vs s) d → AreSound f.asked (m.visits (stored.begun Everywhere y vs s)) → (let r = m.does (stored.begun Everywhere y vs s) in Ending ps from s.turns to r.state r.end))
       → (let r = (stored.elaborates Everywhere y vs m).does s in Ending ps from s.turns to r.state r.end)
   unfolding stored.elaborates
@@ -309,7 +335,9 @@ module _ (limit : ℕ) (c : Code) (f : Fixed) (x : Ends) where
 
       back : (t : stored.State) (e : Result (Unit {0}) Cause) → Ending ps from s.turns to t e → Ending ps from s.turns to (stored.ended Everywhere y s t) e
       back t (Ok r) (h, w, l) = (over h, w, (l.0, record { dyn = l.1.dyn; fit = fit_over y s t h l.1.fit; comes = l.1.comes; grows = l.1.grows }))
-      back t (Err (Left z)) (h, w, l) = (over h, w, record { dyn = l.dyn; fit = fit_over y s t h l.fit; comes = l.comes; grows = l.grows })
+      back t (Err (Left (Raises r))) (h, w, l) = (over h, w, record { dyn = l.dyn; fit = fit_over y s t h l.fit; comes = l.comes; grows = l.grows })
+      back t (Err (Left (Returns v))) (h, w, l) = (over h, w, record { dyn = l.dyn; fit = fit_over y s t h l.fit; comes = l.comes; grows = l.grows })
+      back t (Err (Left (Exits n))) (h, w, l) = (over h, w, record { dyn = l.dyn; fit = fit_over y s t h l.fit; comes = l.comes; grows = l.grows })
       back t (Err OutOfTurns) (h, w, l) = (over h, w, record { dyn = l.dyn; fit = fit_over y s t h l.fit; comes = l.comes; grows = l.grows })
       back t (Err CutOff) (h, w, l) = (over h, w, record { dyn = l.dyn; fit = fit_over y s t h l.fit; comes = l.comes; grows = l.grows })
       back t (Err NoRoom) (h, w, l) = (over h, w, tt)
@@ -324,10 +352,10 @@ module _ (limit : ℕ) (c : Code) (f : Fixed) (x : Ends) where
           (back r.state r.end (k slots (fit_holding y a vs g fit) (subst (λ b. AreSound f.asked (cond b (m.visits (stored.begun Everywhere y vs s)) [])) e sound)))
       go false e =
           let r = m.does (stored.begun Everywhere y vs s) in
-          subst (λ b. let z = cond b (stored.at (stored.ended Everywhere y s r.state) r.end) (stored.at s (Err NoRoom)) in Ending ps from s.turns to z.state z.end) (sym e) (g, final, tt)
+          subst (λ b. let z = cond b (stored.at (stored.ended Everywhere y s r.state) r.end) (stored.at s (Err NoRoom)) in Ending ps from s.turns to z.state z.end) (sym e) (g, (final, tt), tt)
 
   -- what comes before
-  pub ending_from : {from from' : Step} {n m : ℕ} (to : Dyn → Step) (ps : List ℕ) (t : stored.State) (e : Result (Unit {0}) Cause) → Comes limit c (is_some f.asked) from from' → n ≤ m → Ending ps from' m to t e → Ending ps from n to t e
+  pub ending_from : {from from' : Step} {n m : ℕ} (to : Dyn → Step) (ps : List Variable) (t : stored.State) (e : Result (Unit {0}) Cause) → Comes limit c (is_some f.asked) from from' → n ≤ m → Ending ps from' m to t e → Ending ps from n to t e
   ending_from to ps t e z le (h, w, l) = (h, w, lands_from limit c f x any (λ _ d. to d) t e z le (λ s d fit. fit) l)
 
   -- values that are known go on in their cells
@@ -346,24 +374,26 @@ module _ (limit : ℕ) (c : Code) (f : Fixed) (x : Ends) where
   }
 
   -- values, and then a part that begins with them in their cells
-  pub values_main : (g : Ghost) (from : ℕ) (to : Dyn → Step) (ps : List ℕ) (n a q : ℕ) (m : Stored (List ℤ)) (k : List ℤ → Stored (Unit {0})) (s : stored.State) (d : Dyn) → Final g ps → AllFull g → ((k : ℕ) → k < n → g.what (a + k) ≡ Free) → Fit g s d → AreSound f.asked ((stored.bind m k).visits s)
+  pub values_main : (g : Ghost) (from : ℕ) (to : Dyn → Step) (ps : List Variable) (n a q : ℕ) (m : Stored (List ℤ)) (k : List ℤ → Stored (Unit {0})) (s : stored.State) (d : Dyn) → Closed Raised m → Final g ps → AllFull g → ((k : ℕ) → k < n → g.what (a + k) ≡ Free) → Fit g s d → AreSound f.asked ((stored.bind m k).visits s)
       → (((cs : List ℤ) (mid : ℕ) → length cs ≡ n → mid ≡ q → Doing limit c f x (keeping a cs g) g (λ cs. length cs ≡ n) (stored.ret cs) (λ d. on f mid [] d) (λ cs d. on f q [] (patch a cs d))) → Doing limit c f x g g (λ cs. length cs ≡ n) (stored.bind m stored.ret) (λ d. on f from [] d) (λ cs d. on f q [] (patch a cs d)))
       → ((cs : List ℤ) (t : stored.State) (e : Dyn) → length cs ≡ n → Fit (keeping a cs g) t e → AreSound f.asked ((k cs).visits t) → (let r = (k cs).does t in Ending ps (on f q [] e) t.turns to r.state r.end))
       → (let r = (stored.bind m k).does s in Ending ps (on f from [] d) s.turns to r.state r.end)
   unfolding stored.bind stored.ret
-  values_main g from to ps n a q m k s d final full free fit sound into then =
+  values_main g from to ps n a q m k s d raises final full free fit sound into then =
       let (first, rest) = sound_split limit c f x f.asked (m.visits s) (stored.next_visits (m.does s).state (m.does s).end k) sound in
-      go (m.does s).state (m.does s).end rest ((into (λ cs mid len same. kept_lands n a q mid cs len same free)).by s d fit (allows_all g full ((stored.bind m stored.ret).touches s), sound_join limit c f x f.asked (m.visits s) _ first (none_after (m.does s).state (m.does s).end)))
+      go (m.does s).state (m.does s).end (raises.by s) rest ((into (λ cs mid len same. kept_lands n a q mid cs len same free)).by s d fit (allows_all g full ((stored.bind m stored.ret).touches s), sound_join limit c f x f.asked (m.visits s) _ first (none_after (m.does s).state (m.does s).end)))
     where
       none_after : (t : stored.State) (e : Result (List ℤ) Cause) → AreSound f.asked (stored.next_visits t e stored.ret)
       none_after t (Ok cs) = none_sound limit c f x f.asked
       none_after t (Err e) = none_sound limit c f x f.asked
 
-      go : (t : stored.State) (e : Result (List ℤ) Cause) → AreSound f.asked (stored.next_visits t e k) → (let r = stored.next t e stored.ret in Lands limit c f x (λ cs. length cs ≡ n) g (on f from [] d) s.turns (λ cs d. on f q [] (patch a cs d)) r.state r.end)
+      go : (t : stored.State) (e : Result (List ℤ) Cause) → ((l : Leave) → e ≡ Err (Left l) → Raised l) → AreSound f.asked (stored.next_visits t e k) → (let r = stored.next t e stored.ret in Lands limit c f x (λ cs. length cs ≡ n) g (on f from [] d) s.turns (λ cs d. on f q [] (patch a cs d)) r.state r.end)
           → (let r = stored.next t e k in Ending ps (on f from [] d) s.turns to r.state r.end)
-      go t (Ok cs) sound (len, l) = ending_from to ps ((k cs).does t).state ((k cs).does t).end l.comes l.grows (then cs t (patch a cs l.dyn) len (fit_patch a cs g (λ k lt. free k (omega (arith, lt, len))) l.fit) sound)
-      go t (Err (Left z)) sound l = (g, final, l)
-      go t (Err OutOfTurns) sound l = (g, final, l)
-      go t (Err CutOff) sound l = (g, final, l)
-      go t (Err NoRoom) sound l = (g, final, tt)
-      go t (Err Misnoted) sound l = (g, final, l)
+      go t (Ok cs) only sound (len, l) = ending_from to ps ((k cs).does t).state ((k cs).does t).end l.comes l.grows (then cs t (patch a cs l.dyn) len (fit_patch a cs g (λ k lt. free k (omega (arith, lt, len))) l.fit) sound)
+      go t (Err (Left (Raises x))) only sound l = (g, (final, tt), l)
+      go t (Err (Left (Returns v))) only sound l = absurd (only (Returns v) refl)
+      go t (Err (Left (Exits n))) only sound l = absurd (only (Exits n) refl)
+      go t (Err OutOfTurns) only sound l = (g, (final, tt), l)
+      go t (Err CutOff) only sound l = (g, (final, tt), l)
+      go t (Err NoRoom) only sound l = (g, (final, tt), tt)
+      go t (Err Misnoted) only sound l = (g, (final, tt), l)

@@ -36,7 +36,7 @@ abbrev asks_named : Asks Instance
 asks_named ordered who site c s js may = (x y : Entity) (i j : ℕ) (l : Instance) → Visible s x i l → Visible s y j l → x ≡ y
 
 named_law : (program : Program) → TeamLaw program (λ k. InProgram program (Holds k)) asks_named
-named_law program A first_value f site con same held compared distinct total ns bound mine b s p lives = λ x y i j l v w. sym (lives.named x i l v) ∙ lives.named y j l w
+named_law program A first_value f site con same held compared distinct total ns bound items mine b s p lives = λ x y i j l v w. sym (lives.named x i l v) ∙ lives.named y j l w
 
 lives_start : (program : Program) → Lives program nothing_visible start
 lives_start program = record {

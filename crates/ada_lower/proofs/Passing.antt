@@ -1,5 +1,5 @@
 -- A call whose actual parameters are on their way to the cells of its formals: those that are left have free cells.
-use Rattle.std.proofs.Common.{◌≡◌, ℕ, ◌+◌, ◌≤◌, ℤ, List, [], ◌∷◌, length, ap, ◌∙◌, subst, arith, ◌⊎◌, inl, inr, ⊎_elim}
+use Rattle.std.proofs.Common.{◌≡◌, ℕ, ◌+◌, ◌≤◌, ℤ, List, [], ◌∷◌, length, ap, ◌∙◌, subst, arith, inl, inr, ⊎_elim}
 use Rattle.ada_meaning.specs.Stored as stored
 use Rattle.ada_meaning.specs.Meaning.{Env}
 use Rattle.typed_scopes.specs.Scopes.{Without}

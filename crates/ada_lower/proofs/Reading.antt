@@ -20,6 +20,7 @@ use Rattle.ada_lower.specs.Driven.{Dyn, On, Finally}
 use Rattle.ada_lower.specs.Sights.{Named, Stands, listed, own}
 use Rattle.ada_lower.specs.Bodies.{main_named, main_scope, main_code, MainFitted}
 use Rattle.ada_lower.proofs.Example.{integer, check, number, none_there, none_main, text, four_each, no_fork, no_threads}
+use Rattle.ada_lower.proofs.ExecLeaves.{call_only}
 use Rattle.ada_lower.proofs.Main.{first_dyn, program_gives}
 
 abbrev pub main : Stmts
@@ -76,10 +77,10 @@ pub comes : (limit : ℕ) (cuts : ℕ → ℕ → List ℕ) (slots : ℕ) (input
     → (d : Dyn) × Finally limit code (On (record { state = begun 0 0 [] 0 0 0 None (replicate 4 (Mine (pos 0))); world = (first_dyn notes cuts 4 input before).world })) (record { how = Done None; dyn = d }) × (d.world.output ≡ r.state.output)
     × ((v : slot.Variable) → slice_get r.state.declared 0 ≡ Some v → (i : ℕ) → i < v.cells → (u : ℤ) × (slice_get r.state.kept (v.address + i) ≡ Some u) × (slice_get d.cells (0 + i) ≡ Some (Mine u)))
 comes limit cuts slots input before notes e =
-    let (d, a, b, t, w) = program_gives None limit cuts program code none_there none_main no_threads [] text four_each no_fork slots 4 refl (λ f fa depth all. record { forked = (λ e from to g env x s h st k en w l. absurd w); parallel = (λ t from to g env x s k u w l. absurd w) }) (λ n unit q. absurd (none-some unit q)) 0 30 stands fitted input before notes tt e in (
+    let (d, a, b, t, w) = program_gives None limit cuts program code none_there none_main no_threads [] text four_each no_fork slots 4 refl (call_only limit cuts program (λ n sub e. absurd (none-some sub e)) 1000) (λ f fa depth all. record { forked = (λ e from to g env x s h st k en w l. absurd w); parallel = (λ t from to g env x s k u w l. absurd w) }) (λ n unit q. absurd (none-some unit q)) 0 30 stands fitted input before notes tt e in (
       d,
       a,
       b,
-      λ v is i lt. let (m, at, cells) = w 0 v is in
-          let (u, kept, mine) = cells i lt in (u, kept, subst (λ m. slice_get d.cells (m + i) ≡ Some (Mine u)) (sym (some_same 0 m at)) mine),
+      λ v is i lt. let (m, at, final) = w.each 0 v is in
+          let (u, kept, mine) = final.values i lt in (u, kept, subst (λ (m : slot.Variable). slice_get d.cells (m.address + i) ≡ Some (Mine u)) (sym (some_same _ m at)) mine),
     )

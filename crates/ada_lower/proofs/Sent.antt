@@ -1,6 +1,6 @@
 -- Actual parameters in the cells of a call's frame, each where its formal is: ahead of the cells of a formal that is copied
 -- back stands the address of its target.
-use Rattle.std.proofs.Common.{◌≡◌, ℕ, zero, suc, ◌+◌, ◌<◌, ◌≤◌, ℤ, List, [], ◌∷◌, ◌++◌, length, take, slice_get, nat_lt, Option, Some, None, Result, Ok, Err, Bool, true, false, cond, refl, sym, ap, ◌∙◌, subst, le_refl, le_trans, arith, ◌⊎◌, inl, inr, ⊎_elim, ltb-true, append_assoc, append-nil, is_some}
+use Rattle.std.proofs.Common.{◌≡◌, ℕ, zero, suc, ◌+◌, ◌<◌, ◌≤◌, ℤ, List, [], ◌∷◌, ◌++◌, length, take, slice_get, nat_lt, Option, Some, None, Result, Ok, Err, Bool, true, false, cond, refl, sym, ap, ◌∙◌, subst, le_refl, le_trans, arith, inl, inr, ⊎_elim, ltb-true, append_assoc, append-nil, is_some}
 use Rattle.ada_base.specs.declared.reason.Reason.{Reason}
 use Rattle.behaviours.specs.Paths.{Entity, ConstantOf, Here, Raises}
 use Rattle.ada_meaning.specs.Operations.{Operations}

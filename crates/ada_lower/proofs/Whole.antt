@@ -15,7 +15,7 @@ use Rattle.ada_lower.proofs.Alike.{alike}
 use Rattle.ada_lower.specs.Teams.{AreSound}
 use Rattle.ada_lower.specs.Sights.{Named, Sight}
 use Rattle.ada_lower.specs.FittedForks.{FittedForks, FittedReductions, Within}
-use Rattle.ada_lower.specs.Bodies.{main_scope, positions, MainFitted, AllStand}
+use Rattle.ada_lower.specs.Bodies.{main_scope, MainFitted, AllStand}
 use Rattle.ada_lower.specs.ProgramCode.{AreNamed, IsCodeOf, AllFit}
 use Rattle.typed_scopes.specs.Outs.{AllClosed}
 use Rattle.ada_lower.proofs.Calls.{CallsDo}
@@ -25,7 +25,9 @@ use Rattle.ada_lower.proofs.ForkDoes.{forks_do}
 use Rattle.ada_lower.proofs.FoldDoes.{folds_do}
 use Rattle.ada_lower.proofs.ForkLaws.{ForksDo}
 use Rattle.ada_lower.proofs.ProgramStands.{main_to, main_there, all_stand}
-use Rattle.ada_lower.proofs.Main.{outermost, first_dyn, main_ends, Finals, program_does, program_gives}
+use Rattle.lower_leased.specs.Homes.{main_variables}
+use Rattle.ada_lower.specs.Law.{AreFinals}
+use Rattle.ada_lower.proofs.Main.{outermost, first_dyn, main_ends, program_does, program_gives}
 use Rattle.ada_lower.proofs.Lent.{Lending}
 use Rattle.stack_code.specs.declared.code.CodeSite.{CodeSite}
 
@@ -51,13 +53,13 @@ module _ (asked : Option Program) (lent : Bool → Sight → ℕ → CodeSite �
     pub stood : AllStand program globals mains texts text frames Folds Par c
     stood = all_stand program globals mains texts text frames c code named Folds Par fit
 
-    -- the main procedure's variables stand at their positions
+    -- the main procedure's variables stand in their cells
     pub whole_does : (input before : List ℕ) (notes : Schedule) → AreSound asked ((Meaning.main ops limit program).visits (stored.noted_outset slots input before notes)) → let r = (Meaning.main ops limit program).does (stored.noted_outset slots input before notes) in
-        Ending limit c (outermost asked) main_ends (positions program globals mains texts text frames 0 program.body.decls) (on (outermost asked) 0 [] (first_dyn notes cuts frame input before)) 0 (λ d. off (Done None) d) r.state r.end
-    whole_does = program_does asked limit cuts program c globals mains Folds texts text frames Par slots frame same_texts pars stood 0 (main_to program globals mains texts text frames c code named) (main_there program globals mains texts text frames c code named frame) fitted
+        Ending limit c (outermost asked) main_ends (main_variables program 0 program.body.decls) (on (outermost asked) 0 [] (first_dyn notes cuts frame input before)) 0 (λ d. off (Done None) d) r.state r.end
+    whole_does = program_does asked limit cuts program c globals mains Folds texts text frames Par slots frame same_texts (call_only limit cuts program closed 1000) pars stood 0 (main_to program globals mains texts text frames c code named) (main_there program globals mains texts text frames c code named frame) fitted
 
     -- where the stored run gives a value, the machine ends, with the same output, turns and finals
     pub whole_gives : (input before : List ℕ) (notes : Schedule) → AreSound asked ((Meaning.main ops limit program).visits (stored.noted_outset slots input before notes)) → let r = (Meaning.main ops limit program).does (stored.noted_outset slots input before notes) in r.end ≡ Ok tt
         → (d : Dyn) × Finally limit c (On (record { state = begun 0 0 [] 0 0 0 None (replicate frame (Mine (pos 0))); world = (first_dyn notes cuts frame input before).world })) (record { how = Done None; dyn = d }) × (d.world.output ≡ r.state.output) × (d.turns ≡ r.state.turns)
-        × Finals asked limit cuts program c globals mains Folds texts text frames Par slots frame same_texts pars stood 0 (main_to program globals mains texts text frames c code named) (main_there program globals mains texts text frames c code named frame) fitted r.state d
-    whole_gives = program_gives asked limit cuts program c globals mains Folds texts text frames Par slots frame same_texts pars stood 0 (main_to program globals mains texts text frames c code named) (main_there program globals mains texts text frames c code named frame) fitted
+        × AreFinals (main_variables program 0 program.body.decls) r.state d
+    whole_gives = program_gives asked limit cuts program c globals mains Folds texts text frames Par slots frame same_texts (call_only limit cuts program closed 1000) pars stood 0 (main_to program globals mains texts text frames c code named) (main_there program globals mains texts text frames c code named frame) fitted

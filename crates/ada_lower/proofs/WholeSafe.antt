@@ -23,12 +23,12 @@ use Rattle.ada_lower.specs.Fits.{Ghost, Lands}
 use Rattle.ada_lower.specs.Teams.{AreSound, IsSound, OnePlace}
 use Rattle.ada_lower.specs.FittedForks.{Within}
 use Rattle.ada_lower.specs.Outset.{outermost, first_dyn, main_ends}
-use Rattle.ada_lower.specs.Leased.{leased_ranges}
+use Rattle.ada_lower.specs.Leased.{leased}
 use Rattle.ada_lower.specs.Law.{IsLoweredBy, ViewLaw}
 use Rattle.ada_lower.proofs.ForkFuel.{safe_off}
 use Rattle.ada_lower.proofs.OnePlace.{one_law}
 use Rattle.ada_lower.proofs.Lent.{Lending}
-use Rattle.ada_lower.proofs.RangesLent.{lending_ranges}
+use Rattle.ada_lower.proofs.LeasesLent.{lending_leased}
 use Rattle.ada_lower.proofs.Whole.{whole_does}
 
 -- the teams of an accepted program are sound, whatever the notes
@@ -73,7 +73,7 @@ pub accepted_safe : (lent : Bool → Sight → ℕ → CodeSite → Type 0) (pro
 accepted_safe lent program set accepted within lending c globals mains texts text frames slots frame depth low input before notes alone room =
     whole_safe lent set.limit (cuts_of set.plan) program lending within c globals mains texts text frames slots frame depth low input before notes (accepted_sound program set slots input before notes within accepted alone) room
 
--- where its constructs go through ranges or are blocks
+-- whatever its constructs go through
 pub view_law : ViewLaw
 view_law program set accepted within c globals mains texts text frames slots frame depth low input before notes alone room =
-    accepted_safe (leased_ranges program) program set accepted within (lending_ranges set.limit (cuts_of set.plan) program) c globals mains texts text frames slots frame depth low input before notes alone room
+    accepted_safe (leased program) program set accepted within (lending_leased set.limit (cuts_of set.plan) program) c globals mains texts text frames slots frame depth low input before notes alone room

@@ -141,14 +141,6 @@ module _ (program : Program) (globals : ℕ → Entity → Option Named) (mains 
   main_declared s (DeclareConstant x initial more) rest = put_into program (scope.taking (width program initial) s) 0 s.free initial ⨟ main_declared (main_here s (ConstantOf x) (width program initial)) more rest
   main_declared s (Mentions es more) rest = main_declared s more rest
 
-  -- where its variables stand, in order, from a cell on
-  abbrev pub positions : ℕ → Decls → List ℕ
-  positions n NoDecl = []
-  positions n (DeclareDefault x more) = n ∷ positions (n + length (object_layout program x)) more
-  positions n (DeclareVariable x initial more) = n ∷ positions (n + width program initial) more
-  positions n (DeclareConstant x initial more) = positions (n + width program initial) more
-  positions n (Mentions es more) = positions n more
-
   abbrev pub FittedMain : (Sight → Expr → Type 0) → Sight → Decls → (Sight → Type 0) → Type 0
   FittedMain epar s NoDecl body = body s
   FittedMain epar s (DeclareDefault y more) body =

@@ -1,10 +1,10 @@
 -- What default values ask of a table of subtypes: arrays have components, and each subtype stands on earlier ones, so that
 -- its parts have the cells of theirs.
 use Rattle.std.specs.Prelude.{◌≡◌, ℕ, zero, suc, ◌≤◌, List, [], ◌∷◌, length, slice_get, Option, Some, None}
-use Rattle.typed_tree.specs.declared.program.Bounds.{Bounds}
 use Rattle.typed_tree.specs.declared.program.Field.{Field}
 use Rattle.typed_tree.specs.Syntax.{OfScalar, Array, Record, Subtype, Program}
 use Rattle.ada_meaning.specs.Values.{components, layout_within}
+pub use Rattle.typed_scopes.specs.Named.{NoneEmpty}
 use Rattle.ada_lower.specs.Emission.{cells_of, subtype_or_none}
 
 abbrev pub EachFilled : (within : ℕ → Type 0) → List Field → Type 0
@@ -25,7 +25,3 @@ module _ (program : Program) where
   -- an object that may be declared without an initial value
   abbrev pub Filled : ℕ → Type 0
   Filled x = FilledWithin (length program.subtypes) (subtype_or_none program (slice_get program.objects x))
-
--- no array of a table is empty
-abbrev pub NoneEmpty : List Subtype → Type 0
-NoneEmpty table = (number : ℕ) (dimensions : List Bounds) (component : ℕ) → slice_get table number ≡ Some (Array dimensions component) → 1 ≤ components dimensions

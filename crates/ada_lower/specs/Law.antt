@@ -1,5 +1,5 @@
 -- What is said of the code of whole programs.
-use Rattle.std.specs.Prelude.{◌≡◌, ℕ, ◌+◌, ◌<◌, ℤ, pos, List, [], replicate, slice_get, Some, None, Ok, Err, Bool, true, Option}
+use Rattle.std.specs.Prelude.{◌≡◌, ℕ, ◌+◌, ◌<◌, ℤ, pos, List, [], length, replicate, slice_get, Some, None, Ok, Err, Bool, true, Option}
 use Rattle.ada_base.specs.Cells.{Mine}
 use Rattle.ada_base.specs.Cuts.{cuts_of}
 use Rattle.ada_base.specs.Notes.{Schedule, InOrder}
@@ -19,11 +19,12 @@ use Rattle.stack_code.specs.Stands.{IsForward}
 use Rattle.ada_lower.specs.Sights.{Named}
 use Rattle.stack_code.specs.Valid.{IsValid}
 use Rattle.lower_emission.specs.Programs.{text_in, code_of}
+use Rattle.lower_leased.specs.Homes.{main_variables}
 use Rattle.ada_lower.specs.Driven.{Dyn, Finally, On, Safe, on, off}
 use Rattle.ada_lower.specs.Fits.{Ghost, Lands}
 use Rattle.ada_lower.specs.FittedForks.{FittedForks, FittedReductions, Within, unleased}
-use Rattle.ada_lower.specs.Leased.{leased_ranges}
-use Rattle.ada_lower.specs.Bodies.{main_scope, positions, MainFitted}
+use Rattle.ada_lower.specs.Leased.{leased}
+use Rattle.ada_lower.specs.Bodies.{main_scope, MainFitted}
 use Rattle.ada_lower.specs.ProgramCode.{AreNamed, IsCodeOf, AllFit}
 use Rattle.typed_scopes.specs.Outs.{AllClosed}
 use Rattle.ada_lower.specs.Defaults.{Filled}
@@ -57,10 +58,16 @@ WholeLaw = (limit : ℕ) (cuts : ℕ → ℕ → List ℕ) → Within cuts
     → (input before : List ℕ) (notes : Schedule) → let r = (Meaning.main (stored.noted_operations limit cuts) limit program).does (stored.noted_outset slots input before notes) in
     (h : Ghost) × Lands limit c (outermost None) main_ends (λ u. Unit {0}) h (on (outermost None) 0 [] (first_dyn notes cuts frame input before)) 0 (λ u d. off (Done None) d) r.state r.end
 
--- the variables that were declared stand at these positions in the machine's cells, with the values that the run left
-abbrev pub AreFinals : List ℕ → stored.State → Dyn → Type 0
-AreFinals ps t d = (k : ℕ) (v : Variable) → slice_get t.declared k ≡ Some v
-    → (m : ℕ) × (slice_get ps k ≡ Some m) × ((i : ℕ) → i < v.cells → (u : ℤ) × (slice_get t.kept (v.address + i) ≡ Some u) × (slice_get d.cells (m + i) ≡ Some (Mine u)))
+-- a variable stands in the machine's cells from its address there on, with the values that the run left
+pub record IsFinal (t : stored.State) (d : Dyn) (v m : Variable) : Type 0 where
+  pub object : v.object ≡ m.object
+  pub cells : v.cells ≡ m.cells
+  pub values : (i : ℕ) → i < v.cells → (u : ℤ) × (slice_get t.kept (v.address + i) ≡ Some u) × (slice_get d.cells (m.address + i) ≡ Some (Mine u))
+
+-- the variables that were declared are these, in order
+pub record AreFinals (ms : List Variable) (t : stored.State) (d : Dyn) : Type 0 where
+  pub all : length t.declared ≡ length ms
+  pub each : (k : ℕ) (v : Variable) → slice_get t.declared k ≡ Some v → (m : Variable) × (slice_get ms k ≡ Some m) × IsFinal t d v m
 
 -- Where the run gives a value, the machine is done, with the same output, the same turns and the same variables.
 abbrev pub ValueLaw : Type 0
@@ -69,14 +76,14 @@ ValueLaw = (limit : ℕ) (cuts : ℕ → ℕ → List ℕ) → Within cuts
     → (input before : List ℕ) (notes : Schedule) → let r = (Meaning.main (stored.noted_operations limit cuts) limit program).does (stored.noted_outset slots input before notes) in r.end ≡ Ok tt
     → (d : Dyn) × Finally limit c (On (record { state = begun 0 0 [] 0 0 0 None (replicate frame (Mine (pos 0))); world = (first_dyn notes cuts frame input before).world })) (record { how = Done None; dyn = d })
     × (d.world.output ≡ r.state.output) × (d.turns ≡ r.state.turns)
-    × AreFinals (positions program globals mains texts text frames 0 program.body.decls) r.state d
+    × AreFinals (main_variables program 0 program.body.decls) r.state d
 
 -- On the code of an accepted program, by whatever notes, each outermost fork is fine: whoever of those threads that are lent
--- a cell by the site's leases has it, each thread goes well on its view. Its constructs are blocks or go through ranges, the
--- leases of their sites are of what their threads may write, and the run's tables of slots have room.
+-- a cell by the site's leases has it, each thread goes well on its view. The leases of sites are of what the threads of their
+-- constructs may write, by the position of an item where those go through an array, and the run's tables of slots have room.
 abbrev pub ViewLaw : Type 0
 ViewLaw = (program : Program) (set : Setting) → IsAccepted program → Within (cuts_of set.plan)
-    → (c : Code) (globals : ℕ → Entity → Option Named) (mains : Entity → Bool) (texts : List (List ℕ)) (text : List ℕ → ℕ) (frames : ℕ → ℕ) (slots frame depth : ℕ) → IsLoweredBy (leased_ranges program) program c globals mains texts text frames frame depth
+    → (c : Code) (globals : ℕ → Entity → Option Named) (mains : Entity → Bool) (texts : List (List ℕ)) (text : List ℕ → ℕ) (frames : ℕ → ℕ) (slots frame depth : ℕ) → IsLoweredBy (leased program) program c globals mains texts text frames frame depth
     → (input before : List ℕ) (notes : Schedule) → (set.one ≡ true → notes ≡ InOrder) → (((stored.noted program set).does (stored.noted_outset slots input before notes)).end ≡ Err stored.NoRoom → ⊥)
     → Safe set.limit c true (on (outermost (Some program)) 0 [] (first_dyn notes (cuts_of set.plan) frame input before))
 
@@ -90,8 +97,8 @@ abbrev pub ValidLaw : Type 0
 ValidLaw = (program : Program) (text : List ℕ → ℕ) (c : Code) → IsCodeOf program text c → HasTables program text c → IsReady program → ((x : ℕ) → Filled program x) → IsValid c
 
 -- The whole code of a program, by its definition, is its code and has those tables, where the numbers of constructs are
--- distinct, those of lines of the program's table, and greater within the threads of others, no value for several runs holds a
--- construct, and leases are of frames that the forks see.
+-- distinct, those of lines of the program's table, and greater within the threads of others, and leases are of frames that the
+-- forks see.
 abbrev pub TablesLaw : Type 0
 TablesLaw = (program : Program) (leases : ℕ → List Lease) → SitesAreDistinct program → SitesAreListed program → SitesAreNested program → LeasesFit program leases
     → IsCodeOf program (text_in program) (code_of program leases) × HasTables program (text_in program) (code_of program leases)

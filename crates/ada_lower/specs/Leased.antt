@@ -6,7 +6,7 @@ use Rattle.ada_meaning.specs.Values.{between, to_nat, count}
 use Rattle.ada_meaning.specs.Shapes.{Shape, Single, Record, Dimension, size, object_shape, FieldAt}
 use Rattle.check_effects.specs.Effects.{Selector, At, Fixed, LoopIndex, ChunkIndex, Any, Access, Construct, Holds}
 use Rattle.check_effects.specs.Conflicts.{EffectPath, path_of, InProgram, IsThreadEffect}
-use Rattle.check_effects.specs.Covered.{arm_of, site_of}
+use Rattle.check_effects.specs.Covered.{arm_of, site_of, has_items}
 use Rattle.stack_code.specs.declared.code.CodeSite.{CodeSite}
 use Rattle.stack_code.specs.declared.code.Lease as code
 use Rattle.lower_emission.specs.declared.types.Named.{Named}
@@ -83,6 +83,7 @@ module _ (program : Program) where
     -- the leases of a site are of the paths that the threads of its construct may write, each within an object; of a path
     -- that has no cell, or is of an object that isn't there, none is needed
     pub record AreLeased (site : ℕ) (cs : CodeSite) : Type 0 where
+      pub goes : (k : Construct) → InProgram program (Holds k) → site_of k ≡ site → has_items k ≡ items
       pub granted : (k : Construct) → InProgram program (Holds k) → site_of k ≡ site → (j i at : ℕ) (a : Access) → IsThreadEffect program k (arm_of k j i) at a → a.writes ≡ true → MayBe a.object
           → (v ch : ℤ) (n : ℕ) → LiesUnderPath items v ch (path_of a) n → (l : code.Lease) × Among l cs.leases × IsOfArm cs.kind i l.arm × IsLease (path_of a) l
       pub leased : (k : Construct) → InProgram program (Holds k) → site_of k ≡ site → (l : code.Lease) → Among l cs.leases → (j i : ℕ) → IsOfArm cs.kind i l.arm
@@ -92,8 +93,3 @@ module _ (program : Program) where
 -- what leases are
 abbrev pub leased : Program → (items : Bool) → Sight → ℕ → CodeSite → Type 0
 leased program items s site cs = AreLeased program s.scope.object s.global s.main s.seen items site cs
-
--- what is asked of leases at a fork; those of a construct that goes through an array aren't told yet
-abbrev pub leased_ranges : Program → (items : Bool) → Sight → ℕ → CodeSite → Type 0
-leased_ranges program true s site cs = ⊥
-leased_ranges program false s site cs = leased program false s site cs

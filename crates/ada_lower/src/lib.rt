@@ -8,8 +8,8 @@ ghost use Rattle.ada_lower.specs.Law.{ForwardLaw, TablesLaw, ValidLaw, ValueLaw,
 /// its threads on one memory.
 /// - whole: the machine on the code lands where the run ends.
 /// - value: where the run gives a value, the machine is done, with the same output, turns and variables.
-/// - view: on the code of an accepted program whose constructs go through ranges or are blocks, threads of each outermost
-///   construct go well on the cells that the leases of its site lend them.
+/// - view: on the code of an accepted program threads of each outermost construct go well on the cells that the leases of its
+///   site lend them.
 /// - forward: the code is forward, so the machine comes to an end.
 /// - valid: the code is valid, with tables as `HasTables` of `specs/HasTables.antt` says, so the machine never goes astray.
 /// - tables: the whole code of a program, by its definition, has those tables.

@@ -103,7 +103,7 @@ module _ (T : ℕ → ℕ → Type 0) (program : Program) (shown : ℕ → Entit
   a_piece_values v s o xs en NoPiece k p = tt
   a_piece_values v s o xs en (Text bytes rest) k p = a_piece_values v s o xs en rest k p
   a_piece_values v s o xs en (Image class e rest) k p = (a_emit T program shown v s o xs en 0 e k p.0, ((plain T v s o xs en k), a_piece_values v (taking 1 s) o xs en rest k p.1))
-  a_piece_values v s o xs en (Padded class e (Static at value literal mentions) rest) k p = (a_emit T program shown v s o xs en 0 e k p.0, ((plain T v s o xs en k), a_piece_values v (taking 1 s) o xs en rest k p.1))
+  a_piece_values v s o xs en (Padded class e (Static at value literal mentions) rest) k p = (a_emit T program shown v s o xs en 0 e k p.0, ((plain T v s o xs en k), a_piece_values v (taking 1 s) o xs en rest k p.2))
   a_piece_values v s o xs en (Padded class e most rest) k p = absurd p
 
   -- ---- declarations
@@ -136,7 +136,7 @@ module _ (T : ℕ → ℕ → Type 0) (program : Program) (shown : ℕ → Entit
         a_into T program shown v (taking n s) o xs en 0 s.free _ initial k p.1,
         a_declared (scopes.with_object (ConstantOf x) v) (object_here s (ConstantOf x) n) (λ z. cond (entity_eq (ConstantOf x) z) (Some named) (o z)) xs en more rest rest' does (like_object v s o xs en (ConstantOf x) named k) p.2 f,
       )
-  a_declared v s o xs en (Mentions es more) rest rest' does k p f = a_declared v s o xs en more rest rest' does k p f
+  a_declared v s o xs en (Mentions es more) rest rest' does k p f = a_declared v s o xs en more rest rest' does k p.1 f
 
   -- ---- statements
 
@@ -281,8 +281,8 @@ module _ (T : ℕ → ℕ → Type 0) (program : Program) (shown : ℕ → Entit
 
     a_cases : (v : Around) (s : Scope) (o : Entity → Option Named) (xs : ℕ → Option ℕ) (en : Option ℕ) (d : ℕ) (x : Alternatives) → Like T v s o xs en → ScopedAlternatives program shown v x → Alike T (cases program s d x) (cases program (prime o xs en s) d x)
     a_cases v s o xs en d NoAlternative k p = (plain T v s o xs en k)
-    a_cases v s o xs en d (Alternative true choices mentions stmts rest) k p = a_all v s o xs en stmts k p.1
-    a_cases v s o xs en d (Alternative false choices mentions stmts rest) k p = (a_chosen T v s o xs en k d choices, ((marked T v s o xs en k), refl, refl, a_all v s o xs en stmts k p.1, a_cases v s o xs en d rest k p.2))
+    a_cases v s o xs en d (Alternative true choices mentions stmts rest) k p = a_all v s o xs en stmts k p.2
+    a_cases v s o xs en d (Alternative false choices mentions stmts rest) k p = (a_chosen T v s o xs en k d choices, ((marked T v s o xs en k), refl, refl, a_all v s o xs en stmts k p.2, a_cases v s o xs en d rest k p.3))
 
     a_handling : (v : Around) (s : Scope) (o : Entity → Option Named) (xs : ℕ → Option ℕ) (en : Option ℕ) (d : ℕ) (x : Handlers) → Like T v s o xs en → ScopedHandlers program shown v x → Alike T (handling program s d x) (handling program (prime o xs en s) d x)
     a_handling v s o xs en d NoHandler k p = ((plain T v s o xs en k), (plain T v s o xs en k))
@@ -335,4 +335,4 @@ module _ (T : ℕ → ℕ → Type 0) (program : Program) (shown : ℕ → Entit
         a_into T program shown v (taking n s) o xs en 0 s.free _ initial k p.1,
         a_main (with_outer (ConstantOf x) v) (code.main_object s (ConstantOf x) n) (λ z. cond (entity_eq (ConstantOf x) z) (Some named) (o z)) xs en more rest rest' does (like_object v s o xs en (ConstantOf x) named k) p.2 f,
       )
-  a_main v s o xs en (Mentions es more) rest rest' does k p f = a_main v s o xs en more rest rest' does k p f
+  a_main v s o xs en (Mentions es more) rest rest' does k p f = a_main v s o xs en more rest rest' does k p.1 f

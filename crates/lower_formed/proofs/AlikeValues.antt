@@ -155,13 +155,13 @@ module _ (T : ℕ → ℕ → Type 0) (program : Program) (shown : ℕ → Entit
     a_associated v s o xs en h t n NoAssociation k p = tt
     a_associated v s o xs en h t n (Association runs None mentions value rest) k p = (
       a_cond T (takes_turns runs None value) _ _ _ _
-          (a_turnings T v s o xs en k h t (pos 0) (component program (taking 3 s) (turn_height runs h) (s.free + 1 + 1) value) (component program (taking 3 (prime o xs en s)) (turn_height runs h) (s.free + 1 + 1) value) runs (a_component v (taking 3 s) o xs en (turn_height runs h) (s.free + 1 + 1) _ value k p.1.2))
-          (a_fillings T v s o xs en k h t (width program value) (is_plain value) (λ n. put_into program s h (t + n) value) (λ n. put_into program (prime o xs en s) h (t + n) value) runs (λ n. a_into v s o xs en h (t + n) _ value k p.1.2)),
-      a_associated v s o xs en h t n rest k p.2,
+          (a_turnings T v s o xs en k h t (pos 0) (component program (taking 3 s) (turn_height runs h) (s.free + 1 + 1) value) (component program (taking 3 (prime o xs en s)) (turn_height runs h) (s.free + 1 + 1) value) runs (a_component v (taking 3 s) o xs en (turn_height runs h) (s.free + 1 + 1) _ value k p.2.2))
+          (a_fillings T v s o xs en k h t (width program value) (is_plain value) (λ n. put_into program s h (t + n) value) (λ n. put_into program (prime o xs en s) h (t + n) value) runs (λ n. a_into v s o xs en h (t + n) _ value k p.2.2)),
+      a_associated v s o xs en h t n rest k p.3,
     )
     a_associated v s o xs en h t n (Association runs (Some x) mentions value rest) k p = (
-      a_turnings T v s o xs en k h t x.first (component program (iterated_scope s x.parameter) (turn_height runs h) (s.free + 1 + 1) value) (component program (iterated_scope (prime o xs en s) x.parameter) (turn_height runs h) (s.free + 1 + 1) value) runs (a_component (scopes.with_parameter x.parameter v) (iterated_scope s x.parameter) o xs en (turn_height runs h) (s.free + 1 + 1) _ value k p.1.2),
-      a_associated v s o xs en h t n rest k p.2,
+      a_turnings T v s o xs en k h t x.first (component program (iterated_scope s x.parameter) (turn_height runs h) (s.free + 1 + 1) value) (component program (iterated_scope (prime o xs en s) x.parameter) (turn_height runs h) (s.free + 1 + 1) value) runs (a_component (scopes.with_parameter x.parameter v) (iterated_scope s x.parameter) o xs en (turn_height runs h) (s.free + 1 + 1) _ value k p.2.2),
+      a_associated v s o xs en h t n rest k p.3,
     )
 
     a_component : (v : Around) (s : Scope) (o : Entity → Option Named) (xs : ℕ → Option ℕ) (en : Option ℕ) (h at n : ℕ) (x : Value) → Like T v s o xs en → ScopedValue program shown v n x → Alike T (component program s h at x) (component program (prime o xs en s) h at x)

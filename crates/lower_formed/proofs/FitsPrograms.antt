@@ -169,7 +169,7 @@ module _ (program : Program) (text : List ℕ → ℕ) (c : Code) (shown : ℕ �
   names_kept (DeclareDefault x more) s v does z p t = names_kept more (code.main_object s (VariableOf x) (length (object_layout program x))) (with_outer (VariableOf x) v) does z p.1 (still z (VariableOf x) v t) ∙ other z (VariableOf x) v s (length (object_layout program x)) t p.0
   names_kept (DeclareVariable x initial more) s v does z p t = names_kept more (code.main_object s (VariableOf x) (width program initial)) (with_outer (VariableOf x) v) does z p.2 (still z (VariableOf x) v t) ∙ other z (VariableOf x) v s (width program initial) t p.0
   names_kept (DeclareConstant x initial more) s v does z p t = names_kept more (code.main_object s (ConstantOf x) (width program initial)) (with_outer (ConstantOf x) v) does z p.2 (still z (ConstantOf x) v t) ∙ other z (ConstantOf x) v s (width program initial) t p.0
-  names_kept (Mentions es more) s v does z p t = names_kept more s v does z p t
+  names_kept (Mentions es more) s v does z p t = names_kept more s v does z p.1 t
 
   -- the main procedure's objects behind its declarations have their cells
   names_enough : (decls : Decls) (s : Scope) (v : Around) (does : Around → Type 0) → ScopedMain program shown v decls does → ((y : Entity) → v.object y ≡ true → Named' (s.object y) (size (object_shape program (number_of y))))
@@ -186,7 +186,7 @@ module _ (program : Program) (text : List ℕ → ℕ) (c : Code) (shown : ℕ �
       let z = object_size program x in
       let u = width_is program shown v (object_cells program x) initial p.1 in
       names_enough more (code.main_object s (ConstantOf x) (width program initial)) (with_outer (ConstantOf x) v) does p.2 (also_object program names mains T (frames_of room) room (ConstantOf x) (code.main_named s.free (width program initial)) (omega (arith, z, u)) h) y e
-  names_enough (Mentions es more) s v does p h y e = names_enough more s v does p h y e
+  names_enough (Mentions es more) s v does p h y e = names_enough more s v does p.1 h y e
 
   -- an object of the main procedure is declared
   sees_main : {w : Known} {v : Around} {i : Sight} (y : Entity) (n : ℕ) → i.scope.free + n ≤ i.cells → size (object_shape program (number_of y)) ≤ n → names y ≡ Some (main_named i.scope.free n) → mains y ≡ true → S w v i → S w (with_outer y v) (main_object i y n)
@@ -275,7 +275,7 @@ module _ (program : Program) (text : List ℕ → ℕ) (c : Code) (shown : ℕ �
             (sees_main y n fit (omega (arith, z, wide)) (same y ∙ names_kept more (main_object i y n).scope (with_outer y v) does y p.2 (new y v) ∙ here i y n) (all y ∙ taken_kept more (with_outer y v) y (new y v)) k)
             f.1 p.2 t.1 m.1 same all next,
       )
-  main_fits (Mentions es more) i v rest goal does k f p t m same all next = main_fits more i v rest goal does k f.1 p t m same all next
+  main_fits (Mentions es more) i v rest goal does k f p t m same all next = main_fits more i v rest goal does k f.1 p.1 t m same all next
 
   -- ---- the scope of a subprogram
 

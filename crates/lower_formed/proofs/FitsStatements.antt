@@ -206,7 +206,7 @@ module _ (program : Program) (globals : ℕ → Entity → Option Named) (mains 
       (fits program globals mains c T frames room threads apart names shown shows lent give n i w v 0 e k f.1 p.0 t.0 m.0, fits_pieces n (taking 1 i) w v rest (sees_taking program names mains T frames room 1 (omega (arith, lt)) k) f.2 p.1 t.1 m.1.1)
   fits_pieces n i w v (Padded class e (Static at value literal mentions) rest) k f p t m =
       let lt = kept i.scope.free i.scope.free (room i.scope.body) i.cells m.1.0 k.enough in
-      (fits program globals mains c T frames room threads apart names shown shows lent give n i w v 0 e k f.1 p.0 t.0 m.0, fits_pieces n (taking 1 i) w v rest (sees_taking program names mains T frames room 1 (omega (arith, lt)) k) f.3 p.1 t.1 m.1.1)
+      (fits program globals mains c T frames room threads apart names shown shows lent give n i w v 0 e k f.1 p.0 t.0 m.0, fits_pieces n (taking 1 i) w v rest (sees_taking program names mains T frames room 1 (omega (arith, lt)) k) f.3 p.2 t.1 m.1.1)
   fits_pieces n i w v (Padded class e most rest) k f p t m = absurd p
 
   -- ---- declarations
@@ -261,7 +261,7 @@ module _ (program : Program) (globals : ℕ → Entity → Option Named) (mains 
         fits_value program globals mains c T frames room threads apart names shown shows lent give n (taking (width program initial) i) w v 0 i.scope.free (width program initial) initial (sees_taking program names mains T frames room (width program initial) fit k) f.0 (subst (λ n. ScopedValue program shown v n initial) (sym wide) p.1) t.0 m.0,
         fits_decls n more (object_here i (ConstantOf x) (width program initial)) w (with_object (ConstantOf x) v) rest goal does (sees_object program names mains T frames room (ConstantOf x) (width program initial) fit (omega (arith, size', wide)) k) f.1 p.2 t.1 m.1 next,
       )
-  fits_decls n (Mentions es more) i w v rest goal does k f p t m next = fits_decls n more i w v rest goal does k f.1 p t m next
+  fits_decls n (Mentions es more) i w v rest goal does k f p t m next = fits_decls n more i w v rest goal does k f.1 p.1 t m next
 
   -- ---- statements
 
@@ -495,9 +495,9 @@ module _ (program : Program) (globals : ℕ → Entity → Option Named) (mains 
     fits_cases : (n : ℕ) (i : Sight) (w : Known) (v : Around) (d : ℕ) (x : Alternatives) → S' w v i → FormedAlternatives program w x → ScopedAlternatives program shown v x → TabledAlternatives T n x → R' (cases program i.scope d x) → OutCases (sights.Known i) x
         → FittedAlternatives program globals mains (Fold n) (Fork n) i x
     fits_cases n i w v d NoAlternative k f p t m o = tt
-    fits_cases n i w v d (Alternative true choices mentions stmts NoAlternative) k f p t m o = (fits_all n i w v stmts k f.1 p.1 t.0 m o.0, tt)
+    fits_cases n i w v d (Alternative true choices mentions stmts NoAlternative) k f p t m o = (fits_all n i w v stmts k f.1 p.2 t.0 m o.0, tt)
     fits_cases n i w v d (Alternative true choices mentions stmts (Alternative a1 a2 a3 a4 a5)) k f p t m o = absurd p.0
-    fits_cases n i w v d (Alternative false choices mentions stmts rest) k f p t m o = (fits_all n i w v stmts k f.1 p.1 t.0 m.1.1 o.0, fits_cases n i w v d rest k f.2 p.2 t.1 m.1.2 o.1)
+    fits_cases n i w v d (Alternative false choices mentions stmts rest) k f p t m o = (fits_all n i w v stmts k f.1 p.2 t.0 m.1.1 o.0, fits_cases n i w v d rest k f.2 p.3 t.1 m.1.2 o.1)
 
     fits_handlers : (n : ℕ) (i : Sight) (w : Known) (v : Around) (d : ℕ) (x : Handlers) → S' w v i → FormedHandlers program w x → ScopedHandlers program shown v x → TabledHandlers T n x → R' (handling program i.scope d x) → OutHandlers (sights.Known i) x
         → FittedHandlers program globals mains (Fold n) (Fork n) i x

@@ -353,26 +353,26 @@ module _ (program : Program) (globals : ℕ → Entity → Option Named) (mains 
     pub fits_associations : (n : ℕ) (i : Sight) (w : Known) (v : Around) (h to cells : ℕ) (x : Associations) → S w v i → FormedAssociations program w x → ScopedAssociations program shown v cells x → TabledAssociations T n x → R (associated program i.scope h to x)
         → FittedAssociations program globals mains (Fold n) i cells x
     fits_associations n i w v h to cells NoAssociation k f p t m = tt
-    fits_associations n i w v h to cells (Association [] None mentions value rest) k f p t m = fits_associations n i w v h to cells rest k f.2 p.2 t.1 m.1
+    fits_associations n i w v h to cells (Association [] None mentions value rest) k f p t m = fits_associations n i w v h to cells rest k f.2 p.3 t.1 m.1
     fits_associations n i w v h to cells (Association (r ∷ rs) None mentions value rest) k f p t m =
-        let (size, lie, pv) = p.1 in
+        let (size, lie, pv) = p.2 in
         let e = width_is program shown v size value pv in (
           runs_fit cells (width program value) (r ∷ rs) (subst (λ m. LieWithin cells m (r ∷ rs)) (sym e) lie),
           fits_given (takes_turns (r ∷ rs) None value) n i w v h to r rs value k lie.0
               (λ lt m. fits_component n (taking 3 i) w v (turn_height (r ∷ rs) h) _ (width program value) value (sees_taking program names mains T frames room 3 (omega (arith, lt)) k) f.1 (subst (λ m. ScopedValue program shown v m value) (sym e) pv) t.0 m)
               (λ at m. fits_value n i w v h (to + at) (width program value) value k f.1 (subst (λ m. ScopedValue program shown v m value) (sym e) pv) t.0 m) m.0,
-          fits_associations n i w v h to cells rest k f.2 p.2 t.1 m.1,
+          fits_associations n i w v h to cells rest k f.2 p.3 t.1 m.1,
         )
     fits_associations n i w v h to cells (Association [] (Some x) mentions value rest) k f p t m = absurd p.0
     fits_associations n i w v h to cells (Association (r ∷ rs) (Some x) mentions value rest) k f p t m =
-        let (size, lie, pv) = p.1 in
+        let (size, lie, pv) = p.2 in
         let e = width_is program shown (with_parameter x.parameter v) size value pv in
         let (last, turn) = turned_room Row room i.scope h to x.first (component program (iterated_sight i x.parameter).scope (turn_height (r ∷ rs) h) (i.scope.free + 1 + 1) value) r rs lie.0 m.0 in
         let lt = kept i.scope.free (i.scope.free + 1 + 1) (room i.scope.body) i.cells last k.enough in (
           lt,
           runs_fit cells (width program value) (r ∷ rs) (subst (λ m. LieWithin cells m (r ∷ rs)) (sym e) lie),
           fits_component n (iterated_sight i x.parameter) w (with_parameter x.parameter v) (turn_height (r ∷ rs) h) _ size value (sees_iterated program names mains T frames room x.parameter (omega (arith, lt)) k) f.1 pv t.0 turn,
-          fits_associations n i w v h to cells rest k f.2 p.2 t.1 m.1,
+          fits_associations n i w v h to cells rest k f.2 p.3 t.1 m.1,
         )
 
     pub fits_component : (n : ℕ) (i : Sight) (w : Known) (v : Around) (h at cells : ℕ) (x : Value) → S w v i → FormedValue program w x → ScopedValue program shown v cells x → TabledValue T n x → R (component program i.scope h at x) → FittedComponent program globals mains (Fold n) i x

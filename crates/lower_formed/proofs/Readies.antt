@@ -165,7 +165,7 @@ module _ (program : Program) where
 
       ready_associations : (v : Around) (n : ℕ) (x : Associations) → ScopedAssociations program shown v n x → ReadyAssociations program n x
       ready_associations v n NoAssociation w = tt
-      ready_associations v n (Association runs iterated mentions value rest) (given, (m, lie, w), ws) =
+      ready_associations v n (Association runs iterated mentions value rest) (given, mentioned, (m, lie, w), ws) =
           let same : m ≡ width program value = sym (width_is program shown (with_index iterated v) m value w) in
           (runs_in n (width program value) runs (subst (λ m. LieWithin n m runs) same lie), subst (λ m. ReadyValue program m value) same (ready_value (with_index iterated v) m value w), ready_associations v n rest ws)
 
@@ -199,7 +199,7 @@ module _ (program : Program) where
     ready_pieces v NoPiece w = tt
     ready_pieces v (Text bytes rest) w = ready_pieces v rest w
     ready_pieces v (Image class e rest) w = (ready_expr v e w.0, ready_pieces v rest w.1)
-    ready_pieces v (Padded class e (Static a value literal mentions) rest) w = (ready_expr v e w.0, ready_pieces v rest w.1)
+    ready_pieces v (Padded class e (Static a value literal mentions) rest) w = (ready_expr v e w.0, ready_pieces v rest w.2)
     ready_pieces v (Padded class e most rest) w = absurd w
 
     ready_decls : (v : Around) (x : Decls) (rest : Around → Type 0) → ScopedDecls program shown v x rest → ReadyDecls program x × ((u : Around) × rest u)
@@ -207,7 +207,7 @@ module _ (program : Program) where
     ready_decls v (DeclareDefault x more) rest w = ready_decls (with_object (VariableOf x) v) more rest w.1
     ready_decls v (DeclareVariable x initial more) rest w = let (r, u) = ready_decls (with_object (VariableOf x) v) more rest w.2 in ((ready_width v (object_cells program x) initial w.1, r), u)
     ready_decls v (DeclareConstant x initial more) rest w = let (r, u) = ready_decls (with_object (ConstantOf x) v) more rest w.2 in ((ready_width v (object_cells program x) initial w.1, r), u)
-    ready_decls v (Mentions es more) rest w = ready_decls v more rest w
+    ready_decls v (Mentions es more) rest w = ready_decls v more rest w.1
 
     mutual
       ready_stmt : (v : Around) (x : Stmt) → ScopedStmt program shown v x → ReadyStmt program x
@@ -240,7 +240,7 @@ module _ (program : Program) where
 
       ready_alternatives : (v : Around) (x : Alternatives) → ScopedAlternatives program shown v x → ReadyAlternatives program x
       ready_alternatives v NoAlternative w = tt
-      ready_alternatives v (Alternative others choices mentions stmts rest) w = (ready_all v stmts w.1, ready_alternatives v rest w.2)
+      ready_alternatives v (Alternative others choices mentions stmts rest) w = (ready_all v stmts w.2, ready_alternatives v rest w.3)
 
       ready_arms : (v : Around) (x : Arms) → ScopedArms program shown v x → ReadyArms program x
       ready_arms v NoArm w = tt
@@ -255,7 +255,7 @@ module _ (program : Program) where
     ready_main v (DeclareDefault x more) rest w = ready_main (with_outer (VariableOf x) v) more rest w.1
     ready_main v (DeclareVariable x initial more) rest w = let (r, u) = ready_main (with_outer (VariableOf x) v) more rest w.2 in ((ready_width v (object_cells program x) initial w.1, r), u)
     ready_main v (DeclareConstant x initial more) rest w = let (r, u) = ready_main (with_outer (ConstantOf x) v) more rest w.2 in ((ready_width v (object_cells program x) initial w.1, r), u)
-    ready_main v (Mentions es more) rest w = ready_main v more rest w
+    ready_main v (Mentions es more) rest w = ready_main v more rest w.1
 
     ready_subs : (us : List Sub) → ((k : ℕ) (unit : Sub) → sub_at us k ≡ Some unit → (v : Around) × ScopedStmt program shown v (Block unit.body.decls unit.body.stmts unit.body.handlers)) → ReadySubs program us
     ready_subs [] w = tt

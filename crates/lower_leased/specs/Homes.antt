@@ -5,6 +5,7 @@ use Rattle.std.specs.Prelude.{ℕ, ◌+◌, List, [], ◌∷◌, ◌++◌, lengt
 use Rattle.behaviours.specs.Paths.{Entity, VariableOf, ConstantOf}
 use Rattle.typed_tree.specs.Syntax.{Iteration, Range, Components, Decls, NoDecl, DeclareDefault, DeclareVariable, DeclareConstant, Mentions, Stmt, IfThen, Case, Loop, For, ParallelFor, Parallel, Block, Stmts, End, Then, Alternatives, NoAlternative, Alternative, Arms, NoArm, Arm, Handlers, NoHandler, Handler, Body, Sub, Program}
 use Rattle.ada_meaning.specs.Meaning.{object_layout}
+use Rattle.ada_meaning.specs.declared.slots.Variable.{Variable}
 use Rattle.lower_emission.specs.Emission.{Shape, lead, shapes, shapes_cells, width}
 use Rattle.lower_leased.specs.declared.types.Home.{Home}
 
@@ -89,3 +90,11 @@ module _ (program : Program) where
   -- all of them
   abbrev pub homes_of : List Home
   homes_of = subs_homes program.subs (main_homes [])
+
+  -- the variables that the main procedure declares, in order, with the first of each one's cells in the main frame
+  abbrev pub main_variables : ℕ → Decls → List Variable
+  main_variables n NoDecl = []
+  main_variables n (DeclareDefault x more) = record { object = x; address = n; cells = length (object_layout program x) } ∷ main_variables (n + length (object_layout program x)) more
+  main_variables n (DeclareVariable x initial more) = record { object = x; address = n; cells = width program initial } ∷ main_variables (n + width program initial) more
+  main_variables n (DeclareConstant x initial more) = main_variables (n + width program initial) more
+  main_variables n (Mentions es more) = main_variables n more

@@ -21,8 +21,8 @@ use Rattle.lower_emission.specs.Programs.{behind_main, code_of, text_in}
 use Rattle.lower_leased.specs.Homes.{homes_of}
 use Rattle.lower_leased.specs.Leases.{all_leased, frame_of}
 use Rattle.lower_leased.specs.Places.{home_in, leases_at, level_from, named_from, names_of, ranges_of, seen_from, standing_in}
-use Rattle.lower_leased.specs.Standings.{body_standings, depth_in, goes_through_range, standings_of, subs_standings, with_site}
-use Rattle.lower_leased.specs.Standings.{actuals_standings, arm_standings, associations_standings, case_standings, chunk_standings, composite_standings, decls_standings, expr_standings, handler_standings, iteration_standings, optional_standings, pieces_standings, selections_standings, stmt_standings, stmts_standings, value_standings}
+use Rattle.lower_leased.specs.Standings.{body_standings, standings_of, subs_standings}
+use Rattle.lower_leased.specs.Standings.{actuals_standings, arm_standings, associations_standings, case_standings, chunk_standings, composite_standings, decls_standings, expr_standings, handler_standings, optional_standings, pieces_standings, selections_standings, stmt_standings, stmts_standings, value_standings}
 use Rattle.ada_lower.specs.Lending.{Among}
 use Rattle.ada_lower.specs.Sights.{Named, Sight, item_sight, iterated_sight, nested_sight, object_here, own, passing, range_sight, taking, thread_sight, turn_sight, with_entry, with_exit, with_handled, with_outside, with_target}
 use Rattle.ada_lower.specs.Emission.{composite_width, is_whole, width}
@@ -184,13 +184,13 @@ module _ (program : Program) (shown : ℕ → Entity → Bool) (globals : ℕ �
 
     find_associations : (n d : ℕ) (s : Sight) (v : Around) (j m : ℕ) (x : Associations) → Deep d s.scope.body → ScopedAssociations program shown v j x → FittedAssociations program globals mains (F n) s m x → (t : Standing) (o : List Standing) → Among t (associations_standings d x o) → Goal t o
     find_associations n d s v j m NoAssociation h u f t o i = inl i
-    find_associations n d s v j m (Association [] None mentions value rest) h u f t o i = find_associations n d s v j m rest h u.2 f t o i
+    find_associations n d s v j m (Association [] None mentions value rest) h u f t o i = find_associations n d s v j m rest h u.3 f t o i
     find_associations n d s v j m (Association (q ∷ qs) None mentions value rest) h u f t o i =
-        next (find_associations n d s v j m rest h u.2 f.2 t _ i)
-        (λ l. one_find (takes_turns (q ∷ qs) None value) t (λ o. value_standings d value o) (λ z o k. find_component n d (taking 3 s) v u.1.0 value h u.1.2 z.1 t o k) (λ z o k. find_value n d s v u.1.0 (width program value) value h u.1.2 z t o k) f.1 o l)
+        next (find_associations n d s v j m rest h u.3 f.2 t _ i)
+        (λ l. one_find (takes_turns (q ∷ qs) None value) t (λ o. value_standings d value o) (λ z o k. find_component n d (taking 3 s) v u.2.0 value h u.2.2 z.1 t o k) (λ z o k. find_value n d s v u.2.0 (width program value) value h u.2.2 z t o k) f.1 o l)
     find_associations n d s v j m (Association [] (Some x) mentions value rest) h u f t o i = absurd u.0
     find_associations n d s v j m (Association (q ∷ qs) (Some x) mentions value rest) h u f t o i =
-        next (find_associations n d s v j m rest h u.2 f.3 t _ i) (λ l. find_component n d (iterated_sight s x.parameter) (with_index (Some x) v) u.1.0 value h u.1.2 f.2 t o l)
+        next (find_associations n d s v j m rest h u.3 f.3 t _ i) (λ l. find_component n d (iterated_sight s x.parameter) (with_index (Some x) v) u.2.0 value h u.2.2 f.2 t o l)
 
     find_component : (n d : ℕ) (s : Sight) (v : Around) (j : ℕ) (x : Value) → Deep d s.scope.body → ScopedValue program shown v j x → FittedComponent program globals mains (F n) s x → (t : Standing) (o : List Standing) → Among t (value_standings d x o) → Goal t o
     find_component n d s v j (Number check e) h u f t o i = find n d s v e h u.1 f t o i
@@ -231,7 +231,7 @@ module _ (program : Program) (shown : ℕ → Entity → Bool) (globals : ℕ �
   find_pieces n d s v NoPiece h u f t o i = inl i
   find_pieces n d s v (Text bytes rest) h u f t o i = find_pieces n d s v rest h u f.1 t o i
   find_pieces n d s v (Image class e rest) h u f t o i = next (find_pieces n d (taking 1 s) v rest h u.1 f.1 t _ i) (λ j. find n d s v e h u.0 f.0 t o j)
-  find_pieces n d s v (Padded class e (Static at value literal mentions) rest) h u f t o i = next (find_pieces n d (taking 1 s) v rest h u.1 f.1 t _ i) (λ j. find n d s v e h u.0 f.0 t o j)
+  find_pieces n d s v (Padded class e (Static at value literal mentions) rest) h u f t o i = next (find_pieces n d (taking 1 s) v rest h u.2 f.1 t _ i) (λ j. find n d s v e h u.0 f.0 t o j)
   find_pieces n d s v (Padded class e most rest) h u f t o i = absurd f
 
   find_decls : (n d : ℕ) (s : Sight) (v : Around) (x : Decls) (does : Around → Type 0) (old : Sight → Type 0) (t : Standing) (G : List Standing → List Standing) → Deep d s.scope.body → ScopedDecls program shown v x does
@@ -243,7 +243,7 @@ module _ (program : Program) (shown : ℕ → Entity → Bool) (globals : ℕ �
       next (find_decls n d (object_here s (VariableOf x) (width program initial)) (scopes.with_object (VariableOf x) v) more does old t G h u.2 next' f.3 _ i) (λ j. find_value n d (taking (width program initial) s) v _ (width program initial) initial h u.1 f.2 t o j)
   find_decls n d s v (DeclareConstant x initial more) does old t G h u next' f o i =
       next (find_decls n d (object_here s (ConstantOf x) (width program initial)) (scopes.with_object (ConstantOf x) v) more does old t G h u.2 next' f.3 _ i) (λ j. find_value n d (taking (width program initial) s) v _ (width program initial) initial h u.1 f.2 t o j)
-  find_decls n d s v (Mentions es more) does old t G h u next' f o i = find_decls n d s v more does old t G h u next' f o i
+  find_decls n d s v (Mentions es more) does old t G h u next' f o i = find_decls n d s v more does old t G h u.1 next' f o i
 
   find_count : (n d : ℕ) (s : Sight) (v : Around) (x : Optional) → Deep d s.scope.body → ScopedOptional program shown v x → FittedCount program globals mains (F n) s x → (t : Standing) (o : List Standing) → Among t (optional_standings d x o) → Goal t o
   unfolding expr_standings
@@ -325,7 +325,7 @@ module _ (program : Program) (shown : ℕ → Entity → Bool) (globals : ℕ �
 
     find_cases : (n d : ℕ) (s : Sight) (v : Around) (x : Alternatives) → Deep d s.scope.body → ScopedAlternatives program shown v x → FittedAlternatives program globals mains (F n) (P n) s x → (t : Standing) (o : List Standing) → Among t (case_standings d x o) → Goal t o
     find_cases n d s v NoAlternative h u f t o i = inl i
-    find_cases n d s v (Alternative others choices mentions stmts rest) h u f t o i = next (find_cases n d s v rest h u.2 f.1 t _ i) (λ j. find_all n d s v stmts h u.1 f.0 t o j)
+    find_cases n d s v (Alternative others choices mentions stmts rest) h u f t o i = next (find_cases n d s v rest h u.3 f.1 t _ i) (λ j. find_all n d s v stmts h u.2 f.0 t o j)
 
     find_arms : (n d : ℕ) (s : Sight) (v : Around) (x : Arms) → Deep d s.scope.body → ScopedArms program shown v x → FittedArms program globals mains (F n) (P n) s x → (t : Standing) (o : List Standing) → Among t (arm_standings d x o) → Goal t o
     find_arms n d s v NoArm h u f t o i = inl i
@@ -358,7 +358,7 @@ module _ (program : Program) (shown : ℕ → Entity → Bool) (scoped : IsScope
   find_main s v (DeclareConstant x initial more) does old t G h u next' f o i =
       next (find_main (main_object s (ConstantOf x) (width program initial)) (with_outer (ConstantOf x) v) more does old t G h u.2 next' f.3 _ i)
       (λ j. find_value program shown globals mains c depth 0 (taking (width program initial) s) v _ (width program initial) initial h u.1 f.2 t o j)
-  find_main s v (Mentions es more) does old t G h u next' f o i = find_main s v more does old t G h u next' f o i
+  find_main s v (Mentions es more) does old t G h u next' f o i = find_main s v more does old t G h u.1 next' f o i
 
   in_main : (t : Standing) (o : List Standing) → Among t (body_standings program.body o) → Goal' t o
   unfolding stmt_standings decls_standings

@@ -1,15 +1,15 @@
 -- Where what is in scope lies, as the list of a program's variables tells.
-use Rattle.std.proofs.Common.{◌≡◌, ℕ, zero, suc, ◌+◌, ◌-◌, ◌<◌, ◌≤◌, nat_eq, nat_lt, List, ◌⊎◌, inl, inr, Option, Some, None, Bool, true, false, cond, refl, sym, ap, ap₂, ◌∙◌, subst, true≢false, arith, ltb-false, ltb-true}
-use Rattle.std.proofs.lemmas.Bool.{cases_lt, ne_eqb}
+use Rattle.std.proofs.Common.{◌≡◌, ℕ, ◌+◌, ◌-◌, ◌≤◌, nat_lt, List, ◌⊎◌, inl, inr, Option, Some, None, Bool, true, false, cond, refl, sym, ap, ◌∙◌, subst, true≢false, arith, ltb-false, ltb-true}
+use Rattle.std.proofs.lemmas.Bool.{ne_eqb}
 use Rattle.std.proofs.lemmas.Option.{none-some}
-use Rattle.behaviours.specs.Paths.{Entity, VariableOf, ConstantOf, entity_eq}
+use Rattle.behaviours.specs.Paths.{Entity, VariableOf, entity_eq}
 use Rattle.typed_tree.specs.Syntax.{Chunk, NoChunk, Count, Each, Iteration, Range, Components}
 use Rattle.ada_meaning.proofs.Cells.{entity_same, some_same}
 use Rattle.lower_emission.specs.Scope.{outer_level, outer_named, moved_named}
 use Rattle.lower_leased.specs.declared.types.Home.{Home}
 use Rattle.lower_leased.specs.Places.{level_from, named_from}
 use Rattle.ada_lower.specs.Lending.{Among}
-use Rattle.ada_lower.specs.Sights.{Level, Own, Around, Main, Named, Sight, turn_sight}
+use Rattle.ada_lower.specs.Sights.{Own, Around, Main, Named, Sight, turn_sight}
 
 -- a variable lies where its home is, seen from that depth
 pub record IsPlaced (homes : List Home) (d x : ℕ) (m : Named) : Type 0 where

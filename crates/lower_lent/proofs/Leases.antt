@@ -1,15 +1,16 @@
 -- At a construct the leases that are computed of granted paths are those of what its threads may write.
-use Rattle.std.proofs.Common.{◌≡◌, ℕ, zero, suc, ◌+◌, ◌<◌, ◌≤◌, nat_eq, ℤ, List, [], ◌∷◌, length, slice_get, inl, inr, Option, Some, None, Bool, true, false, not, cond, refl, sym, ap, ◌∙◌, subst, arith, eqb-true, eq-eqb}
+use Rattle.std.proofs.Common.{◌≡◌, ℕ, zero, suc, ◌+◌, nat_eq, ℤ, List, [], ◌∷◌, slice_get, inl, inr, Option, Some, None, Bool, true, false, not, cond, refl, sym, ap, ◌∙◌, subst, arith, eqb-true, eq-eqb}
 use Rattle.std.proofs.lemmas.Option.{none-some}
 use Rattle.behaviours.specs.Paths.{Entity, VariableOf}
 use Rattle.typed_tree.specs.declared.program.Site.{Site as Row}
 use Rattle.typed_tree.specs.Syntax.{Program}
 use Rattle.typed_sites.specs.Sites.{SitesAreDistinct}
+use Rattle.typed_scopes.specs.Scopes.{Around}
 use Rattle.ada_meaning.specs.Shapes.{object_shape}
 use Rattle.ada_meaning.proofs.Cells.{some_same}
 use Rattle.check_effects.specs.Effects.{Access, Construct, LoopOf, BlockOf, ReductionOf, Holds}
 use Rattle.check_effects.specs.Conflicts.{EffectPath, path_of, InProgram, IsGranted, IsThreadEffect}
-use Rattle.check_effects.specs.Covered.{arm_of, site_of}
+use Rattle.check_effects.specs.Covered.{arm_of, has_items, site_of}
 use Rattle.check_clashes.specs.declared.granted.Grant.{Grant}
 use Rattle.check_clashes.specs.declared.granted.Grants.{Grants}
 use Rattle.check_conflicts.specs.Answer.{AreGrants}
@@ -21,7 +22,7 @@ use Rattle.lower_emission.specs.declared.types.Placed.{Placed}
 use Rattle.lower_emission.specs.Programs.{code_of, code_site, code_sites, placed_code}
 use Rattle.lower_leased.specs.Leases.{Way, all_leased, frame_of, leased, leases_of, steps_of, way_of}
 use Rattle.ada_lower.specs.Lending.{Among, IsOfArm}
-use Rattle.ada_lower.specs.Leased.{AreLeased, IsLease, InLease, LiesUnderPath}
+use Rattle.ada_lower.specs.Leased.{AreLeased, IsLease, LiesUnderPath}
 use Rattle.ada_lower.specs.Sights.{Sight}
 use Rattle.lower_lent.specs.Granted.{AreGranted, granted_by, paths_at, told}
 use Rattle.lower_lent.proofs.Once.{same_construct}
@@ -117,7 +118,7 @@ pub row_leases : (program : Program) (leases : ℕ → List code.Lease) (site : 
 row_leases program leases site cs e = rows_from (placed_code program) leases 0 program.sites site cs e ∙ ap leases (let z : 0 + site ≡ site = omega arith in z)
 
 module _ (program : Program) (names : ℕ → Entity → Option Named) (ranges : ℕ → Bool) (granted : ℕ → List (ℕ × EffectPath)) (distinct : SitesAreDistinct program) (are : AreGranted program granted) where
-  module _ (s : Sight) (site : ℕ) (cs : CodeSite) (k : Construct) (held : InProgram program (Holds k)) (num : site_of k ≡ site) (sees : Sees program s) (here : cs.leases ≡ leases_of program names ranges granted site) (kind : IsKind k cs.kind) (items : Bool) (tells : told program names ranges items s site cs) where
+  module _ (v : Around) (s : Sight) (site : ℕ) (cs : CodeSite) (k : Construct) (held : InProgram program (Holds k)) (num : site_of k ≡ site) (items : Bool) (goes : has_items k ≡ items) (sees : Sees program v s) (here : cs.leases ≡ leases_of program names ranges granted site) (kind : IsKind k cs.kind) (tells : told program names ranges items s site cs) where
     abbrev Lease' : EffectPath → code.Lease → Type 0
     Lease' p l = IsLease program s.scope.object s.global s.main s.seen items p l
 
@@ -194,6 +195,7 @@ module _ (program : Program) (names : ℕ → Entity → Option Named) (ranges :
 
     pub are_leased : AreLeased program s.scope.object s.global s.main s.seen items site cs
     are_leased = record {
+      goes = λ k' held' num'. ap has_items (same_construct program distinct k' k held' held (num' ∙ sym num)) ∙ goes;
       granted = λ k' held' num' j i at a e w may v ch n lies.
           let same : k' ≡ k = same_construct program distinct k' k held' held (num' ∙ sym num) in
           let e' : IsThreadEffect program k (arm_of k j i) at a = subst (λ k. IsThreadEffect program k (arm_of k j i) at a) same e in

@@ -1,14 +1,18 @@
 mod Ways
 mod Once
 mod Sees
+mod Quiets
+mod Writes
+mod Threads
 mod LendsValues
 mod LendsStatements
-mod Leases
+pub mod Leases
 mod Programs
+pub mod Reaching
 mod Kept
 mod Stood
 mod Homes
 mod TellsValues
 mod TellsStatements
-mod Told
+pub mod Told
 pub mod Deep

@@ -1,11 +1,11 @@
 -- A construct's number stands once in a program, so that constructs of one number are the same (5.5, 5.6.1, 4.5.10).
-use Rattle.std.proofs.Common.{◌≡◌, ℕ, zero, suc, ◌+◌, ◌<◌, ◌≤◌, List, [], ◌∷◌, ◌⊎◌, inl, inr, ⊎_elim, Option, Some, None, cond, refl, sym, ap, ◌∙◌, subst, arith, le_refl, eq-eqb}
+use Rattle.std.proofs.Common.{◌≡◌, ℕ, zero, suc, ◌+◌, ◌≤◌, List, [], ◌∷◌, ◌⊎◌, inl, inr, ⊎_elim, Some, None, cond, refl, sym, ap, ◌∙◌, subst, arith, le_refl, eq-eqb}
 use Rattle.typed_tree.specs.declared.expressions.Reducer.{Reducer}
 use Rattle.typed_tree.specs.declared.expressions.Reducer.TheVariants.{Operator, Function}
 use Rattle.typed_tree.specs.Syntax.{Expr, Static, Variable, Constant, Parameter, Target, Group, Unary, Binary, AndThen, OrElse, Relation, Membership, If, Call, Convert, Reduction, Exprs, NoExpr, AlsoExpr, Optional, Absent, Present, Selections, Whole, Field, Index, Actuals, NoActual, In, InOut, Out, CompositeInOut, CompositeOut, Value, Number, Cells, Composite, WholeVariable, WholeConstant, WholeTarget, CompositeIf, Aggregate, Associations, NoAssociation, Association, Iteration, Range, Components, Chunk, NoChunk, Count, Each, Pieces, NoPiece, Text, Image, Padded, Decls, NoDecl, DeclareDefault, DeclareVariable, DeclareConstant, Mentions, Stmt, Null, Assign, CallProcedure, Exit, Return, ReturnValue, Raise, Reraise, IfThen, Case, Loop, For, ParallelFor, Parallel, Block, Put, Get, Stmts, End, Then, Alternatives, NoAlternative, Alternative, Arms, NoArm, Arm, Handlers, NoHandler, Handler, Body, Sub, Subtype, Program}
-use Rattle.typed_sites.specs.Sites.{in_number, in_site, in_expr, in_exprs, in_optional, in_selections, in_actuals, in_value, in_composite, in_associations, in_iteration, in_chunk, in_pieces, in_decls, in_stmt, in_stmts, in_alternatives, in_arms, in_handlers, in_body, in_subs, in_program, SitesAreDistinct}
+use Rattle.typed_sites.specs.Sites.{in_number, in_expr, in_exprs, in_optional, in_selections, in_actuals, in_value, in_composite, in_associations, in_iteration, in_chunk, in_pieces, in_decls, in_stmt, in_stmts, in_alternatives, in_arms, in_handlers, in_body, in_subs, in_program, SitesAreDistinct}
 use Rattle.ada_meaning.specs.Meaning.{sub_at}
-use Rattle.check_effects.specs.Effects.{Access, Roles, unknown, forget, name, Construct, LoopOf, BlockOf, ReductionOf, Item, Touches, Calls, Blocks, Holds, InReducer, InExpr, InExprs, InOptional, InSelections, InActuals, InValue, InComposite, InAssociations, InCourse, InFilter, InChunk, InPieces, InDecls, InStmt, InAll, InAlternatives, InArm, InHandlers, InBody, InSub, InCallee, iterated_hidden, course_hidden, chunk_hidden}
+use Rattle.check_effects.specs.Effects.{Access, Roles, unknown, forget, name, Construct, LoopOf, BlockOf, ReductionOf, Item, Touches, Calls, Blocks, Holds, InReducer, InExpr, InExprs, InOptional, InSelections, InActuals, InValue, InComposite, InAssociations, InCourse, InFilter, InChunk, InPieces, InDecls, InStmt, InAll, InAlternatives, InArm, InHandlers, InBody, InCallee, iterated_hidden, course_hidden, chunk_hidden}
 use Rattle.check_effects.specs.Conflicts.{InProgram}
 use Rattle.check_effects.specs.Covered.{site_of}
 

@@ -1,21 +1,18 @@
 -- Whole programs: their code with the leases of granted paths has those of what threads may write.
-use Rattle.std.proofs.Common.{◌≡◌, ℕ, zero, suc, ◌+◌, ◌<◌, ◌≤◌, List, [], ◌∷◌, length, slice_get, inl, inr, ◌⊎◌, Option, Some, None, Bool, true, false, cond, refl, sym, ap, ◌∙◌, subst, true≢false}
+use Rattle.std.proofs.Common.{◌≡◌, ℕ, ◌+◌, ◌≤◌, List, [], ◌∷◌, length, inl, inr, ◌⊎◌, Option, Some, None, Bool, true, false, cond, refl, sym, ap, ◌∙◌, subst, true≢false}
 use Rattle.std.proofs.lemmas.Option.{none-some}
 use Rattle.behaviours.specs.Paths.{Entity, VariableOf, ConstantOf, entity_eq}
 use Rattle.typed_tree.specs.declared.program.Formal.{Formal}
 use Rattle.typed_tree.specs.declared.program.Mode.{Mode}
 use Rattle.typed_tree.specs.declared.program.Mode.TheVariants as mode
 use Rattle.typed_tree.specs.Syntax.{Block, Decls, NoDecl, DeclareDefault, DeclareVariable, DeclareConstant, Mentions, Sub, Program}
-use Rattle.typed_sites.specs.Sites.{SitesAreDistinct}
-use Rattle.check_effects.specs.Conflicts.{EffectPath}
 use Rattle.typed_scopes.specs.Scopes as scopes
 use Rattle.typed_scopes.specs.Scopes.{Around, IsScoped, ScopedMain, ScopedValue, object_cells, outset, sub_around, with_formals, with_outer}
 use Rattle.ada_meaning.specs.Meaning.{object_layout, sub_at}
 use Rattle.ada_meaning.specs.Shapes.{object_shape, size}
 use Rattle.ada_meaning.proofs.Cells.{entity_same, some_same}
-use Rattle.check_effects.specs.Effects.{Roles, unknown, Item, Construct, Holds, InDecls, InAll, InHandlers, InStmt, InCallee}
+use Rattle.check_effects.specs.Effects.{unknown, Item, Construct, Holds, InDecls, InAll, InHandlers, InStmt, InCallee}
 use Rattle.check_effects.specs.Conflicts.{InProgram}
-use Rattle.check_effects.specs.Covered.{site_of}
 use Rattle.stack_code.specs.declared.code.Code.{Code}
 use Rattle.stack_code.specs.declared.code.CodeSite.{CodeSite}
 use Rattle.lower_emission.specs.Bodies as code
@@ -23,21 +20,21 @@ use Rattle.lower_emission.specs.Programs as programs
 use Rattle.lower_emission.specs.Programs.{behind_main, code_of}
 use Rattle.lower_emission.specs.Scope.{Scope}
 use Rattle.lower_leased.specs.Leases.{leases_of}
-use Rattle.ada_lower.specs.Sights.{Level, Main, Named, Sight, taking, with_object}
+use Rattle.ada_lower.specs.Sights.{Main, Named, Sight, taking, with_object}
 use Rattle.ada_lower.specs.Emission.{Shape, lead, shape_by, shapes, width}
 use Rattle.ada_lower.specs.Bodies.{AreFresh, FittedMain, formal_named, main_object, main_scope, objects, outer_scope, seens, sub_scope}
-use Rattle.ada_lower.specs.FittedForks.{FittedForks, FittedReductions}
+use Rattle.ada_lower.specs.FittedForks.{FittedReductions}
 use Rattle.ada_lower.specs.Law.{IsLoweredBy}
-use Rattle.ada_lower.specs.Leased.{leased, leased_ranges}
+use Rattle.ada_lower.specs.Leased.{leased}
 use Rattle.lower_formed.specs.Rooms.{seen_names}
-use Rattle.lower_formed.proofs.FitsValues.{width_is}
-use Rattle.lower_formed.proofs.Sees.{number_of, object_size}
-use Rattle.lower_lent.specs.Granted.{AreGranted, told, told_ranges}
+use Rattle.lower_formed.proofs.Sees.{number_of}
+use Rattle.lower_lent.specs.Granted.{told}
 use Rattle.lower_lent.specs.Law.{LentLaw}
 use Rattle.lower_lent.proofs.Leases.{are_leased, row_leases}
 use Rattle.lower_lent.proofs.LendsStatements.{default, lend_stmt, wide}
 use Rattle.lower_lent.proofs.LendsValues.{lend_value}
-use Rattle.lower_lent.proofs.Sees.{AreHere, IsHere, IsKind, Sees, sees_main, sees_object}
+use Rattle.lower_lent.proofs.Writes.{Items, also_lies}
+use Rattle.lower_lent.proofs.Sees.{AreHere, Gives, IsHere, Sees, also_there, sees_main, sees_object}
 
 -- ---- the main procedure's objects
 
@@ -66,7 +63,7 @@ module _ (program : Program) (shown : ℕ → Entity → Bool) where
       all_main more (code.main_object s (VariableOf x) (width program initial)) (with_outer (VariableOf x) v) does p.2 (also_main s.object (VariableOf x) s.free (width program initial) (wide program shown v x initial p.1) all)
   all_main (DeclareConstant x initial more) s v does p all =
       all_main more (code.main_object s (ConstantOf x) (width program initial)) (with_outer (ConstantOf x) v) does p.2 (also_main s.object (ConstantOf x) s.free (width program initial) (wide program shown v x initial p.1) all)
-  all_main (Mentions es more) s v does p all = all_main more s v does p all
+  all_main (Mentions es more) s v does p all = all_main more s v does p.1 all
 
   -- ---- formal parameters
 
@@ -75,44 +72,58 @@ module _ (program : Program) (shown : ℕ → Entity → Bool) where
   formal_size x mode.InOut = default program x
   formal_size x mode.Out = default program x
 
-  sees_formals : (fs : List Formal) (i : ℕ) (s : Sight) → AreFresh (shapes program fs) i s → Sees program s → AreHere program (λ z. objects (shapes program fs) i s.scope.object z) s.global (λ z. seens (shapes program fs) s.seen z) s.main
-  sees_formals [] i s fresh h = h
-  sees_formals (f ∷ fs) i s fresh h =
+  sees_formals : (fs : List Formal) (i : ℕ) (v : Around) (s : Sight) → AreFresh (shapes program fs) i s → Sees program v s → AreHere program (λ z. objects (shapes program fs) i s.scope.object z) s.global (λ z. seens (shapes program fs) s.seen z) s.main v.outer
+  sees_formals [] i v s fresh h = h
+  sees_formals (f ∷ fs) i v s fresh h =
       let x : Shape = shape_by program f.object f.mode in
-      sees_formals fs (i + lead x.back + x.cells) (with_object x.formal (formal_named (i + lead x.back) x.cells) s) fresh.1 (sees_object program x.formal (formal_named (i + lead x.back) x.cells) refl (formal_size f.object f.mode) fresh.0 h)
+      sees_formals fs (i + lead x.back + x.cells) v (with_object x.formal (formal_named (i + lead x.back) x.cells) s) fresh.1 (sees_object program x.formal (formal_named (i + lead x.back) x.cells) refl (formal_size f.object f.mode) fresh.0 h)
 
   -- ---- declarations of the main procedure
 
-  module _ (globals : ℕ → Entity → Option Named) (mains : Entity → Bool) (texts : List (List ℕ)) (text : List ℕ → ℕ) (frames : ℕ → ℕ) (c : Code) (lent told : Bool → Sight → ℕ → CodeSite → Type 0) (held : Construct → Type 0)
-      (gives : (items : Bool) (s : Sight) (site : ℕ) (cs : CodeSite) (k : Construct) → held k → site_of k ≡ site → Sees program s → slice_get c.sites site ≡ Some cs → IsKind k cs.kind → told items s site cs → lent items s site cs) where
-    lend_main : (n : ℕ) (s : Sight) (v : Around) (x : Decls) (rest : Item → Type 0) (does : Around → Type 0) (old new : Sight → Type 0) → Sees program s → ScopedMain program shown v x does → ((k : Construct) → InDecls program.subtypes unknown x rest (Holds k) → held k)
-        → ((j : Sight) (u : Around) → Sees program j → does u → ((k : Construct) → rest (Holds k) → held k) → old j → new j)
+  module _ (globals : ℕ → Entity → Option Named) (mains : Entity → Bool) (texts : List (List ℕ)) (text : List ℕ → ℕ) (frames : ℕ → ℕ) (c : Code) (lent told : Bool → Sight → ℕ → CodeSite → Type 0) (held : Construct → Type 0) (gives : Gives program shown c lent told held) where
+    lend_main : (n : ℕ) (s : Sight) (v : Around) (x : Decls) (rest : Item → Type 0) (does : Around → Type 0) (old new : Sight → Type 0) → Sees program v s → Items unknown s → ScopedMain program shown v x does → ((k : Construct) → InDecls program.subtypes unknown x rest (Holds k) → held k)
+        → ((j : Sight) (u : Around) → Sees program u j → Items unknown j → does u → ((k : Construct) → rest (Holds k) → held k) → old j → new j)
         → FittedMain program globals mains texts text frames (FittedReductions program globals mains told c n) s x old → FittedMain program globals mains texts text frames (FittedReductions program globals mains lent c n) s x new
-    lend_main n s v NoDecl rest does old new h p i next f = next s v h p i f
-    lend_main n s v (DeclareDefault x more) rest does old new h p i next f = (
+    lend_main n s v NoDecl rest does old new h q p i next f = next s v h q p i f
+    lend_main n s v (DeclareDefault x more) rest does old new h q p i next f = (
       f.0,
       f.1,
       f.2,
-      lend_main n (main_object s (VariableOf x) (length (object_layout program x))) (with_outer (VariableOf x) v) more rest does old new (sees_main program (VariableOf x) s.scope.free (length (object_layout program x)) (default program x) h) p.1 (λ k z. i k (z, tt)) next f.3,
+      lend_main n (main_object s (VariableOf x) (length (object_layout program x))) (with_outer (VariableOf x) v) more rest does old new (sees_main program (VariableOf x) s.scope.free (length (object_layout program x)) (default program x) h) (λ k o e. also_lies (VariableOf x) _ s.scope.object _ (q k o e)) p.1 (λ k z. i k (z, tt)) next f.3,
     )
-    lend_main n s v (DeclareVariable x initial more) rest does old new h p i next f = (
+    lend_main n s v (DeclareVariable x initial more) rest does old new h q p i next f = (
       f.0,
       f.1,
-      lend_value program globals mains c lent told held gives n unknown (taking (width program initial) s) (width program initial) initial h (λ k z. i k (inl z)) f.2,
-      lend_main n (main_object s (VariableOf x) (width program initial)) (with_outer (VariableOf x) v) more rest does old new (sees_main program (VariableOf x) s.scope.free (width program initial) (wide program shown v x initial p.1) h) p.2 (λ k z. i k (inr (z, tt))) next f.3,
+      lend_value program globals mains shown c lent told held gives n unknown (taking (width program initial) s) v _ (width program initial) initial h p.1 (λ k z. i k (inl z)) f.2,
+      lend_main n (main_object s (VariableOf x) (width program initial)) (with_outer (VariableOf x) v) more rest does old new (sees_main program (VariableOf x) s.scope.free (width program initial) (wide program shown v x initial p.1) h) (λ k o e. also_lies (VariableOf x) _ s.scope.object _ (q k o e)) p.2 (λ k z. i k (inr (z, tt))) next f.3,
     )
-    lend_main n s v (DeclareConstant x initial more) rest does old new h p i next f = (
+    lend_main n s v (DeclareConstant x initial more) rest does old new h q p i next f = (
       f.0,
       f.1,
-      lend_value program globals mains c lent told held gives n unknown (taking (width program initial) s) (width program initial) initial h (λ k z. i k (inl z)) f.2,
-      lend_main n (main_object s (ConstantOf x) (width program initial)) (with_outer (ConstantOf x) v) more rest does old new (sees_main program (ConstantOf x) s.scope.free (width program initial) (wide program shown v x initial p.1) h) p.2 (λ k z. i k (inr z)) next f.3,
+      lend_value program globals mains shown c lent told held gives n unknown (taking (width program initial) s) v _ (width program initial) initial h p.1 (λ k z. i k (inl z)) f.2,
+      lend_main n (main_object s (ConstantOf x) (width program initial)) (with_outer (ConstantOf x) v) more rest does old new (sees_main program (ConstantOf x) s.scope.free (width program initial) (wide program shown v x initial p.1) h) (λ k o e. q k o e) p.2 (λ k z. i k (inr z)) next f.3,
     )
-    lend_main n s v (Mentions es more) rest does old new h p i next f = lend_main n s v more rest does old new h p (λ k z. i k (inr z)) next f
+    lend_main n s v (Mentions es more) rest does old new h q p i next f = lend_main n s v more rest does old new h q p.1 (λ k z. i k (inr z)) next f
+
+-- behind its declarations they are named
+names_there : (program : Program) (decls : Decls) (s : Scope) (v : Around) → ((y : Entity) → v.object y ≡ true → (m : Named) × (s.object y ≡ Some m)) → (y : Entity) → (scopes.behind v decls).object y ≡ true → (m : Named) × ((programs.behind program s decls).object y ≡ Some m)
+names_there program NoDecl s v h y e = h y e
+names_there program (DeclareDefault x more) s v h y e =
+    names_there program more (code.main_object s (VariableOf x) (length (object_layout program x))) (with_outer (VariableOf x) v) (λ z f. also_there (VariableOf x) (code.main_named s.free (length (object_layout program x))) z (h z) f) y e
+names_there program (DeclareVariable x initial more) s v h y e =
+    names_there program more (code.main_object s (VariableOf x) (width program initial)) (with_outer (VariableOf x) v) (λ z f. also_there (VariableOf x) (code.main_named s.free (width program initial)) z (h z) f) y e
+names_there program (DeclareConstant x initial more) s v h y e =
+    names_there program more (code.main_object s (ConstantOf x) (width program initial)) (with_outer (ConstantOf x) v) (λ z f. also_there (ConstantOf x) (code.main_named s.free (width program initial)) z (h z) f) y e
+names_there program (Mentions es more) s v h y e = names_there program more s v h y e
+
+pub formals_outer : (fs : List Formal) (v : Around) → (with_formals v fs).outer ≡ v.outer
+formals_outer [] v = refl
+formals_outer (f ∷ fs) v = formals_outer fs (scopes.with_object (scopes.entity_of f) v)
 
 -- ---- whole programs, where what is asked is given at each construct
 
 module _ (program : Program) (shown : ℕ → Entity → Bool) (text : List ℕ → ℕ) (frames : ℕ → ℕ) (frame depth : ℕ) (c : Code) (scoped : IsScoped program shown) (lent told : Bool → Sight → ℕ → CodeSite → Type 0)
-    (gives : (items : Bool) (s : Sight) (site : ℕ) (cs : CodeSite) (k : Construct) → InProgram program (Holds k) → site_of k ≡ site → Sees program s → slice_get c.sites site ≡ Some cs → IsKind k cs.kind → told items s site cs → lent items s site cs) where
+    (gives : Gives program shown c lent told (λ k. InProgram program (Holds k))) where
   abbrev names : Entity → Option Named
   names = (behind_main program text).object
 
@@ -123,8 +134,12 @@ module _ (program : Program) (shown : ℕ → Entity → Bool) (text : List ℕ 
   mains = (scopes.behind outset program.body.decls).taken
 
   -- around a subprogram
-  sees_outer : (k : ℕ) (unit : Sub) (cells : ℕ) → Sees program (outer_scope program globals mains c.texts text frames k unit cells)
-  sees_outer k unit cells = record { named = λ y m e. go y m (shown k y) refl e; apart = λ y e. e }
+  sees_outer : (k : ℕ) (unit : Sub) (cells : ℕ) → Sees program (sub_around program (shown k)) (outer_scope program globals mains c.texts text frames k unit cells)
+  sees_outer k unit cells = record {
+    named = λ y m e. go y m (shown k y) refl e;
+    apart = λ y e. e;
+    around = λ y e. (let (m, is) = names_there program program.body.decls (code.main_scope text) outset (λ y e. absurd (true≢false (sym e))) y (scoped.objects k y e) in (m, ap (λ b. cond b (names y) None) e ∙ is));
+  }
     where
       main_at : (y : Entity) (m : Named) → names y ≡ Some m → IsMain program shown y m
       main_at = all_main program shown program.body.decls (code.main_scope text) outset _ scoped.main (λ y m e. absurd (none-some m e))
@@ -133,8 +148,15 @@ module _ (program : Program) (shown : ℕ → Entity → Bool) (text : List ℕ 
       go y m true s e = let z = main_at y m e in record { direct = z.direct; enough = z.enough; everywhere = λ t. ap (λ b. cond b (names y) None) s ∙ e; level = λ t. z.level }
       go y m false s e = absurd (none-some m e)
 
-  sees_outset : Sees program (main_scope program globals mains c.texts text frames frame)
-  sees_outset = record { named = λ y m e. absurd (none-some m e); apart = λ y e. refl }
+  sees_sub : (k : ℕ) (unit : Sub) (cells : ℕ) → AreFresh (shapes program unit.formals) 0 (outer_scope program globals mains c.texts text frames k unit cells)
+      → Sees program (with_formals (sub_around program (shown k)) unit.formals) (sub_scope program globals mains c.texts text frames k unit cells)
+  sees_sub k unit cells fresh =
+      let s : Sight = sub_scope program globals mains c.texts text frames k unit cells in
+      subst (λ outer. AreHere program s.scope.object s.global s.seen s.main outer) (sym (formals_outer unit.formals (sub_around program (shown k))))
+      (sees_formals program shown unit.formals 0 (sub_around program (shown k)) (outer_scope program globals mains c.texts text frames k unit cells) fresh (sees_outer k unit cells))
+
+  sees_outset : Sees program outset (main_scope program globals mains c.texts text frames frame)
+  sees_outset = record { named = λ y m e. absurd (none-some m e); apart = λ y e. refl; around = λ y e. absurd (true≢false (sym e)) }
 
   held_sub : (k : ℕ) (unit : Sub) → sub_at program.subs k ≡ Some unit → (j : Construct) → InStmt program.subtypes unknown (Block unit.body.decls unit.body.stmts unit.body.handlers) (Holds j) → InProgram program (Holds j)
   held_sub k unit e j h = inr (k, subst (λ o. InCallee program o (Holds j)) (sym e) h)
@@ -152,30 +174,14 @@ module _ (program : Program) (shown : ℕ → Entity → Bool) (text : List ℕ 
           backs = old.backs;
           fitted = λ cells le.
               lend_stmt program globals mains shown c lent told (λ k. InProgram program (Holds k)) gives depth unknown (sub_scope program globals mains c.texts text frames k unit cells) (with_formals (sub_around program (shown k)) unit.formals)
-              (Block unit.body.decls unit.body.stmts unit.body.handlers) (sees_formals program shown unit.formals 0 (outer_scope program globals mains c.texts text frames k unit cells) (old.fresh cells) (sees_outer k unit cells)) (scoped.subs k unit e) (held_sub k unit e) (old.fitted cells le);
+              (Block unit.body.decls unit.body.stmts unit.body.handlers) (sees_sub k unit cells (old.fresh cells)) (λ k n e. absurd (none-some n e)) (scoped.subs k unit e) (held_sub k unit e) (old.fitted cells le);
         };
     main = lend_main program shown globals mains c.texts text frames c lent told (λ k. InProgram program (Holds k)) gives depth (main_scope program globals mains c.texts text frames frame) outset program.body.decls
-        (λ j. InAll program.subtypes unknown program.body.stmts j ⊎ InHandlers program.subtypes unknown program.body.handlers j) _ _ _ sees_outset scoped.main (λ k h. inl h)
-        (λ j u see p into f. lend_stmt program globals mains shown c lent told (λ k. InProgram program (Holds k)) gives depth unknown j u (Block NoDecl program.body.stmts program.body.handlers) see p into f) low.main;
+        (λ j. InAll program.subtypes unknown program.body.stmts j ⊎ InHandlers program.subtypes unknown program.body.handlers j) _ _ _ sees_outset (λ k n e. absurd (none-some n e)) scoped.main (λ k h. inl h)
+        (λ j u see q p into f. lend_stmt program globals mains shown c lent told (λ k. InProgram program (Holds k)) gives depth unknown j u (Block NoDecl program.body.stmts program.body.handlers) see q p into f) low.main;
   }
 
 pub lent_law : LentLaw
 lent_law program shown names ranges granted text frames frame depth distinct scoped are low =
-    let c : Code = code_of program (leases_of program names ranges granted) in
-    lowered_by program shown text frames frame depth c scoped (leased_ranges program) (told_ranges program names ranges) gives low
-  where
-    gives : (items : Bool) (s : Sight) (site : ℕ) (cs : CodeSite) (k : Construct) → InProgram program (Holds k) → site_of k ≡ site → Sees program s → slice_get (code_of program (leases_of program names ranges granted)).sites site ≡ Some cs → IsKind k cs.kind
-        → told_ranges program names ranges items s site cs → leased_ranges program items s site cs
-    gives true s site cs k held num sees is kind t = absurd t
-    gives false s site cs k held num sees is kind t = are_leased program names ranges granted distinct are s site cs k held num sees (row_leases program (leases_of program names ranges granted) site cs is) kind false t
-
--- constructs over arrays among them
-pub all_lent : (program : Program) (shown : ℕ → Entity → Bool) (names : ℕ → Entity → Option Named) (ranges : ℕ → Bool) (granted : ℕ → List (ℕ × EffectPath)) (text : List ℕ → ℕ) (frames : ℕ → ℕ) (frame depth : ℕ)
-    → SitesAreDistinct program → IsScoped program shown → AreGranted program granted
-    → let c = code_of program (leases_of program names ranges granted) in
-    let globals = seen_names shown (behind_main program text).object in
-    let mains = (scopes.behind outset program.body.decls).taken in
-    IsLoweredBy (told program names ranges) program c globals mains c.texts text frames frame depth → IsLoweredBy (leased program) program c globals mains c.texts text frames frame depth
-all_lent program shown names ranges granted text frames frame depth distinct scoped are low =
     lowered_by program shown text frames frame depth (code_of program (leases_of program names ranges granted)) scoped (leased program) (told program names ranges)
-    (λ items s site cs k held num sees is kind t. are_leased program names ranges granted distinct are s site cs k held num sees (row_leases program (leases_of program names ranges granted) site cs is) kind items t) low
+    (λ items v s site cs k held num goes sees is kind writes t. are_leased program names ranges granted distinct are v s site cs k held num items goes sees (row_leases program (leases_of program names ranges granted) site cs is) kind t) low

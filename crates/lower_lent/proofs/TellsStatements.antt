@@ -1,9 +1,8 @@
 -- Where the constructs of statements stand, and where what is in scope there lies.
-use Rattle.std.proofs.Common.{◌≡◌, ℕ, zero, suc, ◌+◌, ◌<◌, ◌≤◌, List, [], ◌∷◌, ◌++◌, length, ◌⊎◌, inl, inr, slice_get, Option, Some, None, Bool, true, false, not, ◌&&◌, refl, sym, ap, ◌∙◌, subst, arith}
+use Rattle.std.proofs.Common.{◌≡◌, ℕ, zero, suc, ◌+◌, ◌<◌, List, ◌∷◌, length, Option, Some, Bool, true, false, not, ◌&&◌, refl, sym, ap, subst}
 use Rattle.behaviours.specs.Paths.{Entity, VariableOf, ConstantOf}
-use Rattle.typed_tree.specs.declared.scalars.Check.{Check}
 use Rattle.typed_tree.specs.declared.program.Formal.{Formal}
-use Rattle.typed_tree.specs.Syntax.{Expr, Static, Variable, Constant, Parameter, Target, Group, Unary, Binary, AndThen, OrElse, Relation, Membership, If, Call, Convert, Reduction, Optional, Absent, Present, Selections, Actuals, NoActual, In, InOut, Out, CompositeInOut, CompositeOut, Value, Number, Cells, Iteration, Range, Components, Chunk, NoChunk, Count, Each, Pieces, NoPiece, Text, Image, Padded, Decls, NoDecl, DeclareDefault, DeclareVariable, DeclareConstant, Mentions, Stmt, Null, Assign, CallProcedure, Exit, Return, ReturnValue, Raise, Reraise, IfThen, Case, Loop, For, ParallelFor, Parallel, Block, Put, Get, Stmts, End, Then, Alternatives, NoAlternative, Alternative, Arms, NoArm, Arm, Handlers, NoHandler, Handler, Program}
+use Rattle.typed_tree.specs.Syntax.{Expr, Static, Optional, Absent, Present, Actuals, NoActual, In, InOut, Out, CompositeInOut, CompositeOut, Number, Cells, Iteration, Range, Components, Chunk, NoChunk, Count, Each, Pieces, NoPiece, Text, Image, Padded, Decls, NoDecl, DeclareDefault, DeclareVariable, DeclareConstant, Mentions, Stmt, Null, Assign, CallProcedure, Exit, Return, ReturnValue, Raise, Reraise, IfThen, Case, Loop, For, ParallelFor, Parallel, Block, Put, Get, Stmts, End, Then, Alternatives, NoAlternative, Alternative, Arms, NoArm, Arm, Handlers, NoHandler, Handler, Program}
 use Rattle.typed_scopes.specs.Scopes as scopes
 use Rattle.typed_scopes.specs.Scopes.{Around, ScopedActuals, ScopedAll, ScopedAlternatives, ScopedArms, ScopedDecls, ScopedHandlers, ScopedOptional, ScopedPieces, ScopedStmt, ScopedExpr, with_chunk, with_parameter}
 use Rattle.ada_meaning.specs.Meaning.{object_layout}
@@ -13,15 +12,14 @@ use Rattle.lower_leased.specs.declared.types.Home.{Home}
 use Rattle.lower_leased.specs.declared.types.Standing.{Standing}
 use Rattle.lower_leased.specs.Homes.{behind, decl_homes, turn_cells}
 use Rattle.lower_leased.specs.Homes.{arm_homes, case_homes, handler_homes, stmt_homes, stmts_homes}
-use Rattle.lower_leased.specs.Standings.{goes_through_range}
-use Rattle.lower_leased.specs.Standings.{actuals_standings, arm_standings, case_standings, decls_standings, expr_standings, handler_standings, iteration_standings, optional_standings, pieces_standings, stmt_standings, stmts_standings}
+use Rattle.lower_leased.specs.Standings.{actuals_standings, arm_standings, case_standings, decls_standings, expr_standings, handler_standings, optional_standings, pieces_standings, stmt_standings, stmts_standings}
 use Rattle.ada_lower.specs.Lending.{Among}
 use Rattle.ada_lower.specs.Sights.{Named, Own, Sight, item_sight, nested_sight, object_here, own, passing, range_sight, taking, thread_sight, turn_sight, with_entry, with_exit, with_handled, with_outside, with_target}
 use Rattle.ada_lower.specs.Emission.{composite_width, is_whole, width}
-use Rattle.ada_lower.specs.Fitted.{Spot, Fitted, FittedActuals, FittedAll, FittedAlternatives, FittedDecls, FittedHandlers, FittedOptional, FittedPieces, FittedStmt, FittedTarget}
+use Rattle.ada_lower.specs.Fitted.{Spot, FittedActuals, FittedAll, FittedAlternatives, FittedDecls, FittedHandlers, FittedPieces, FittedStmt, FittedTarget}
 use Rattle.ada_lower.specs.FittedForks.{FittedArms, FittedCount, FittedForks, FittedReductions}
 use Rattle.lower_lent.proofs.Homes.{IsPlaced, Places, own_placed, places_object, places_thread, places_turn}
-use Rattle.lower_lent.proofs.Kept.{among_last, home_all, home_arms, home_cases, home_decls, home_handlers, home_stmt, kept_actuals, kept_all, kept_arms, kept_cases, kept_chunk, kept_decls, kept_expr, kept_handlers, kept_iteration, kept_optional, kept_pieces, kept_select, kept_stmt, kept_value}
+use Rattle.lower_lent.proofs.Kept.{among_last, home_all, home_arms, home_cases, home_decls, home_handlers, kept_actuals, kept_all, kept_arms, kept_cases, kept_chunk, kept_decls, kept_expr, kept_handlers, kept_iteration, kept_optional, kept_pieces, kept_value}
 use Rattle.lower_lent.proofs.TellsValues.{Stands, tell, tell_chunk, tell_composite, tell_optional, tell_select, tell_value}
 
 pub same_variable : {x y : ℕ} → ◌≡◌ {A = Entity} (VariableOf x) (VariableOf y) → x ≡ y
@@ -83,7 +81,7 @@ module _ (program : Program) (shown : ℕ → Entity → Bool) (globals : ℕ �
   tell_pieces n d s v (Text bytes rest) h u g f = (f.0, tell_pieces n d s v rest h u g f.1)
   tell_pieces n d s v (Image class e rest) h u g f = (tell program shown globals mains c lent told homes standings gives n d s v e h u.0 (λ t z. g t (λ o. kept_pieces t d rest _ (z o))) f.0, tell_pieces n d (taking 1 s) v rest h u.1 (λ t z. g t (λ o. z _)) f.1)
   tell_pieces n d s v (Padded class e (Static at value literal mentions) rest) h u g f =
-      (tell program shown globals mains c lent told homes standings gives n d s v e h u.0 (λ t z. g t (λ o. kept_pieces t d rest _ (z o))) f.0, tell_pieces n d (taking 1 s) v rest h u.1 (λ t z. g t (λ o. z _)) f.1)
+      (tell program shown globals mains c lent told homes standings gives n d s v e h u.0 (λ t z. g t (λ o. kept_pieces t d rest _ (z o))) f.0, tell_pieces n d (taking 1 s) v rest h u.2 (λ t z. g t (λ o. z _)) f.1)
   tell_pieces n d s v (Padded class e most rest) h u g f = absurd f
 
   -- an object that is declared in the own frame
@@ -122,7 +120,7 @@ module _ (program : Program) (shown : ℕ → Entity → Bool) (globals : ℕ �
         tell_decls n d (m + cells) (object_here s (ConstantOf x) cells) (scopes.with_object (ConstantOf x) v) more does old new (ap (λ z. z + cells) e)
             (places_object homes (ConstantOf x) (record { through = false; place = own s.scope.free; cells = cells }) (λ y same. absurd (no_variable same)) h) u.2 (λ t z. g t (λ o. z _)) l next f.3,
       )
-  tell_decls n d m s v (Mentions es more) does old new e h u g l next f = tell_decls n d m s v more does old new e h u g l next f
+  tell_decls n d m s v (Mentions es more) does old new e h u g l next f = tell_decls n d m s v more does old new e h u.1 g l next f
 
   tell_count : (n d : ℕ) (s : Sight) (v : Around) (x : Optional) → Places homes d s → ScopedOptional program shown v x → S (λ o. optional_standings d x o) → FittedCount program globals mains (Told n) s x → FittedCount program globals mains (Lent n) s x
   unfolding expr_standings
@@ -278,8 +276,8 @@ module _ (program : Program) (shown : ℕ → Entity → Bool) (globals : ℕ �
     tell_cases : (n d m : ℕ) (s : Sight) (v : Around) (x : Alternatives) → s.scope.free ≡ m → Places homes d s → ScopedAlternatives program shown v x → S (λ o. case_standings d x o) → Lies (λ o. case_homes program d m x o) → FittedAlternatives program globals mains (Told n) (ToldForks n) s x → FittedAlternatives program globals mains (Lent n) (LentForks n) s x
     tell_cases n d m s v NoAlternative e h u g l f = tt
     tell_cases n d m s v (Alternative others choices mentions stmts rest) e h u g l f = (
-      tell_all n d m s v stmts e h u.1 (λ t z. g t (λ o. kept_cases t d rest _ (z o))) (λ t z. l t (λ o. home_cases program t d m rest _ (z o))) f.0,
-      tell_cases n d m s v rest e h u.2 (λ t z. g t (λ o. z _)) (λ t z. l t (λ o. z _)) f.1,
+      tell_all n d m s v stmts e h u.2 (λ t z. g t (λ o. kept_cases t d rest _ (z o))) (λ t z. l t (λ o. home_cases program t d m rest _ (z o))) f.0,
+      tell_cases n d m s v rest e h u.3 (λ t z. g t (λ o. z _)) (λ t z. l t (λ o. z _)) f.1,
     )
 
     tell_arms : (n d m : ℕ) (s : Sight) (v : Around) (x : Arms) → s.scope.free ≡ m → Places homes d s → ScopedArms program shown v x → S (λ o. arm_standings d x o) → Lies (λ o. arm_homes program d m x o) → FittedArms program globals mains (Told n) (ToldForks n) s x → FittedArms program globals mains (Lent n) (LentForks n) s x

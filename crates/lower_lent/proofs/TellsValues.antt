@@ -1,8 +1,6 @@
 -- Where the constructs of values stand, and where what is in scope there lies.
-use Rattle.std.proofs.Common.{◌≡◌, ℕ, zero, suc, ◌+◌, ◌*◌, ◌<◌, ◌≤◌, List, [], ◌∷◌, ◌++◌, ◌⊎◌, inl, inr, slice_get, Option, Some, None, Bool, true, false, not, refl, sym}
-use Rattle.behaviours.specs.Paths.{Entity, VariableOf, ConstantOf}
-use Rattle.typed_tree.specs.declared.expressions.Iterated.{Iterated}
-use Rattle.typed_tree.specs.declared.expressions.Reducer.{Reducer}
+use Rattle.std.proofs.Common.{ℕ, zero, suc, ◌+◌, List, [], ◌∷◌, Option, Some, None, Bool, true, false, not}
+use Rattle.behaviours.specs.Paths.{Entity}
 use Rattle.typed_tree.specs.Syntax.{Expr, Static, Variable, Constant, Parameter, Target, Group, Unary, Binary, AndThen, OrElse, Relation, Membership, If, Call, Convert, Reduction, Iteration, Range, Components, Optional, Absent, Present, Selections, Whole, Field, Index, Actuals, NoActual, In, InOut, Out, CompositeInOut, CompositeOut, Value, Number, Cells, Composite, WholeVariable, WholeConstant, WholeTarget, CompositeIf, Aggregate, Associations, NoAssociation, Association, Chunk, NoChunk, Count, Each, Program}
 use Rattle.typed_tree.specs.declared.program.Formal.{Formal}
 use Rattle.typed_scopes.specs.Scopes.{Around, ScopedExpr, ScopedOptional, ScopedSelections, ScopedIn, ScopedAssociations, ScopedComposite, ScopedValue, ScopedChunk, with_chunk, with_index, with_parameter}
@@ -11,15 +9,14 @@ use Rattle.stack_code.specs.declared.code.Code.{Code}
 use Rattle.stack_code.specs.declared.code.CodeSite.{CodeSite}
 use Rattle.lower_leased.specs.declared.types.Home.{Home}
 use Rattle.lower_leased.specs.declared.types.Standing.{Standing}
-use Rattle.lower_leased.specs.Standings.{depth_in, goes_through_range, with_site}
-use Rattle.lower_leased.specs.Standings.{actuals_standings, associations_standings, chunk_standings, composite_standings, expr_standings, iteration_standings, optional_standings, selections_standings, value_standings}
+use Rattle.lower_leased.specs.Standings.{actuals_standings, associations_standings, chunk_standings, composite_standings, expr_standings, optional_standings, selections_standings, value_standings}
 use Rattle.ada_lower.specs.Lending.{Among}
 use Rattle.ada_lower.specs.Sights.{Named, Sight, item_sight, iterated_sight, nested_sight, passing, range_sight, taking, thread_sight, turn_sight}
 use Rattle.ada_lower.specs.Emission.{composite_width, width}
-use Rattle.ada_lower.specs.Fitted.{Spot, Fitted, FittedOptional, FittedSelections, FittedIn, FittedAssociations, FittedComponent, FittedComposite, FittedValue, OneOf}
+use Rattle.ada_lower.specs.Fitted.{Spot, Fitted, FittedOptional, FittedSelections, FittedIn, FittedAssociations, FittedComponent, FittedComposite, FittedValue}
 use Rattle.ada_lower.specs.FittedForks.{FittedChunk, FittedReductions}
 use Rattle.lower_lent.proofs.Homes.{Places, places_thread, places_turn}
-use Rattle.lower_lent.proofs.Kept.{among_last, kept_actuals, kept_associations, kept_chunk, kept_composite, kept_expr, kept_iteration, kept_optional, kept_select, kept_value}
+use Rattle.lower_lent.proofs.Kept.{among_last, kept_actuals, kept_associations, kept_chunk, kept_composite, kept_expr, kept_iteration, kept_optional, kept_select}
 use Rattle.lower_lent.proofs.LendsValues.{one_of}
 
 module _ (program : Program) (shown : ℕ → Entity → Bool) (globals : ℕ → Entity → Option Named) (mains : Entity → Bool) (c : Code) (lent told : Bool → Sight → ℕ → CodeSite → Type 0) (homes : List Home) (standings : List Standing)
@@ -150,15 +147,15 @@ module _ (program : Program) (shown : ℕ → Entity → Bool) (globals : ℕ �
 
     tell_associations : (n d : ℕ) (s : Sight) (v : Around) (q m : ℕ) (x : Associations) → Places homes d s → ScopedAssociations program shown v q x → Stands (λ o. associations_standings d x o) → FittedAssociations program globals mains (Told n) s m x → FittedAssociations program globals mains (Lent n) s m x
     tell_associations n d s v j m NoAssociation h u g f = tt
-    tell_associations n d s v j m (Association [] None mentions value rest) h u g f = tell_associations n d s v j m rest h u.2 g f
+    tell_associations n d s v j m (Association [] None mentions value rest) h u g f = tell_associations n d s v j m rest h u.3 g f
     tell_associations n d s v j m (Association (q ∷ qs) None mentions value rest) h u g f = (
       f.0,
-      one_of program globals mains (takes_turns (q ∷ qs) None value) (λ z. (z.0, tell_component n d (taking 3 s) v u.1.0 value h u.1.2 (λ t z. g t (λ o. kept_associations t d rest _ (z o))) z.1)) (λ z. tell_value n d s v u.1.0 (width program value) value h u.1.2 (λ t z. g t (λ o. kept_associations t d rest _ (z o))) z) f.1,
-      tell_associations n d s v j m rest h u.2 (λ t z. g t (λ o. z _)) f.2,
+      one_of program globals mains (takes_turns (q ∷ qs) None value) (λ z. (z.0, tell_component n d (taking 3 s) v u.2.0 value h u.2.2 (λ t z. g t (λ o. kept_associations t d rest _ (z o))) z.1)) (λ z. tell_value n d s v u.2.0 (width program value) value h u.2.2 (λ t z. g t (λ o. kept_associations t d rest _ (z o))) z) f.1,
+      tell_associations n d s v j m rest h u.3 (λ t z. g t (λ o. z _)) f.2,
     )
     tell_associations n d s v j m (Association [] (Some x) mentions value rest) h u g f = absurd u.0
     tell_associations n d s v j m (Association (q ∷ qs) (Some x) mentions value rest) h u g f =
-        (f.0, f.1, tell_component n d (iterated_sight s x.parameter) (with_index (Some x) v) u.1.0 value h u.1.2 (λ t z. g t (λ o. kept_associations t d rest _ (z o))) f.2, tell_associations n d s v j m rest h u.2 (λ t z. g t (λ o. z _)) f.3)
+        (f.0, f.1, tell_component n d (iterated_sight s x.parameter) (with_index (Some x) v) u.2.0 value h u.2.2 (λ t z. g t (λ o. kept_associations t d rest _ (z o))) f.2, tell_associations n d s v j m rest h u.3 (λ t z. g t (λ o. z _)) f.3)
 
     tell_component : (n d : ℕ) (s : Sight) (v : Around) (q : ℕ) (x : Value) → Places homes d s → ScopedValue program shown v q x → Stands (λ o. value_standings d x o) → FittedComponent program globals mains (Told n) s x → FittedComponent program globals mains (Lent n) s x
     tell_component n d s v j (Number check e) h u g f = tell n d s v e h u.1 g f

@@ -1,5 +1,5 @@
 -- What is in scope at the constructs of whole programs lies where the lists of variables and constructs tell.
-use Rattle.std.proofs.Common.{◌≡◌, ℕ, zero, suc, ◌+◌, ◌<◌, ◌≤◌, nat_eq, List, [], ◌∷◌, ◌++◌, length, slice_get, inl, inr, ◌⊎◌, Option, Some, None, Bool, true, false, not, cond, refl, sym, ap, ◌∙◌, subst, true≢false, eqb-true, eq-eqb}
+use Rattle.std.proofs.Common.{◌≡◌, ℕ, zero, suc, ◌+◌, nat_eq, List, [], ◌∷◌, length, inl, inr, ◌⊎◌, Option, Some, None, Bool, true, false, not, cond, refl, sym, ap, ◌∙◌, subst, true≢false, eqb-true, eq-eqb}
 use Rattle.std.proofs.lemmas.Option.{none-some}
 use Rattle.behaviours.specs.Paths.{Entity, VariableOf, ConstantOf, entity_eq}
 use Rattle.typed_tree.specs.declared.program.Formal.{Formal}
@@ -11,9 +11,6 @@ use Rattle.typed_scopes.specs.Scopes as scopes
 use Rattle.typed_scopes.specs.Scopes.{Around, IsScoped, ScopedAll, ScopedHandlers, ScopedMain, outset, sub_around, with_formals, with_outer}
 use Rattle.ada_meaning.specs.Meaning.{object_layout, sub_at}
 use Rattle.ada_meaning.proofs.Cells.{some_same}
-use Rattle.check_effects.specs.Effects.{Access, Construct, Holds}
-use Rattle.check_effects.specs.Conflicts.{InProgram, IsThreadEffect}
-use Rattle.check_effects.specs.Covered.{site_of}
 use Rattle.stack_code.specs.declared.code.Code.{Code}
 use Rattle.stack_code.specs.declared.code.CodeSite.{CodeSite}
 use Rattle.lower_emission.specs.Bodies as code
@@ -22,21 +19,22 @@ use Rattle.lower_emission.specs.Programs.{behind_main, code_of}
 use Rattle.lower_emission.specs.Scope.{Scope}
 use Rattle.lower_leased.specs.declared.types.Home.{Home}
 use Rattle.lower_leased.specs.declared.types.Standing.{Standing}
-use Rattle.lower_leased.specs.Homes.{behind, decl_homes, formal_home, formal_homes, homes_of, stmt_homes, stmts_homes, handler_homes, sub_homes, subs_homes}
-use Rattle.lower_leased.specs.Places.{home_in, leases_at, named_from, names_of, ranges_in, ranges_of, seen_from, standing_in}
-use Rattle.lower_leased.specs.Standings.{body_standings, decls_standings, standings_of, stmt_standings, stmts_standings, handler_standings, subs_standings}
+use Rattle.lower_leased.specs.Homes.{behind, decl_homes, formal_home, formal_homes, homes_of, stmt_homes, handler_homes, sub_homes, subs_homes}
+use Rattle.lower_leased.specs.Places.{home_in, leases_at, names_of, ranges_in, ranges_of, seen_from, standing_in}
+use Rattle.lower_leased.specs.Standings.{body_standings, decls_standings, standings_of, stmt_standings, handler_standings, subs_standings}
 use Rattle.ada_lower.specs.Lending.{Among}
-use Rattle.ada_lower.specs.Sights.{Main, Named, Own, Sight, own, taking}
+use Rattle.ada_lower.specs.Sights.{Main, Named, Sight, taking}
 use Rattle.ada_lower.specs.Emission.{Shape, lead, shape_by, shapes, shapes_cells, width}
 use Rattle.ada_lower.specs.Bodies.{FittedMain, formal_named, main_object, main_scope, objects, outer_scope, sub_scope}
-use Rattle.ada_lower.specs.FittedForks.{FittedForks, FittedReductions}
+use Rattle.ada_lower.specs.FittedForks.{FittedReductions}
 use Rattle.ada_lower.specs.Law.{IsLoweredBy}
 use Rattle.lower_formed.specs.Rooms.{seen_names}
-use Rattle.lower_lent.specs.Granted.{HomesAreDistinct, seen, seen_ranges, told, told_ranges}
-use Rattle.lower_lent.specs.Law.{AllLeasedLaw, LeasedLaw, NamesLaw}
+use Rattle.lower_homes.specs.Law.{HomesAreDistinct}
+use Rattle.lower_lent.specs.Granted.{seen, told}
+use Rattle.lower_lent.specs.Law.{LeasedLaw, NamesLaw}
 use Rattle.lower_lent.proofs.Homes.{ArePlaced, IsPlaced, Places, main_placed, own_placed, places_object}
-use Rattle.lower_lent.proofs.Kept.{among_last, home_decls, home_formals, home_stmt, home_subs, kept_all, kept_decls, kept_handlers, kept_stmt, kept_subs}
-use Rattle.lower_lent.proofs.Programs.{all_lent, lent_law}
+use Rattle.lower_lent.proofs.Kept.{among_last, home_decls, home_formals, home_stmt, home_subs, kept_all, kept_decls, kept_handlers, kept_subs}
+use Rattle.lower_lent.proofs.Programs.{lent_law}
 use Rattle.lower_lent.proofs.Stood.{standings_distinct}
 use Rattle.lower_lent.proofs.TellsValues.{tell_value}
 use Rattle.lower_lent.proofs.TellsStatements.{no_variable, same_variable, tell_stmt}
@@ -197,7 +195,7 @@ module _ (program : Program) (shown : ℕ → Entity → Bool) (scoped : IsScope
         tell_main n (m + cells) (main_object s (ConstantOf x) cells) (with_outer (ConstantOf x) v) more does old new (ap (λ z. z + cells) e)
             (places_object homes (ConstantOf x) (code.main_named s.scope.free cells) (λ y same. absurd (no_variable same)) h) u.2 (λ t z. g t (λ o. z _)) l next f.3,
       )
-  tell_main n m s v (Mentions es more) does old new e h u g l next f = tell_main n m s v more does old new e h u g l next f
+  tell_main n m s v (Mentions es more) does old new e h u g l next f = tell_main n m s v more does old new e h u.1 g l next f
 
   main_stands : StandsIn (λ o. decls_standings 0 program.body.decls o)
   unfolding stmt_standings handler_standings
@@ -247,18 +245,8 @@ tells program one_home distinct items d s site cs i h sees =
     )
 
 pub names_law : NamesLaw
-names_law program shown c text frames frame depth one_home distinct scoped low = told_by program shown scoped text frames frame depth c (told_ranges program (names_of program) (ranges_of program)) (seen_ranges program) gives low
-  where
-    gives : (items : Bool) (d : ℕ) (s : Sight) (site : ℕ) (cs : CodeSite) → Among (record { site = site; depth = d; ranges = not items }) (standings_of program) → Places (homes_of program) d s → seen_ranges program items s site cs
-        → told_ranges program (names_of program) (ranges_of program) items s site cs
-    gives true d s site cs i h sees = absurd sees
-    gives false d s site cs i h sees = tells program one_home distinct false d s site cs i h sees
+names_law program shown c text frames frame depth one_home distinct scoped low = told_by program shown scoped text frames frame depth c (told program (names_of program) (ranges_of program)) (seen program) (tells program one_home distinct) low
 
 pub leased_law : LeasedLaw
 leased_law program shown granted text frames frame depth homes sites scoped are low =
     lent_law program shown (names_of program) (ranges_of program) granted text frames frame depth sites scoped are (names_law program shown (code_of program (leases_at program granted)) text frames frame depth homes sites scoped low)
-
-pub all_leased_law : AllLeasedLaw
-all_leased_law program shown granted text frames frame depth homes sites scoped are low =
-    all_lent program shown (names_of program) (ranges_of program) granted text frames frame depth sites scoped are
-    (told_by program shown scoped text frames frame depth (code_of program (leases_at program granted)) (told program (names_of program) (ranges_of program)) (seen program) (tells program homes sites) low)

@@ -1,6 +1,6 @@
 -- The paths that the threads of each construct may write, by the number of its site and, in a block, of the arm (9.10.1); and
 -- where the objects of those paths lie.
-use Rattle.std.specs.Prelude.{◌≡◌, ℕ, nat_eq, List, [], ◌∷◌, Option, Some, Bool, true, false, not, cond}
+use Rattle.std.specs.Prelude.{◌≡◌, ℕ, nat_eq, List, [], ◌∷◌, Option, Some, Bool, true, not, cond}
 use Rattle.behaviours.specs.Paths.{Entity, VariableOf}
 use Rattle.typed_tree.specs.Syntax.{Program}
 use Rattle.check_effects.specs.Effects.{Access, Construct, Holds}
@@ -11,9 +11,7 @@ use Rattle.check_clashes.specs.declared.granted.Grants.{Grants}
 use Rattle.check_inference.specs.Exact.{OfThread, effect_path, is_block}
 use Rattle.stack_code.specs.declared.code.CodeSite.{CodeSite}
 use Rattle.lower_emission.specs.declared.types.Named.{Named}
-use Rattle.lower_leased.specs.declared.types.Home.{Home}
 use Rattle.lower_leased.specs.declared.types.Standing.{Standing}
-use Rattle.lower_leased.specs.Homes.{homes_of}
 use Rattle.lower_leased.specs.Standings.{standings_of}
 use Rattle.ada_lower.specs.Lending.{Among}
 use Rattle.ada_lower.specs.Sights.{Sight}
@@ -42,23 +40,10 @@ module _ (program : Program) where
       × ((k : Construct) → InProgram program (Holds k) → site_of k ≡ site → (j at : ℕ) (a : Access) → IsThreadEffect program k j at a → a.writes ≡ true
       → (m : Named) × (s.scope.object (VariableOf a.object) ≡ Some m) × (names site (VariableOf a.object) ≡ Some m))
 
-  -- of a program in which no construct goes through an array
-  abbrev pub told_ranges : (names : ℕ → Entity → Option Named) (ranges : ℕ → Bool) (items : Bool) → Sight → ℕ → CodeSite → Type 0
-  told_ranges names ranges true s site cs = ⊥
-  told_ranges names ranges false s site cs = told names ranges false s site cs
-
   -- where a construct stands, what its threads may write is in scope (8.2)
   abbrev pub seen : (items : Bool) → Sight → ℕ → CodeSite → Type 0
   seen items s site cs = (k : Construct) → InProgram program (Holds k) → site_of k ≡ site → (j at : ℕ) (a : Access) → IsThreadEffect program k j at a → a.writes ≡ true → (m : Named) × (s.scope.object (VariableOf a.object) ≡ Some m)
 
-  -- and none goes through an array
-  abbrev pub seen_ranges : (items : Bool) → Sight → ℕ → CodeSite → Type 0
-  seen_ranges true s site cs = ⊥
-  seen_ranges false s site cs = seen false s site cs
-
-  -- a variable is declared once (3.3), and a construct stands once
-  abbrev pub HomesAreDistinct : Type 0
-  HomesAreDistinct = (h j : Home) → Among h (homes_of program) → Among j (homes_of program) → h.object ≡ j.object → h ≡ j
-
+  -- a construct stands once
   abbrev pub StandingsAreDistinct : Type 0
   StandingsAreDistinct = (t j : Standing) → Among t (standings_of program) → Among j (standings_of program) → t.site ≡ j.site → t ≡ j

@@ -1,6 +1,7 @@
 use Rattle.lower_lent.proofs.Leases.{granted_law}
 use Rattle.lower_lent.proofs.Programs.{lent_law}
-use Rattle.lower_lent.proofs.Told.{all_leased_law, leased_law, names_law}
+use Rattle.lower_lent.proofs.Reaching.{seen_law}
+use Rattle.lower_lent.proofs.Told.{leased_law, names_law}
 use Rattle.lower_lent.proofs.Deep.{fit_law}
 use Rattle.lower_lent.proofs.laws.Goals as goal
 
@@ -16,8 +17,8 @@ returns-clause-names c = names_law
 pub returns-clause-leased : goal.returns-clause-leased
 returns-clause-leased c = leased_law
 
-pub returns-clause-all : goal.returns-clause-all
-returns-clause-all c = all_leased_law
-
 pub returns-clause-fit : goal.returns-clause-fit
 returns-clause-fit c = fit_law
+
+pub returns-clause-seen : goal.returns-clause-seen
+returns-clause-seen c = seen_law

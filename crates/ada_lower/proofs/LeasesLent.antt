@@ -1,5 +1,5 @@
--- Where leases are those of what threads may write, constructs over ranges, blocks and reductions over ranges lend as they should.
-use Rattle.std.proofs.Common.{◌≡◌, ℕ, suc, ◌+◌, ◌-◌, ◌≤◌, ℤ, pos, ◌+ℤ◌, List, [], ◌∷◌, Some, inl, inr, cond, refl, sym, ap, ◌∙◌, subst, arith, le_refl}
+-- Where leases are those of what threads may write, each construct lends as it should.
+use Rattle.std.proofs.Common.{◌≡◌, ℕ, suc, ◌+◌, ◌-◌, ◌≤◌, ℤ, pos, ◌+ℤ◌, List, [], ◌∷◌, Some, true, false, inl, inr, cond, refl, sym, ap, ◌∙◌, subst, arith, le_refl}
 use Rattle.std.proofs.lemmas.Bool.{eq-eqb}
 use Rattle.std.proofs.lemmas.Int.{ints}
 use Rattle.behaviours.specs.Joins.{Share, deal}
@@ -14,9 +14,10 @@ use Rattle.stack_code.specs.Deeds.{asked}
 use Rattle.ada_lower.specs.Driven.{sizes_for}
 use Rattle.ada_lower.specs.Emission.{loop_kind, reduction_kind}
 use Rattle.ada_lower.specs.Lending.{Among, chunk_at}
-use Rattle.ada_lower.specs.Leased.{leased_ranges}
+use Rattle.ada_lower.specs.Leased.{leased}
 use Rattle.ada_lower.proofs.ForkRange.{Chunks, Numbered, numbered}
 use Rattle.ada_lower.proofs.ForkSites as sites
+use Rattle.ada_lower.proofs.LeaseFinds.{finds_items, finds_ranges}
 use Rattle.ada_lower.proofs.Leasing.{lends_by}
 use Rattle.ada_lower.proofs.Lent.{Lending}
 
@@ -51,21 +52,31 @@ fold_chunk by (Count e) k site l u cl ch start idx j env told at_ = refl
 fold_chunk by (Each n low high check) k site l u cl ch start idx j env told at_ =
     ap (λ (k : Chunking). (k.bound idx env).parameter n) told ∙ same_parameter n (cl +ℤ pos idx) env ∙ ap (λ i. cl +ℤ pos i) at_
 
-pub lending_ranges : (limit : ℕ) (cuts : ℕ → ℕ → List ℕ) (program : Program) → Lending limit cuts (Some program) (leased_ranges program)
-lending_ranges limit cuts program = record {
+pub lending_leased : (limit : ℕ) (cuts : ℕ → ℕ → List ℕ) (program : Program) → Lending limit cuts (Some program) (leased program)
+lending_leased limit cuts program = record {
   loops = λ f e s env site cs h chunk p low high check filter k cl ch l u is told g kn.
-      lends_by kn program e site cs h (asked site l u cl ch (pos 0)) _ refl
-      (λ j i. (ap Some (same_parameter p (l +ℤ pos i) (k.bound (chunk_of (cut_of k (Values.count l u)) j) (Meaning.inside env))), loop_chunk chunk k site l u cl ch (pos 0) (chunk_of (cut_of k (Values.count l u)) j) j (Meaning.inside env) told (numbered chunk cl ch k (Values.count l u) j told) ∙ ap (λ kd. chunk_at kd (asked site l u cl ch (pos 0)) j) (sym is)))
+      lends_by kn program e false site cs h (asked site l u cl ch (pos 0)) _ refl
+      (λ con held goes clean distinct. finds_ranges program con clean _ distinct _ _
+      (λ j i. (ap Some (same_parameter p (l +ℤ pos i) (k.bound (chunk_of (cut_of k (Values.count l u)) j) (Meaning.inside env))), loop_chunk chunk k site l u cl ch (pos 0) (chunk_of (cut_of k (Values.count l u)) j) j (Meaning.inside env) told (numbered chunk cl ch k (Values.count l u) j told) ∙ ap (λ kd. chunk_at kd (asked site l u cl ch (pos 0)) j) (sym is))))
       _ (deal_parted 0 0 (sizes_for g.plan cs.kind (asked site l u cl ch (pos 0))));
-  items = λ f e s env site cs h chunk p constant at root selections count stride dimensions filter k cl ch q a told g kn part. absurd h;
+  items = λ f e s env site cs h chunk p constant at root selections count stride dimensions filter k cl ch q a is told g kn part.
+      lends_by kn program e true site cs h (asked site (pos 1) (pos count) cl ch (pos 0)) _ refl
+      (λ con held goes clean distinct. finds_items program con clean _ distinct held goes _ _ (λ i. refl)
+      (λ j i. loop_chunk chunk k site (pos 1) (pos count) cl ch (pos 0) (chunk_of (cut_of k count) j) j (Meaning.inside env) told (numbered chunk cl ch k count j told) ∙ ap (λ kd. chunk_at kd (asked site (pos 1) (pos count) cl ch (pos 0)) j) (sym is)))
+      _ (deal_parted 0 0 (sizes_for g.plan cs.kind (asked site (pos 1) (pos count) cl ch (pos 0))));
   blocks = λ f e s env site cs h arms ch is g kn.
       let q = asked site (pos 0) (pos (arms - 1)) (pos 1) ch (pos 0) in
-      lends_by kn program e site cs h q (Meaning.block_site site) refl (λ j i. (ap Some (zero_more i), ap (λ kd. chunk_at kd q j) (sym is))) _ (deal_parted 0 0 (sizes_for g.plan cs.kind q));
+      lends_by kn program e false site cs h q (Meaning.block_site site) refl (λ con held goes clean distinct. finds_ranges program con clean _ distinct _ _ (λ j i. (ap Some (zero_more i), ap (λ kd. chunk_at kd q j) (sym is)))) _ (deal_parted 0 0 (sizes_for g.plan cs.kind q));
   folds = λ f e s env site cs h chunk p low high check filter k start cl ch l u by is told g kn.
-      lends_by kn program e site cs h (asked site l u cl ch start) _ refl
-      (λ j i. (ap Some (same_parameter p (l +ℤ pos i) (k.bound (chunk_of (value_cut_of k (Values.count l u)) j) (Meaning.inside env))), fold_chunk by chunk k site l u cl ch start (chunk_of (value_cut_of k (Values.count l u)) j) j (Meaning.inside env) told (sites.numbered chunk cl ch k (Values.count l u) j told) ∙ ap (λ kd. chunk_at kd (asked site l u cl ch start) j) (sym is)))
+      lends_by kn program e false site cs h (asked site l u cl ch start) _ refl
+      (λ con held goes clean distinct. finds_ranges program con clean _ distinct _ _
+      (λ j i. (ap Some (same_parameter p (l +ℤ pos i) (k.bound (chunk_of (value_cut_of k (Values.count l u)) j) (Meaning.inside env))), fold_chunk by chunk k site l u cl ch start (chunk_of (value_cut_of k (Values.count l u)) j) j (Meaning.inside env) told (sites.numbered chunk cl ch k (Values.count l u) j told) ∙ ap (λ kd. chunk_at kd (asked site l u cl ch start) j) (sym is))))
       _ (deal_parted 0 0 (sizes_for g.plan cs.kind (asked site l u cl ch start)));
-  item_folds = λ f e s env site cs h chunk p constant at root selections count stride dimensions filter k start cl ch q a told g kn part. absurd h;
+  item_folds = λ f e s env site cs h chunk p constant at root selections count stride dimensions filter k start cl ch q a by is told g kn part.
+      lends_by kn program e true site cs h (asked site (pos 1) (pos count) cl ch start) _ refl
+      (λ con held goes clean distinct. finds_items program con clean _ distinct held goes _ _ (λ i. refl)
+      (λ j i. fold_chunk by chunk k site (pos 1) (pos count) cl ch start (chunk_of (value_cut_of k count) j) j (Meaning.inside env) told (sites.numbered chunk cl ch k count j told) ∙ ap (λ kd. chunk_at kd (asked site (pos 1) (pos count) cl ch start) j) (sym is)))
+      _ (deal_parted 0 0 (sizes_for g.plan cs.kind (asked site (pos 1) (pos count) cl ch start)));
 }
   where
     zero_more : (i : ℕ) → pos i ≡ pos 0 +ℤ pos i
