@@ -1,0 +1,6 @@
+mod Begun
+mod Lent
+mod Reading
+mod Sizes
+mod Table
+mod Ways

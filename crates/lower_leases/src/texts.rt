@@ -1,0 +1,72 @@
+//! The parallel constructs in pieces of output (A.10) and in declarations (3.11).
+
+ghost use Rattle.std.specs.Prelude.{◌≡◌, OnOk};
+ghost use Rattle.typed_tree.specs.Decoded.{as_decl, as_piece, decls_at, part_at, pieces_at};
+ghost use Rattle.typed_tree.specs.Syntax.{Decls, Pieces};
+ghost use Rattle.lower_leased.specs.Standings as spec;
+
+use crate::exprs::{expr, value};
+use ada_base::Items;
+use lower_leased::types::Standing;
+use std::alloc::AllocError;
+use typed_tree::{Decl, Nodes, Piece};
+
+/// Pieces of output. An Err is want of memory.
+#[tactic(auto, unfolding(lower_leased::specs::Standings::pieces_standings))]
+pub fn pieces(
+    nodes: &Nodes,
+    depth: u32,
+    id: u32,
+    out: &mut Items<Standing>,
+) -> Result<(), AllocError>
+    ensures { OnOk result (out.new ≡ spec.pieces_standings depth (pieces_at nodes.now id) out.old) }
+{
+    let mut at = id;
+    while let Some(cell) = nodes.pieces(at) {
+        piece(nodes, depth, cell.first, out)?;
+        at = cell.rest;
+    }
+    Ok(())
+}
+
+#[tactic(auto, unfolding(lower_leased::specs::Standings::pieces_standings))]
+fn piece(nodes: &Nodes, depth: u32, id: u32, out: &mut Items<Standing>) -> Result<(), AllocError>
+    ensures { OnOk result ((rest : Pieces) → spec.pieces_standings depth rest out.new ≡ spec.pieces_standings depth (as_piece (part_at nodes.now id) rest) out.old) }
+{
+    match nodes.piece(id) {
+        Some(Piece::Image { value: part, .. } | Piece::Padded { value: part, .. }) => {
+            expr(nodes, depth, part, out)
+        }
+        Some(Piece::Text { .. }) | None => Ok(()),
+    }
+}
+
+/// Declarations. An Err is want of memory.
+#[tactic(auto, unfolding(lower_leased::specs::Standings::decls_standings))]
+pub fn decls(
+    nodes: &Nodes,
+    depth: u32,
+    id: u32,
+    out: &mut Items<Standing>,
+) -> Result<(), AllocError>
+    ensures { OnOk result (out.new ≡ spec.decls_standings depth (decls_at nodes.now id) out.old) }
+{
+    let mut at = id;
+    while let Some(cell) = nodes.decls(at) {
+        decl(nodes, depth, cell.first, out)?;
+        at = cell.rest;
+    }
+    Ok(())
+}
+
+#[tactic(auto, unfolding(lower_leased::specs::Standings::decls_standings))]
+fn decl(nodes: &Nodes, depth: u32, id: u32, out: &mut Items<Standing>) -> Result<(), AllocError>
+    ensures { OnOk result ((rest : Decls) → spec.decls_standings depth rest out.new ≡ spec.decls_standings depth (as_decl (part_at nodes.now id) rest) out.old) }
+{
+    match nodes.decl(id) {
+        Some(Decl::Variable { initial, .. } | Decl::Constant { initial, .. }) => {
+            value(nodes, depth, initial, out)
+        }
+        Some(Decl::Mentions { .. } | Decl::Default { .. }) | None => Ok(()),
+    }
+}
