@@ -14,6 +14,6 @@ mod Sited
 mod Stepping
 mod LeaseCells
 mod Dealing
-mod Inner
+pub mod Inner
 mod Overs
 mod Began

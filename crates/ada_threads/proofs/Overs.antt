@@ -1,5 +1,6 @@
 -- What threads came to, one after the other.
 use Rattle.std.proofs.Common.{◌≡◌, ℕ, zero, suc, ◌+◌, ◌<◌, ◌≤◌, inl, inr, ℤ, Bool, true, false, cond, List, [], ◌∷◌, ◌++◌, map, length, drop, get_or, slice_get, Option, Some, None, Result, Ok, Err, arith, refl, sym, ◌∙◌, ap, subst}
+use Rattle.std.proofs.Math.Nat.{max-le}
 use Rattle.std.proofs.Math.Seq.{drop-cons}
 use Rattle.std.proofs.Math.ListN.{drop_of_length-le}
 use Rattle.std.proofs.lemmas.Option.{get_or_from_slice_get}
@@ -11,6 +12,8 @@ use Rattle.ada_workers.specs.Noted.{told_note}
 use Rattle.ada_workers.specs.Orders.{by_note, ends_of}
 use Rattle.ada_workers.specs.declared.construct.Over.{Over}
 use Rattle.ada_workers.specs.declared.notes.ThreadNote.{ThreadNote}
+use Rattle.ada_workers.specs.declared.tasks.State.{State as Told}
+use Rattle.ada_workers.specs.declared.tasks.State.TheVariants as state
 use Rattle.behaviours.specs.Joins.{Share}
 use Rattle.stack_code.specs.declared.code.Code.{Code}
 use Rattle.stack_code.specs.declared.code.CodeSite.{CodeSite}
@@ -134,6 +137,15 @@ pub ran_at : (p : ThreadPath) (os : List (Over ThreadPath)) → AllRan p os → 
 ran_at p [] h i o lt is = absurd (omega (arith, lt))
 ran_at p (x ∷ os) h zero o lt is = subst (λ (o : Over ThreadPath). o.path ≡ record p { turns = o.path.turns; how = o.path.how }) (sym is) h.0
 ran_at p (x ∷ os) h (suc i) o lt is = ran_at p os h.1 i o (omega (arith, lt)) is
+
+-- no more turns than the limit, where no thread has more
+pub turns_within : (limit m n : ℕ) (s : Told) → m ≤ limit → n ≤ limit → turns_by m s n ≤ limit
+turns_within limit m n state.NotBegun le more = le
+turns_within limit m n (state.Stopped x) le more = max-le le more
+
+pub most_within : (p : ThreadPath) (os : List (Over ThreadPath)) → AllRan p os → (i : ℕ) (o : Over ThreadPath) → i < length os → o ≡ get_or os i o → (m n : ℕ) → m ≤ p.limit → o.path.turns ≤ o.path.limit → n ≡ turns_by m o.state o.path.turns → n ≤ p.limit
+most_within p os all i o lt is m n le more e =
+    subst (λ k. k ≤ p.limit) (sym e) (turns_within p.limit m o.path.turns o.state le (subst (λ k. o.path.turns ≤ k) (ap (λ (x : ThreadPath). x.limit) (ran_at p os all i o lt is)) more))
 
 -- ---- the paths of threads are as they began, but for what they came to
 abbrev IsRun : ThreadPath → ThreadPath → Type 0

@@ -1,5 +1,5 @@
 -- An outermost construct, by what workers answered.
-use Rattle.std.proofs.Common.{◌≡◌, ℕ, true, false, ℤ, List, [], ◌∷◌, length, get_or, slice_get, Option, Some, None, Result, Ok, Err, refl, sym, ◌∙◌, ap, subst}
+use Rattle.std.proofs.Common.{◌≡◌, ℕ, ◌≤◌, true, false, ℤ, List, [], ◌∷◌, length, get_or, slice_get, Option, Some, None, Result, Ok, Err, refl, sym, ◌∙◌, ap, subst}
 use Rattle.std.proofs.lemmas.Option.{get_or_from_slice_get}
 use Rattle.ada_base.specs.Cells.{Cell}
 use Rattle.ada_base.specs.Cuts.{Plan, cuts_of}
@@ -92,10 +92,13 @@ module _ (limit : ℕ) (c : Code) (plan : Plan) (q : Asked) (m : Machine) (cells
           subst (λ k. ForksTo limit c q (path_in w) (forked w ds k h)) (sym turns)
           (subst (λ how. ForksTo limit c q (path_in w) (forked w ds (turns_of m.turns os) how)) (is r.0 r.1) r.2)
 
-      site_ran : Behind c t m m' ds h → SiteRan limit c plan q workers t m cells m' ds
-      site_ran b = record { how = h; behind = b; noted = noted_so; in_order = ordered_so }
+      site_ran : Behind c t m m' ds h → m'.turns ≤ limit → SiteRan limit c plan q workers t m cells m' ds
+      site_ran b le = record { how = h; behind = b; within = le; noted = noted_so; in_order = ordered_so }
 
-    module _ (e : End) (ends : (how : Result Gave Stop) → AnswerOf chosen os how → EndOf e how) (m' : Machine) (n : ℕ) (most : n ≡ turns_of m.turns os) where
+    module _ (e : End) (ends : (how : Result Gave Stop) → AnswerOf chosen os how → EndOf e how) (m' : Machine) (n : ℕ) (most : n ≡ turns_of m.turns os) (least : (p : ThreadPath) → AllRan p os → m.turns ≤ p.limit → n ≤ p.limit) (few : m.turns ≤ limit) where
+      le : n ≤ limit
+      le = least (inner_path limit c plan (length cells) site (state_of m [])) all_ran few
+
       gives_by : (g : Gave) (e : End) → Answers site.kind q.initial e (Ok g) → (how : Result Gave Stop) → EndOf e how → how_is how ≡ Ok g
       gives_by g (end.Values vs) a how h = ap (with_answer c (answer_of c site.kind q)) h ∙ ap Ok (sym (a c q refl))
       gives_by g (end.Left l) a how h = ap (with_answer c (answer_of c site.kind q)) h ∙ ap Ok (still c site.kind q l ∙ sym a)
@@ -107,7 +110,7 @@ module _ (limit : ℕ) (c : Code) (plan : Plan) (q : Asked) (m : Machine) (cells
       pub site_on : (g : Gave) → Answers site.kind q.initial e (Ok g) → t.spent ≡ false → state_of m' ds ≡ resumed c g (state_of (record m { turns = n }) ds) → SiteRan limit c plan q workers t m cells m' ds
       site_on g answer on state =
           let turns : m'.turns ≡ n = ap (λ (s : State). s.turns) state ∙ (resumed_same c g None (state_of (record m { turns = n }) ds)).1 in
-          site_ran (Ok g) (λ how h. gives_by g e answer how (ends how h)) m' (turns ∙ most) (on, state ∙ ap (λ k. resumed c g (state_of (record m { turns = k }) ds)) (sym turns))
+          site_ran (Ok g) (λ how h. gives_by g e answer how (ends how h)) m' (turns ∙ most) (on, state ∙ ap (λ k. resumed c g (state_of (record m { turns = k }) ds)) (sym turns)) (subst (λ k. k ≤ limit) (sym turns) le)
 
       -- turns ran out
       pub site_off : Answers site.kind q.initial e (Err way.Spent) → t.spent ≡ true → m' ≡ record m { turns = n } → SiteRan limit c plan q workers t m cells m' ds
@@ -115,4 +118,4 @@ module _ (limit : ℕ) (c : Code) (plan : Plan) (q : Asked) (m : Machine) (cells
           let turns : m'.turns ≡ n = ap (λ (m : Machine). m.turns) same in
           let out = spent_only site.kind q.initial e a in
           site_ran (Err Spent) (λ how h. ap (with_answer c (answer_of c site.kind q)) (subst (λ e. EndOf e how) out (ends how h))) m' (turns ∙ most)
-          (off, refl, same ∙ ap (λ k. record m { turns = k }) (sym turns))
+          (off, refl, same ∙ ap (λ k. record m { turns = k }) (sym turns)) (subst (λ k. k ≤ limit) (sym turns) le)

@@ -1,5 +1,5 @@
 -- An outermost construct whose threads workers run.
-use Rattle.std.specs.Prelude.{◌≡◌, ℕ, ◌+◌, ◌<◌, ◌^◌, true, false, List, [], ◌∷◌, map, Option, Some, None, Result, Ok, Err}
+use Rattle.std.specs.Prelude.{◌≡◌, ℕ, ◌+◌, ◌<◌, ◌≤◌, ◌^◌, true, false, List, [], ◌∷◌, map, Option, Some, None, Result, Ok, Err}
 use Rattle.ada_base.specs.Cells.{Cell}
 use Rattle.ada_base.specs.Cuts.{Plan, cuts_of}
 use Rattle.ada_base.specs.Notes.{ConstructNote, InOrder, ByNotes}
@@ -77,6 +77,7 @@ forked w cells turns how = record { dyn = record { cells = cells; turns = turns;
 pub record SiteRan (limit : ℕ) (c : Code) (plan : Plan) (q : Asked) (workers : ℕ) (t : Told) (m : Machine) (cells : List Cell) (m' : Machine) (cells' : List Cell) : Type 0 where
   pub how : Result Gave Stop
   pub behind : Behind c t m m' cells' how
+  pub within : m'.turns ≤ limit
   -- by the note that is told the fork comes to it, whatever its input and output are
   pub noted : (w : World) → w.plan ≡ cuts_of plan → (ns : List ConstructNote)
       → ForksTo limit c q (with_schedule (ByNotes (note_of t ∷ ns)) (record { state = state_of m cells; world = w })) (forked (record w { notes = ByNotes ns }) cells' m'.turns how)

@@ -1,5 +1,5 @@
 // An outermost construct, on workers.
-ghost use Rattle.std.specs.Prelude.{◌≡◌, ◌<◌, ◌^◌, [], Bool, List, None, Some, Result, IfOk, OnOk, length, slice_get, map, false, vec_len};
+ghost use Rattle.std.specs.Prelude.{◌≡◌, ◌<◌, ◌≤◌, ◌^◌, [], Bool, List, None, Some, Result, IfOk, OnOk, length, slice_get, map, false, vec_len};
 ghost use Rattle.ada_base.specs.Cells.{Cell};
 ghost use Rattle.cell_memory.specs.Sight.{OwnThere};
 ghost use Rattle.run_plan.specs.Plans.{plan_of};
@@ -53,7 +53,8 @@ pub struct Told {
 
 // The most turns of a thread that was begun.
 fn most_turns(from: u64, overs: &[Over<MachineThread<'_>>]) -> u64
-    ensures { result ≡ turns_of from overs.now }
+    ensures most { result ≡ turns_of from overs.now }
+    ensures within { (p : ThreadPath) → AllRan p overs.now → from ≤ p.limit → result ≤ p.limit }
 {
     let mut most = from;
     for over in overs {
@@ -163,12 +164,13 @@ pub fn run_site<R: Threads + Sync, U: Pulse + Sync>(
 ) -> Result<Told, NoMemory>
     requires awaits { Awaits team.now.code.now machine.old }
     requires here { (low : AroundOf) × Forked team.now.code.now low asked.site (state_of machine.old []) }
+    requires within { machine.old.turns ≤ team.now.limit }
     requires some { 0 < crew.now.workers }
     requires main { view.old.held ≡ None }
     requires there { OwnThere view.old }
     requires starts { (site : SiteOf) × (slice_get team.now.code.now.sites asked.site ≡ Some site) × (begins_of threads.items ≡ starts_at team.now.limit team.now.code.now (plan_of team.now.plan.now) site asked (state_of machine.old view.old.cells)) }
     requires fits { FramesFit threads.items × (vec_len threads < 2 ^ 32) }
-    requires within { AllInside (length view.old.cells) threads.items }
+    requires inside { AllInside (length view.old.cells) threads.items }
     requires fine { AllFine runs (all_out view.old.cells (areas_of threads.items)) view.old.cells (begins_of threads.items) (areas_of threads.items) }
     ensures ok { IfOk result (λ told. SiteRan team.now.limit team.now.code.now (plan_of team.now.plan.now) asked crew.now.workers told machine.old view.old.cells machine.new view.new.cells) }
     ensures ready { IfOk result (λ told. told.spent ≡ false → (cells : List Cell) → Ready team.now.code.now machine.new cells) }

@@ -89,7 +89,8 @@ impl<'a> MachineThread<'a> {
 
     /// The most turns, of which there were so many before it ran, if it was begun.
     pub(crate) fn turns_by(&self, most: u64, state: State) -> u64
-        ensures { result ≡ turns_by most state self.now.turns }
+        ensures most { result ≡ turns_by most state self.now.turns }
+        ensures within { self.now.turns ≤ self.now.limit }
     {
         match state {
             State::NotBegun => most,

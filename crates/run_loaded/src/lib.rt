@@ -2,10 +2,13 @@
 //! function here has no body: its contract is what is proved.
 #![tactic(auto)]
 
-ghost use Rattle.run_loaded.specs.Law.{LoadedLaw};
+ghost use Rattle.run_loaded.specs.Law.{AcceptedLaw, LoadedLaw};
 
-/// The code of an accepted program, with leases of what is granted, is loaded (`IsLoaded` of run_machine_laws): it is valid,
-/// its threads begin behind their forks and ask for no input or output (9.5), and runs by notes have room for its objects.
+/// - loaded: the code of an accepted program, with leases of what is granted, is loaded (`IsLoaded` of run_machine_laws): it is
+///   valid, its threads begin behind their forks and ask for no input or output (9.5), and runs by notes have room for its
+///   objects.
+/// - accepted: so it is with what `accept` of check_conflicts grants.
 pub fn laws()
     ensures loaded { LoadedLaw }
+    ensures accepted { AcceptedLaw }
 {}

@@ -10,7 +10,7 @@ use Rattle.ada_meaning.specs.Stored as stored
 use Rattle.ada_meaning.specs.Stored.{After, Cause, Left as LeftBy, OutOfTurns, NoRoom, CutOff, Misnoted, Computes, answered, noted, noted_outset, handled, put_out}
 use Rattle.ada_meaning.proofs.StoredProof.{noted_law}
 use Rattle.stack_code.specs.Machine.{Stop, Done}
-use Rattle.ada_lower.specs.Bodies.{positions}
+use Rattle.lower_leased.specs.Homes.{main_variables}
 use Rattle.ada_lower.specs.Driven.{Dyn, Final}
 use Rattle.ada_lower.specs.Law.{AreFinals}
 use Rattle.ada_lower.proofs.ForkDeals.{plan_within}
@@ -107,9 +107,9 @@ end_law program set c frame slots is input before told e ending leads so =
     )
   where
     finals : ((noted program set).does (noted_outset slots input before (schedule set.one told))).end ≡ Ok tt
-        → AreFinals (positions program is.globals is.mains is.texts is.text is.frames 0 program.body.decls) ((noted program set).does (noted_outset slots input before (schedule set.one told))).state e.dyn
+        → AreFinals (main_variables program 0 program.body.decls) ((noted program set).does (noted_outset slots input before (schedule set.one told))).state e.dyn
     finals value =
         let notes = schedule set.one told in
         let q = value_law set.limit (cuts_of set.plan) (plan_within set.plan) program c is.globals is.mains is.texts is.text is.frames slots frame is.depth is.lowered input before notes value in
-        subst (λ (d : Dyn). AreFinals (positions program is.globals is.mains is.texts is.text is.frames 0 program.body.decls) ((noted program set).does (noted_outset slots input before notes)).state d)
+        subst (λ (d : Dyn). AreFinals (main_variables program 0 program.body.decls) ((noted program set).does (noted_outset slots input before notes)).state d)
         (ap (λ (f : Final). f.dyn) (one_end set.limit c (first notes (cuts_of set.plan) frame input before) (record { how = Done None; dyn = q.0 }) e q.1 ((leads e).1 (0, refl)))) q.4

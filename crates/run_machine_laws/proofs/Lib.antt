@@ -1,6 +1,7 @@
 mod SameEnds
 mod ReadGet
 mod Growing
+mod Finals
 mod Fronts
 mod Ends
 mod Calm

@@ -2,7 +2,8 @@
 use Rattle.std.proofs.Common.{◌≡◌, ℕ, zero, suc, ◌+◌, ◌-◌, ℤ, List, [], ◌∷◌, ◌++◌, length, drop, Option, Some, None, Result, Ok, Err, Bool, true, false, refl, sym, ◌∙◌, ap, subst, arith, append_assoc, append-nil}
 use Rattle.std.specs.Prelude.{min}
 use Rattle.std.proofs.Math.Seq.{drop-append_seam, drop-append-add}
-use Rattle.std.proofs.lemmas.List.{length-append, length-drop}
+use Rattle.std.proofs.lemmas.List.{length-append, length-drop, take-append-drop}
+use Rattle.ada_base.specs.Cells.{Cell}
 use Rattle.ada_base.specs.Cuts.{cuts_of}
 use Rattle.ada_base.specs.Notes.{ConstructNote}
 use Rattle.ada_base.specs.declared.reason.Reason.{Reason}
@@ -24,7 +25,7 @@ use Rattle.stack_code.specs.declared.path.Io.TheVariants as io
 use Rattle.stack_code.specs.declared.path.Leave.TheVariants as leave
 use Rattle.stack_code.specs.Machine.{Frame, State, Stop, Done, Left, Spent, Cut, Asks, Constructs, Stuck, Astray, Comes_to, resumed}
 use Rattle.ada_lower.specs.Asking as asking
-use Rattle.ada_lower.specs.Driven.{World, Dyn, Path, Final, Step, On, Off, Forks, clip, dyn_of, fork_ended, given_got, after_got, answered}
+use Rattle.ada_lower.specs.Driven.{World, Dyn, Path, Final, Step, On, Off, Forks, clip, dyn_of, fork_ended, given_got, after_got, answered, cut_to}
 use Rattle.machine_paths.specs.Constructing.{with_schedule}
 use Rattle.run_machine_laws.specs.Standing.{SameEnds, first, schedule}
 use Rattle.run_machine_laws.specs.Reading.{IsRest, ReadsTo, askings, longer, Further}
@@ -99,6 +100,16 @@ module _ (set : Setting) (c : Code) (frame : ℕ) (input before : List ℕ) wher
   clip_world [] d = refl
   clip_world (f ∷ fs) d = clip_world fs _
 
+  -- the frames of calls stand behind the main frame
+  clip_cells : (fs : List Frame) (d : Dyn) → (rest : List Cell) × (d.cells ≡ (clip fs d).cells ++ rest)
+  clip_cells [] d = ([], sym (append-nil d.cells))
+  clip_cells (f ∷ fs) d =
+      let (rest, e) = clip_cells fs (cut_to f.top d) in
+      (rest ++ drop f.top d.cells, sym (take-append-drop f.top d.cells) ∙ ap (λ z. z ++ drop f.top d.cells) e ∙ append_assoc (clip fs (cut_to f.top d)).cells rest (drop f.top d.cells))
+
+  not_ended : law.TurnsSpent ≡ law.Ended → ⊥
+  not_ended e = cc
+
   -- it stopped by itself
   module _ (told : List ConstructNote) (front : List Deed) (q : State) (w : World) (out : w.output ≡ before ++ output_in front) where
     abbrev last : Stop → Final
@@ -110,14 +121,17 @@ module _ (set : Setting) (c : Code) (frame : ℕ) (input before : List ℕ) wher
     last_taken : (x : Stop) → w.taken ≡ (last x).dyn.world.taken
     last_taken x = sym (ap (λ (w : World). w.taken) (clip_world q.waiting _))
 
-    ended : Leads set c frame input before told (Off (last (Done None))) → Over set c frame input before told law.Ended (output_in front) w.taken
-    ended leads = (last (Done None), leads, refl, last_output (Done None), last_taken (Done None))
+    last_cells : (rest : List Cell) × (q.cells ≡ (last Spent).dyn.cells ++ rest)
+    last_cells = clip_cells q.waiting _
 
-    raised : (r : Reason) → Leads set c frame input before told (Off (last (Left (leave.Raise r)))) → Over set c frame input before told (law.Raised r) (output_in front) w.taken
-    raised r leads = (last (Left (leave.Raise r)), leads, refl, last_output (Left (leave.Raise r)), last_taken (Left (leave.Raise r)))
+    ended : Leads set c frame input before told (Off (last (Done None))) → Over set c frame input before told law.Ended (output_in front) w.taken q.cells
+    ended leads = (last (Done None), leads, refl, last_output (Done None), last_taken (Done None), λ is. last_cells)
 
-    spent : Leads set c frame input before told (Off (last Spent)) → Over set c frame input before told law.TurnsSpent (output_in front) w.taken
-    spent leads = (last Spent, leads, refl, last_output Spent, last_taken Spent)
+    raised : (r : Reason) → Leads set c frame input before told (Off (last (Left (leave.Raise r)))) → Over set c frame input before told (law.Raised r) (output_in front) w.taken q.cells
+    raised r leads = (last (Left (leave.Raise r)), leads, refl, last_output (Left (leave.Raise r)), last_taken (Left (leave.Raise r)), λ is. last_cells)
+
+    spent : Leads set c frame input before told (Off (last Spent)) → Over set c frame input before told law.TurnsSpent (output_in front) w.taken q.cells
+    spent leads = (last Spent, leads, refl, last_output Spent, last_taken Spent, λ is. last_cells)
 
   none_some : (a : Ending) → ◌≡◌ {A = Option Ending} None (Some a) → ⊥
   none_some a e = cc
@@ -131,14 +145,14 @@ module _ (set : Setting) (c : Code) (frame : ℕ) (input before : List ℕ) wher
 
   ends : Ends set c frame input before
   ends told front s q w (Done None) ending at h so =
-      subst (λ z. Over set c frame input before told z (output_in front) w.taken) (some_is _ _ so) (ended told front q (record w { notes = schedule set.one [] }) at.output (stopped_at told front s q w (Done None) at h))
+      subst (λ z. Over set c frame input before told z (output_in front) w.taken q.cells) (some_is _ _ so) (ended told front q (record w { notes = schedule set.one [] }) at.output (stopped_at told front s q w (Done None) at h))
   ends told front s q w (Done (Some v)) ending at h so = absurd (none_some ending so)
   ends told front s q w (Left (leave.Raise r)) ending at h so =
-      subst (λ z. Over set c frame input before told z (output_in front) w.taken) (some_is _ _ so) (raised told front q (record w { notes = schedule set.one [] }) at.output r (stopped_at told front s q w (Left (leave.Raise r)) at h))
+      subst (λ z. Over set c frame input before told z (output_in front) w.taken q.cells) (some_is _ _ so) (raised told front q (record w { notes = schedule set.one [] }) at.output r (stopped_at told front s q w (Left (leave.Raise r)) at h))
   ends told front s q w (Left (leave.Exit n)) ending at h so = absurd (none_some ending so)
   ends told front s q w (Left (leave.Return v)) ending at h so = absurd (none_some ending so)
   ends told front s q w Spent ending at h so =
-      subst (λ z. Over set c frame input before told z (output_in front) w.taken) (some_is _ _ so) (spent told front q (record w { notes = schedule set.one [] }) at.output (stopped_at told front s q w Spent at h))
+      subst (λ z. Over set c frame input before told z (output_in front) w.taken q.cells) (some_is _ _ so) (spent told front q (record w { notes = schedule set.one [] }) at.output (stopped_at told front s q w Spent at h))
   ends told front s q w Cut ending at h so = absurd (none_some ending so)
   ends told front s q w (Asks i) ending at h so = absurd (none_some ending so)
   ends told front s q w (Constructs a) ending at h so = absurd (none_some ending so)
@@ -146,7 +160,7 @@ module _ (set : Setting) (c : Code) (frame : ℕ) (input before : List ℕ) wher
   ends told front s q w Astray ending at h so = absurd (none_some ending so)
 
   wants : Wants set c frame input before
-  wants told front s w at = (front, record { step = noted [] s w; leads = leads_on told (noted [] s w) (at.ends []); done = at.done ∙ ap Some (sym (append-nil front)); took = at.taken }, refl)
+  wants told front s w cells at = (front, record { step = noted [] s w; leads = leads_on told (noted [] s w) (at.ends []); done = at.done ∙ ap Some (sym (append-nil front)); took = at.taken }, refl)
 
   -- ---- output
   puts_out : PutsOut set c frame input before
@@ -160,7 +174,7 @@ module _ (set : Setting) (c : Code) (frame : ℕ) (input before : List ℕ) wher
       taken = at.taken ∙ ap (λ n. min n (length input)) (sym fewer);
       rest = at.rest ∙ ap (λ n. drop n input) (sym fewer);
     },
-    λ passed rest split. (
+    λ passed rest cells split. (
       front,
       [],
       passed,
@@ -196,19 +210,20 @@ module _ (set : Setting) (c : Code) (frame : ℕ) (input before : List ℕ) wher
       taken = at.taken;
       rest = at.rest;
     }),
-    λ is. spent_there is,
+    λ is left. spent_there is left,
   )
     where
       on : (ns : List ConstructNote) → SameEnds set.limit c (first (schedule set.one (told ++ (note ∷ ns))) plan frame input before) (fork_ended c (came set c frame input before w cells turns how ns) (standing q w note ns))
       on ns = same_then set.limit c _ (Forks asked (standing q w note ns)) _ (stops told front s q w (Constructs asked) at h (note ∷ ns)) (same_fork set.limit c asked (standing q w note ns) (came set c frame input before w cells turns how ns) (forks ns))
 
-      spent_there : how ≡ Err Spent → Over set c frame input before (told ++ (note ∷ [])) law.TurnsSpent (output_in front) w.taken
-      spent_there is = (
+      spent_there : how ≡ Err Spent → (left : List Cell) → Over set c frame input before (told ++ (note ∷ [])) law.TurnsSpent (output_in front) w.taken left
+      spent_there is left = (
         record { how = Spent; dyn = clip q.waiting (record { cells = cells; turns = turns; left = None; world = record w { notes = schedule set.one [] } }) },
         subst (λ (z : Result Gave Stop). Leads set c frame input before (told ++ (note ∷ [])) (fork_ended c (came set c frame input before w cells turns z []) (standing q w note []))) is (on []),
         refl,
         ap (λ (w : World). w.output) (clip_world q.waiting _) ∙ at.output,
         sym (ap (λ (w : World). w.taken) (clip_world q.waiting _)),
+        λ ended. absurd (not_ended ended),
       )
 
   -- ---- input
@@ -291,18 +306,19 @@ module _ (set : Setting) (c : Code) (frame : ℕ) (input before : List ℕ) wher
     }
 
     -- the turns are over
-    runs_out : asking.got set.limit from ≡ asking.at to (Err None) → Over set c frame input before told law.TurnsSpent (output_in front) (w.taken + got.came)
-    runs_out e = (
+    runs_out : asking.got set.limit from ≡ asking.at to (Err None) → (cells : List Cell) → Over set c frame input before told law.TurnsSpent (output_in front) (w.taken + got.came) cells
+    runs_out e cells = (
       record { how = Spent; dyn = clip q.waiting (record { cells = q.cells; turns = q.turns + got.took; left = q.left; world = record w { taken = w.taken + got.came; held = after.held; input = later; done = longer w.done (askings got.took); notes = schedule set.one [] } }) },
       leads_on told _ (subst (λ z. SameEnds set.limit c (first (schedule set.one (told ++ [])) plan frame input before) (after_got set.limit c z q (record w { notes = schedule set.one [] }))) e (there [])),
       refl,
       ap (λ (w : World). w.output) (clip_world q.waiting _) ∙ at.output,
       sym (ap (λ (w : World). w.taken) (clip_world q.waiting _)),
+      λ ended. absurd (not_ended ended),
     )
 
     -- the source failed at the last asking
-    fails : got.took ≡ suc got.came → Further (longer w.done (askings got.took)) (asking.got set.limit from).state.done → Over set c frame input before told law.ReadFault (output_in front) (w.taken + got.came)
-    fails one more =
+    fails : got.took ≡ suc got.came → Further (longer w.done (askings got.took)) (asking.got set.limit from).state.done → (cells : List Cell) → Over set c frame input before told law.ReadFault (output_in front) (w.taken + got.came) cells
+    fails one more cells =
         let r = asking.got set.limit from in (
           front ++ askings got.came,
           more.0,

@@ -18,7 +18,7 @@ use Rattle.ada_io.specs.declared.input.Got.{Got}
 use Rattle.ada_io.specs.Gets.{Gets, ReaderState, last_of}
 use Rattle.ada_port.specs.Ports.{Stream}
 use Rattle.ada_lower.specs.Asking.{Reads, got}
-use Rattle.ada_lower.specs.Bodies.{positions}
+use Rattle.lower_leased.specs.Homes.{main_variables}
 use Rattle.ada_lower.specs.Driven.{World, Path, Final, Step, On, Off, Forks, Forked, answered, fork_ended}
 use Rattle.ada_lower.specs.Law.{AreFinals}
 use Rattle.machine_paths.specs.Constructing.{ForksTo}
@@ -75,7 +75,7 @@ EndLaw = (program : Program) (set : Setting) (c : Code) (frame slots : ℕ) (is 
     → (t : stored.State) × (early : Bool)
     × IsPermitted program set input early (record { output = drop (length before) e.dyn.world.output; taken = e.dyn.world.taken; finals = stored.finals_of program t.kept t.declared; ending = ending })
     × (e.dyn.world.output ≡ before ++ drop (length before) e.dyn.world.output)
-    × (ending ≡ Ended → AreFinals (positions program is.globals is.mains is.texts is.text is.frames 0 program.body.decls) t e.dyn)
+    × (ending ≡ Ended → AreFinals (main_variables program 0 program.body.decls) t e.dyn)
 
 -- What is permitted of an accepted program whose sequential run is calm: with any number of workers, a run that ended by
 -- itself is that one, and the output of each is a prefix of its output.

@@ -31,8 +31,8 @@ module _ (set : Setting) (c : Code) (frame : ℕ) (input before : List ℕ) wher
   abbrev pub At : List ConstructNote → List Deed → State → World → Type 0
   At told front s w = Stands set.limit c (cuts_of set.plan) frame input before set.one told front (record { state = s; world = w })
 
-  abbrev pub Over : List ConstructNote → Ending → List ℕ → ℕ → Type 0
-  Over told ending output taken = EndsBy set c frame input before told ending output taken
+  abbrev pub Over : List ConstructNote → Ending → List ℕ → ℕ → List Cell → Type 0
+  Over told ending output taken cells = EndsBy set c frame input before told ending output taken cells
 
   -- from zeroed memory
   abbrev pub Begins : Type 0
@@ -43,16 +43,16 @@ module _ (set : Setting) (c : Code) (frame : ℕ) (input before : List ℕ) wher
   Moves = (told : List ConstructNote) (front : List Deed) (s q : State) (w : World) → At told front s w → Comes set.limit c s q → At told front q w
 
   abbrev pub Ends : Type 0
-  Ends = (told : List ConstructNote) (front : List Deed) (s q : State) (w : World) (x : Stop) (ending : Ending) → At told front s w → Comes_to set.limit c s x q → ending_by x ≡ Some ending → Over told ending (output_in front) w.taken
+  Ends = (told : List ConstructNote) (front : List Deed) (s q : State) (w : World) (x : Stop) (ending : Ending) → At told front s w → Comes_to set.limit c s x q → ending_by x ≡ Some ending → Over told ending (output_in front) w.taken q.cells
 
   abbrev pub Wants : Type 0
-  Wants = (told : List ConstructNote) (front : List Deed) (s : State) (w : World) → At told front s w → Over told law.NoMemory (output_in front) w.taken
+  Wants = (told : List ConstructNote) (front : List Deed) (s : State) (w : World) (cells : List Cell) → At told front s w → Over told law.NoMemory (output_in front) w.taken cells
 
   -- a piece is put out, or a part of it
   abbrev pub PutsOut : Type 0
   PutsOut = (told : List ConstructNote) (front : List Deed) (s q : State) (w : World) (piece : List ℕ) → At told front s w → Comes_to set.limit c s (Asks (io.Write piece)) q
       → At told (front ++ (PutOut piece ∷ [])) (resumed c gave.Nothing q) (record w { output = w.output ++ piece; done = Some (front ++ (PutOut piece ∷ [])) })
-      × ((passed rest : List ℕ) → piece ≡ passed ++ rest → Over told law.WriteFault (output_in front ++ passed) w.taken)
+      × ((passed rest : List ℕ) (cells : List Cell) → piece ≡ passed ++ rest → Over told law.WriteFault (output_in front ++ passed) w.taken cells)
 
   -- a number is read, or an exception raised, or turns are over, or the source failed
   abbrev pub ReadsSo : List ConstructNote → List Deed → State → World → Got → ReaderState → List ℕ → GetEnd → Type 0
@@ -60,8 +60,8 @@ module _ (set : Setting) (c : Code) (frame : ℕ) (input before : List ℕ) wher
       At told (front ++ askings got.took) (resumed c (gave.Numbers (v ∷ [])) (record q { turns = q.turns + got.took })) (record w { taken = w.taken + got.came; held = after.held; input = later; done = Some (front ++ askings got.took) })
   ReadsSo told front q w got after later (Raise r) =
       At told (front ++ askings got.took) (resumed c (gave.Left (leave.Raise r)) (record q { turns = q.turns + got.took })) (record w { taken = w.taken + got.came; held = after.held; input = later; done = Some (front ++ askings got.took) })
-  ReadsSo told front q w got after later TurnsOver = Over told law.TurnsSpent (output_in front) (w.taken + got.came)
-  ReadsSo told front q w got after later ReadFault = Over told law.ReadFault (output_in front) (w.taken + got.came)
+  ReadsSo told front q w got after later TurnsOver = (cells : List Cell) → Over told law.TurnsSpent (output_in front) (w.taken + got.came) cells
+  ReadsSo told front q w got after later ReadFault = (cells : List Cell) → Over told law.ReadFault (output_in front) (w.taken + got.came) cells
 
   abbrev pub Reads : Type 0
   Reads = (told : List ConstructNote) (front : List Deed) (s q : State) (w : World) → At told front s w → Comes_to set.limit c s (Asks io.Take) q
@@ -77,7 +77,7 @@ module _ (set : Setting) (c : Code) (frame : ℕ) (input before : List ℕ) wher
       → (note : ConstructNote) (cells : List Cell) (turns : ℕ) (how : Result Gave Stop)
       → ((ns : List ConstructNote) → ForksTo set.limit c asked (with_schedule (schedule set.one (note ∷ ns)) (record { state = q; world = w })) (came w cells turns how ns))
       → ((g : Gave) → how ≡ Ok g → At (told ++ (note ∷ [])) front (resumed c g (record q { turns = turns; left = None; cells = cells })) w)
-      × (how ≡ Err Spent → Over (told ++ (note ∷ [])) law.TurnsSpent (output_in front) w.taken)
+      × (how ≡ Err Spent → (left : List Cell) → Over (told ++ (note ∷ [])) law.TurnsSpent (output_in front) w.taken left)
 
 -- the steps of the loop lead on so
 abbrev pub LoopLaw : Type 0

@@ -4,7 +4,7 @@
 
 ghost use Rattle.run_machine_laws.specs.Law.{CalmLaw, EndLaw, ForkLaw, FrontLaw, GetLaw, MoveLaw, OneEndLaw, OnlyLaw, StopLaw};
 ghost use Rattle.run_machine_laws.specs.Looping.{LoopLaw};
-ghost use Rattle.run_machine_laws.specs.Telling.{FinalsLaw, TellLaw};
+ghost use Rattle.run_machine_laws.specs.Telling.{TellLaw};
 
 /// Laws of the loop that runs the machine on a program's code: it goes, its path is answered where it asks, and workers do the
 /// threads of its constructs, which tell notes (5.5, 5.6.1, A.10).
@@ -18,8 +18,8 @@ ghost use Rattle.run_machine_laws.specs.Telling.{FinalsLaw, TellLaw};
 /// - calm: where the sequential run is calm a permitted run that ended by itself is that one, and the output of each is a
 ///   prefix of its output.
 /// - tells: so an end of the machine's run, by itself, for want of memory or by a fault of a device, tells of a permitted run under
-///   the setting, with any number of workers.
-/// - finals: behind a normal end its finals stand in the machine's cells, at the addresses of the variables.
+///   the setting, with any number of workers; behind a normal end its finals are what the main procedure's variables have in
+///   the machine's cells.
 /// - steps: from zeroed memory on, where the machine moves, puts a piece out, reads a number, or comes to a construct whose threads
 ///   a note tells of, the run stands where it did so; and where it stops, a device fails or memory is wanting, it ends so.
 /// - only: where one left no construct early, each other that ended by itself is the same.
@@ -33,7 +33,6 @@ pub fn laws()
     ensures ends { EndLaw }
     ensures calm { CalmLaw }
     ensures tells { TellLaw }
-    ensures finals { FinalsLaw }
     ensures steps { LoopLaw }
     ensures only { OnlyLaw }
 {}

@@ -4,7 +4,7 @@ use Rattle.run_machine_laws.proofs.ReadGet.{path_gets}
 use Rattle.run_machine_laws.proofs.Fronts.{front_law}
 use Rattle.run_machine_laws.proofs.Ends.{end_law}
 use Rattle.run_machine_laws.proofs.Calm.{calm_law, only_permitted}
-use Rattle.run_machine_laws.proofs.Telling.{tell_law, finals_law}
+use Rattle.run_machine_laws.proofs.Telling.{tell_law}
 use Rattle.run_machine_laws.proofs.Looping.{loop_law}
 
 pub returns-clause-moves : goal.returns-clause-moves
@@ -33,9 +33,6 @@ returns-clause-calm c = calm_law
 
 pub returns-clause-tells : goal.returns-clause-tells
 returns-clause-tells c = tell_law
-
-pub returns-clause-finals : goal.returns-clause-finals
-returns-clause-finals c = finals_law
 
 pub returns-clause-steps : goal.returns-clause-steps
 returns-clause-steps c = loop_law

@@ -1,0 +1,3 @@
+pub mod Running
+pub mod Asked
+pub mod Loops
