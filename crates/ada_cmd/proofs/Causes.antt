@@ -5,6 +5,7 @@ use Rattle.ada_meaning.specs.Law as law
 use Rattle.ada_meaning.specs.Law.{Ending}
 use Rattle.ada_port.specs.Ports.{Stream, Rose, fetched}
 use Rattle.ada_port.proofs.Faults.{Risen-after_same}
+use Rattle.driver.specs.Running.{by_workers}
 use Rattle.driver.specs.Compile.{IsAccepted, IsFaultOf}
 use Rattle.driver.specs.Compiled.{Compiled}
 use Rattle.driver.specs.Complaints.{Complaint}
@@ -15,8 +16,10 @@ use Rattle.run_reports.specs.declared.ends.RunEnd.TheVariants as run_end
 use Rattle.driver.proofs.Exact.{compiling_exact}
 use Rattle.command_words.specs.Words.{Asked, asked}
 use Rattle.command_words.specs.declared.request.Mode.TheVariants as mode
-use Rattle.ada_meaning.specs.Programs.{by_one_worker}
-use Rattle.ada_cmd.specs.Answer.{Answers, Wrong, Right, Unasked, AnswersFile, Unread, Read, Short, AnswersText, Refuses, Checks, Starts, Lacks, Closes, Whole, OutFailed, Lacked, EndsBy, IsFetched, Outside, RunsUnit, Untouched}
+use Rattle.driver.specs.Coded.{HasCode}
+use Rattle.stack_code.specs.Listing.{listing_of}
+use Rattle.stack_code.specs.declared.code.Code.{Code}
+use Rattle.ada_cmd.specs.Answer.{Answers, Wrong, Right, Unasked, AnswersFile, Unread, Read, Short, AnswersText, Refuses, Checks, Lists, Starts, Lacks, Closes, Whole, OutFailed, Lacked, EndsBy, IsFetched, Outside, RunsUnit, Untouched}
 use Rattle.run_reports.specs.Says.{Says, SaysNoMemory, SaysOrLacks, number_of}
 use Rattle.ada_cmd.specs.Causes.{Asks, Cause, ShelfFails, ErrFails, MemoryFails, MayEnd, Meets}
 use Rattle.run_reports.specs.Lines.{accepted_line, ended, usage_line}
@@ -55,12 +58,12 @@ module _ (InTells OutTells : Type 0) (words : List (List ℕ)) (before now : Out
     asks_for c accepted = record { asks = asks; text = text; has = has; accepted = accepted }
 
     -- the run's outcome has the ending that the answer tells
-    may_end : (c : Compiled) (end : RunEnd) (ending : Ending) (left : Stream) → running.Runs InTells OutTells c.program (by_one_worker q.settings.plan q.settings.turns) end before.devices.input now.devices.input before.devices.out left
+    may_end : (c : Compiled) (end : RunEnd) (ending : Ending) (left : Stream) → running.Runs InTells OutTells c.program (by_workers q.settings.plan q.settings.workers q.settings.turns) end before.devices.input now.devices.input before.devices.out left
         → ((o : law.Outcome) → running.EndsAs c.program q.settings.turns end o → o.ending ≡ ending) → MayEnd InTells q c before.devices ending
     may_end c end ending left runs gives = let r = runs.run in (runs.on, (runs.told, (r.outcome, (r.early, r.permitted, gives r.outcome r.ends))))
 
     run_cause : (given : Status) (c : Compiled) (vars : Bool) (end : RunEnd) (left : Stream) → IsAccepted text c → q.mode ≡ mode.Run → q.vars ≡ vars
-        → running.Runs InTells OutTells c.program (by_one_worker q.settings.plan q.settings.turns) end before.devices.input now.devices.input before.devices.out left
+        → running.Runs InTells OutTells c.program (by_workers q.settings.plan q.settings.workers q.settings.turns) end before.devices.input now.devices.input before.devices.out left
         → EndsBy c vars end given left now.devices.out before.devices.err now.devices.err → Cause InTells words before now given
     run_cause given c true (run_end.Ended finals) left accepted runs_it asks_vars runs ends =
         closes_cause (λ s. Cause InTells words before now s) _ given left now.devices.out before.devices.err now.devices.err err_fault
@@ -95,8 +98,11 @@ module _ (InTells OutTells : Type 0) (words : List (List ℕ)) (before now : Out
         never : (told : List ℕ) (c : Compiled) → before.shelf.told q.file ≡ Some told → IsAccepted (fetched told) c → ⊥
         never told c told_is accepted = compiling_exact.apart text c fault (subst (λ (t : List ℕ). IsAccepted t c) (sym (same_text (before.shelf.told q.file) told text told_is has)) accepted) is
     text_cause given (Checks c accepted checks same closes) =
-        closes_cause (λ s. Cause InTells words before now s) _ given before.devices.out now.devices.out before.devices.err now.devices.err err_fault (λ rose. inl (inr (inr (q, c, asks_for c accepted, checks)), rose)) tt
-        (inl (q, c, asks_for c accepted, checks)) closes
+        closes_cause (λ s. Cause InTells words before now s) _ given before.devices.out now.devices.out before.devices.err now.devices.err err_fault (λ rose. inl (inr (inr (q, c, asks_for c accepted, inl checks)), rose)) tt
+        (inl (q, c, asks_for c accepted, inl checks)) closes
+    text_cause given (Lists c accepted lists same code has closes) =
+        closes_cause (λ s. Cause InTells words before now s) _ given before.devices.out now.devices.out before.devices.err now.devices.err err_fault (λ rose. inl (inr (inr (q, c, asks_for c accepted, inr lists)), rose)) tt
+        (inl (q, c, asks_for c accepted, inr lists)) closes
     text_cause given (Starts c accepted runs_it run) = run_cause given c q.vars run.end run.left accepted runs_it refl run.runs run.ends
     text_cause given (Lacks same says) = says_cause (λ s. Cause InTells words before now s) status.OutOfMemory given _ before.devices.err now.devices.err err_fault tt says
 
@@ -141,9 +147,13 @@ runs {InTells} {OutTells} words given before now answers q told c asks runs_it h
   check_or_run : mode.Check ≡ mode.Run → ⊥
   check_or_run e = absurd cc
 
+  list_or_run : mode.List ≡ mode.Run → ⊥
+  list_or_run e = absurd cc
+
   go : AnswersText InTells OutTells q (fetched told) given before.devices now.devices → Meets (λ s. RunsUnit InTells OutTells c q.settings q.vars s before.devices now.devices) (number_of given) before now
   go (Refuses fault is same says) = absurd (compiling_exact.apart (fetched told) c fault accepted is)
   go (Checks d is checks same closes) = absurd (check_or_run (sym checks ∙ runs_it))
+  go (Lists d is lists same code coded closes) = absurd (list_or_run (sym lists ∙ runs_it))
   go (Starts d is runs' run) = inl (given, refl, subst (λ (x : Compiled). RunsUnit InTells OutTells x q.settings q.vars given before.devices now.devices) (compiling_exact.one_result (fetched told) d c is accepted) run)
   go (Lacks same says) = fails_says (λ s. RunsUnit InTells OutTells c q.settings q.vars s before.devices now.devices) given before now same says
 
@@ -156,11 +166,34 @@ checks {InTells} {OutTells} words given before now answers q told c asks checks_
   run_or_check : mode.Run ≡ mode.Check → ⊥
   run_or_check e = absurd cc
 
+  list_or_check : mode.List ≡ mode.Check → ⊥
+  list_or_check e = absurd cc
+
   go : AnswersText InTells OutTells q (fetched told) given before.devices now.devices → Meets (ChecksSo before now) (number_of given) before now
   go (Refuses fault is same says) = absurd (compiling_exact.apart (fetched told) c fault accepted is)
   go (Checks d is checks' same closes) = inl (given, refl, (same, closes))
+  go (Lists d is lists same code coded closes) = absurd (list_or_check (sym lists ∙ checks_it))
   go (Starts d is runs' run) = absurd (run_or_check (sym runs' ∙ checks_it))
   go (Lacks same says) = fails_says (ChecksSo before now) given before now same says
+
+abbrev ListsSo : Compiled → Outside → Outside → Status → Type 0
+ListsSo c before now s = (now.devices.input ≡ before.devices.input) × ((code : Code) × HasCode c.program code × Closes (listing_of code) s before.devices.out now.devices.out before.devices.err now.devices.err)
+
+pub lists : {InTells OutTells : Type 0} (words : List (List ℕ)) (given : Status) (before now : Outside) → Answers InTells OutTells words given before now → (q : Asked) (told : List ℕ) (c : Compiled) → asked words ≡ Some q → q.mode ≡ mode.List → before.shelf.told q.file ≡ Some told → IsAccepted (fetched told) c
+    → Meets (λ s. (now.devices.input ≡ before.devices.input) × ((code : Code) × HasCode c.program code × Closes (listing_of code) s before.devices.out now.devices.out before.devices.err now.devices.err)) (number_of given) before now
+lists {InTells} {OutTells} words given before now answers q told c asks lists_it has accepted = told_meets (ListsSo c before now) words given before now q told asks has go answers where
+  run_or_list : mode.Run ≡ mode.List → ⊥
+  run_or_list e = absurd cc
+
+  check_or_list : mode.Check ≡ mode.List → ⊥
+  check_or_list e = absurd cc
+
+  go : AnswersText InTells OutTells q (fetched told) given before.devices now.devices → Meets (ListsSo c before now) (number_of given) before now
+  go (Refuses fault is same says) = absurd (compiling_exact.apart (fetched told) c fault accepted is)
+  go (Checks d is checks same closes) = absurd (check_or_list (sym checks ∙ lists_it))
+  go (Lists d is lists' same code coded closes) = inl (given, refl, (same, (code, subst (λ (x : Compiled). HasCode x.program code) (compiling_exact.one_result (fetched told) d c is accepted) coded, closes)))
+  go (Starts d is runs' run) = absurd (run_or_list (sym runs' ∙ lists_it))
+  go (Lacks same says) = fails_says (ListsSo c before now) given before now same says
 
 abbrev RefusesSo : List ℕ → Complaint → Outside → Outside → Status → Type 0
 RefusesSo file fault before now s = Untouched before.devices now.devices × SaysOrLacks status.Refused (ended (line_of file fault)) s before.devices.err now.devices.err
@@ -171,6 +204,7 @@ refuses {InTells} {OutTells} words given before now answers q told fault asks ha
   go : AnswersText InTells OutTells q (fetched told) given before.devices now.devices → Meets (RefusesSo q.file fault before now) (number_of given) before now
   go (Refuses own is same says) = inl (given, refl, (same, subst (λ (f : Complaint). SaysOrLacks status.Refused (ended (line_of q.file f)) given before.devices.err now.devices.err) (compiling_exact.one_fault (fetched told) own fault is is_fault) says))
   go (Checks d is checks' same closes) = absurd (compiling_exact.apart (fetched told) d fault is is_fault)
+  go (Lists d is lists same code coded closes) = absurd (compiling_exact.apart (fetched told) d fault is is_fault)
   go (Starts d is runs' run) = absurd (compiling_exact.apart (fetched told) d fault is is_fault)
   go (Lacks same says) = fails_says (RefusesSo q.file fault before now) given before now same says
 

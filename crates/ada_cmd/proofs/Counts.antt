@@ -6,7 +6,7 @@ use Rattle.driver.specs.Running as running
 use Rattle.run_reports.specs.declared.ends.RunEnd.{RunEnd}
 use Rattle.run_reports.specs.declared.ends.RunEnd.TheVariants as run_end
 use Rattle.command_words.specs.Words.{Asked}
-use Rattle.ada_cmd.specs.Answer.{Answers, Wrong, Right, Unasked, AnswersFile, Unread, Read, Short, AnswersText, Refuses, Checks, Starts, Lacks, Closes, Whole, OutFailed, Lacked, Devices, EndsBy, Outside, Untouched}
+use Rattle.ada_cmd.specs.Answer.{Answers, Wrong, Right, Unasked, AnswersFile, Unread, Read, Short, AnswersText, Refuses, Checks, Lists, Starts, Lacks, Closes, Whole, OutFailed, Lacked, Devices, EndsBy, Outside, Untouched}
 use Rattle.run_reports.specs.Says.{Says, SaysOrLacks, number_of}
 use Rattle.run_reports.specs.declared.status.Status.{Status}
 use Rattle.run_reports.specs.declared.status.Status.TheVariants as status
@@ -91,18 +91,21 @@ module _ (q : Asked) (text : List ℕ) (given : Status) (before now : Devices) w
   pub err_text : {InTells OutTells : Type 0} → AnswersText InTells OutTells q text given before now → before.err.faults < now.err.faults → given ≡ status.WriteFault
   err_text (Refuses fault is same says) h = err_lacks status.Refused given _ before.err now.err says h
   err_text (Checks c is checks same closes) h = err_closes _ given before.out now.out before.err now.err closes h
+  err_text (Lists c is lists same code coded closes) h = err_closes _ given before.out now.out before.err now.err closes h
   err_text (Starts c is runs run) h = err_run c given before now q.vars run.end run.left run.ends h
   err_text (Lacks same says) h = err_says status.OutOfMemory given _ before.err now.err says h
 
   pub out_text : {InTells OutTells : Type 0} → AnswersText InTells OutTells q text given before now → before.out.faults < now.out.faults → given ≡ status.WriteFault
   out_text (Refuses fault is same says) h = no_rise before.out.faults now.out.faults (given ≡ status.WriteFault) (faults_of same.out) h
   out_text (Checks c is checks same closes) h = out_closes _ given before.out now.out before.err now.err closes h
+  out_text (Lists c is lists same code coded closes) h = out_closes _ given before.out now.out before.err now.err closes h
   out_text (Starts c is runs run) h = out_run c given before now q.vars run.end run.left run.runs.causes run.ends h
   out_text (Lacks same says) h = no_rise before.out.faults now.out.faults (given ≡ status.WriteFault) (faults_of same.out) h
 
   pub input_text : {InTells OutTells : Type 0} → AnswersText InTells OutTells q text given before now → before.input.faults < now.input.faults → (given ≡ status.ReadFault) ⊎ (given ≡ status.WriteFault)
   input_text (Refuses fault is same says) h = no_rise before.input.faults now.input.faults ((given ≡ status.ReadFault) ⊎ (given ≡ status.WriteFault)) (faults_of same.input) h
   input_text (Checks c is checks same closes) h = no_rise before.input.faults now.input.faults ((given ≡ status.ReadFault) ⊎ (given ≡ status.WriteFault)) (faults_of same) h
+  input_text (Lists c is lists same code coded closes) h = no_rise before.input.faults now.input.faults ((given ≡ status.ReadFault) ⊎ (given ≡ status.WriteFault)) (faults_of same) h
   input_text (Starts c is runs run) h = input_run c given before now q.vars run.end run.left run.runs.causes run.ends h
   input_text (Lacks same says) h = no_rise before.input.faults now.input.faults ((given ≡ status.ReadFault) ⊎ (given ≡ status.WriteFault)) (faults_of same.input) h
 

@@ -4,9 +4,10 @@ use Rattle.std.proofs.lemmas.List.{append-nil}
 use Rattle.std.specs.Io.KnownBytes.{Appends}
 use Rattle.std.specs.Prelude.{IsSome}
 use Rattle.ada_meaning.specs.Law.{EndsItself, IsPrefix, Outcome}
-use Rattle.ada_meaning.specs.Programs.{by_one_worker, input_of, sequential}
+use Rattle.ada_meaning.specs.Programs.{input_of, sequential}
 use Rattle.ada_meaning.specs.Sequential.{IsCalm}
 use Rattle.ada_port.specs.Ports.{AppendsPrefix, IsTold, Stream, bytes_of, bytes_told}
+use Rattle.driver.specs.Running.{by_workers}
 use Rattle.driver.specs.Compiled.{Compiled}
 use Rattle.driver.specs.Running as running
 use Rattle.run_reports.specs.Ends.{values_of}
@@ -56,7 +57,7 @@ never_either due given line old new other done (inr lacks) = lacks_done given ol
 
 module _ (InTells OutTells : Type 0) (q : Asked) (c : Compiled) (given : Status) (before now : Devices) (left : Stream) (tells : OutTells → IsTold left) where
   abbrev Ran : RunEnd → Type 0
-  Ran end = running.Runs InTells OutTells c.program (by_one_worker q.settings.plan q.settings.turns) end before.input now.input before.out left
+  Ran end = running.Runs InTells OutTells c.program (by_workers q.settings.plan q.settings.workers q.settings.turns) end before.input now.input before.out left
 
   abbrev Ends : RunEnd → Type 0
   Ends end = EndsBy c true end given left now.out before.err now.err
@@ -97,10 +98,10 @@ module _ (InTells OutTells : Type 0) (q : Asked) (c : Compiled) (given : Status)
     Put = (part : List ℕ) × (bytes_of now.out ≡ bytes_of before.out ++ part) × IsPrefix part (with_vars c due)
 
     abbrev Told : RunEnd → Type 0
-    Told end = running.TellsOf InTells OutTells c.program (by_one_worker q.settings.plan q.settings.turns) end (bytes_of before.input) (bytes_of now.input) (bytes_of before.out) (bytes_of left)
+    Told end = running.TellsOf InTells OutTells c.program (by_workers q.settings.plan q.settings.workers q.settings.turns) end (bytes_of before.input) (bytes_of now.input) (bytes_of before.out) (bytes_of left)
 
     told_of : (end : RunEnd) → Ran end → Told end
-    told_of end runs = subst (λ z. running.TellsOf InTells OutTells c.program (by_one_worker q.settings.plan q.settings.turns) end z (bytes_of now.input) (bytes_of before.out) (bytes_of left)) (runs.told input) runs.run
+    told_of end runs = subst (λ z. running.TellsOf InTells OutTells c.program (by_workers q.settings.plan q.settings.workers q.settings.turns) end z (bytes_of now.input) (bytes_of before.out) (bytes_of left)) (runs.told input) runs.run
 
     -- nothing behind the run
     short : (end : RunEnd) → now.out ≡ left → Told end → Put

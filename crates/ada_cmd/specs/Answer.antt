@@ -1,14 +1,14 @@
 -- The answers of the top call: what is put to out and to err, which devices failed, and the status.
 use Rattle.std.specs.Prelude.{◌≡◌, ◌⊎◌, ℕ, List, Bool, true, false, Option, Some, None, IfSome}
-use Rattle.ada_meaning.specs.Programs.{by_one_worker}
 use Rattle.ada_port.specs.Ports.{Texts, Stream, Grows, GrowsByPrefix, Breaks, IsTold, Rose, fetched}
+use Rattle.driver.specs.Coded.{HasCode}
 use Rattle.driver.specs.Compile.{IsAccepted, IsFaultOf}
 use Rattle.driver.specs.Compiled.{Compiled}
 use Rattle.driver.specs.Complaints.{Complaint}
 use Rattle.driver.specs.Lines.{line_of, IsLineOf}
 use Rattle.driver.specs.declared.refusal.Refusal.{Refusal}
 use Rattle.driver.specs.declared.refusal.Refusal.TheVariants as refusal
-use Rattle.driver.specs.Running.{Runs}
+use Rattle.driver.specs.Running.{Runs, by_workers}
 use Rattle.run_reports.specs.Ends.{values_of}
 use Rattle.run_reports.specs.declared.ends.RunEnd.{RunEnd}
 use Rattle.run_reports.specs.declared.ends.RunEnd.TheVariants as run_end
@@ -17,6 +17,8 @@ use Rattle.command_words.specs.declared.request.Mode.TheVariants as mode
 use Rattle.run_reports.specs.Lines.{ended, usage_line, unreadable_line, accepted_line, read_fault_line, write_fault_line, spent_line, unhandled_line}
 use Rattle.run_reports.specs.Says.{Says, SaysNoMemory, SaysOrLacks}
 use Rattle.run_reports.specs.Vars.{vars_lines}
+use Rattle.stack_code.specs.Listing.{listing_of}
+use Rattle.stack_code.specs.declared.code.Code.{Code}
 use Rattle.run_reports.specs.declared.status.Status.{Status}
 use Rattle.run_reports.specs.declared.status.Status.TheVariants as status
 
@@ -42,6 +44,10 @@ pub data Closes (bytes : List ℕ) (given : Status) (out out' err err' : Stream)
   OutFailed : Breaks out out' bytes → Says status.WriteFault write_fault_line given err err' → Closes bytes given out out' err err'
   Lacked : GrowsByPrefix out out' bytes → SaysNoMemory given err err' → Closes bytes given out out' err err'
 
+-- The listing of code is put out, or memory ran out before that.
+abbrev pub ListsCode : Code → Status → Stream → Stream → Stream → Stream → Type 0
+ListsCode code given out out' err err' = Closes (listing_of code) given out out' err err' ⊎ ((out' ≡ out) × SaysNoMemory given err err')
+
 -- how a run ended, where out is as the run left it; its variables are written where they are asked for
 abbrev pub EndsBy : Compiled → Bool → RunEnd → Status → Stream → Stream → Stream → Stream → Type 0
 EndsBy c true (run_end.Ended finals) given out out' err err' = Closes (vars_lines c.finals (values_of c.program finals)) given out out' err err'
@@ -58,7 +64,7 @@ pub record RunsUnit (InTells OutTells : Type 0) (c : Compiled) (settings : Setti
   pub end : RunEnd
   pub left : Stream
   pub tells : OutTells → IsTold left
-  pub runs : Runs InTells OutTells c.program (by_one_worker settings.plan settings.turns) end before.input now.input before.out left
+  pub runs : Runs InTells OutTells c.program (by_workers settings.plan settings.workers settings.turns) end before.input now.input before.out left
   pub ends : EndsBy c vars end given left now.out before.err now.err
 
 -- the text that was fetched, of what is told
@@ -76,6 +82,8 @@ pub data AnswersText (InTells OutTells : Type 0) (q : Asked) (text : List ℕ) (
       → SaysOrLacks status.Refused (ended (line_of q.file fault)) given before.err now.err → AnswersText InTells OutTells q text given before now
   Checks : (c : Compiled) → IsAccepted text c → q.mode ≡ mode.Check → now.input ≡ before.input
       → Closes accepted_line given before.out now.out before.err now.err → AnswersText InTells OutTells q text given before now
+  Lists : (c : Compiled) → IsAccepted text c → q.mode ≡ mode.List → now.input ≡ before.input
+      → (code : Code) → HasCode c.program code → Closes (listing_of code) given before.out now.out before.err now.err → AnswersText InTells OutTells q text given before now
   Starts : (c : Compiled) → IsAccepted text c → q.mode ≡ mode.Run → RunsUnit InTells OutTells c q.settings q.vars given before now → AnswersText InTells OutTells q text given before now
   Lacks : Untouched before now → SaysNoMemory given before.err now.err → AnswersText InTells OutTells q text given before now
 

@@ -2,9 +2,10 @@
 use Rattle.std.specs.Prelude.{◌≡◌, ◌⊎◌, ◌++◌, ⊤, ℕ, List, Some, None, Bool, true}
 use Rattle.ada_base.specs.declared.reason.Reason.{Reason}
 use Rattle.ada_meaning.specs.Law.{Ending, Ended, Raised, TurnsSpent, ReadFault, WriteFault, IsPermitted, IsPrefix, Outcome, outcome_of}
-use Rattle.ada_meaning.specs.Programs.{by_one_worker, input_of, sequential}
+use Rattle.ada_meaning.specs.Programs.{input_of, sequential}
 use Rattle.ada_meaning.specs.Sequential.{IsCalm}
 use Rattle.ada_port.specs.Ports.{Texts, Rose, bytes_of, fetched}
+use Rattle.driver.specs.Running.{by_workers}
 use Rattle.driver.specs.Compile.{IsAccepted}
 use Rattle.driver.specs.Compiled.{Compiled}
 use Rattle.command_words.specs.Words.{Asked, asked}
@@ -29,7 +30,7 @@ pub record Asks (words : List (List ℕ)) (shelf : Texts) (q : Asked) (c : Compi
 -- On some input a run that is permitted under what is asked for ends so; where the input tells, that is what it tells.
 abbrev pub MayEnd : Type 0 → Asked → Compiled → Devices → Ending → Type 0
 MayEnd InTells q c before ending =
-    (on : List ℕ) × ((InTells → on ≡ bytes_of before.input) × ((o : Outcome) × ((early : Bool) × IsPermitted c.program (by_one_worker q.settings.plan q.settings.turns) on early o × (o.ending ≡ ending))))
+    (on : List ℕ) × ((InTells → on ≡ bytes_of before.input) × ((o : Outcome) × ((early : Bool) × IsPermitted c.program (by_workers q.settings.plan q.settings.workers q.settings.turns) on early o × (o.ending ≡ ending))))
 
 -- the words ask for a run of an accepted text, and on some input a permitted run of it ends so
 abbrev pub HasEnding : Type 0 → List (List ℕ) → Outside → Ending → Type 0
@@ -39,9 +40,9 @@ HasEnding InTells words before ending = (q : Asked) × (c : Compiled) × Asks wo
 abbrev pub HasVars : Type 0 → List (List ℕ) → Outside → Type 0
 HasVars InTells words before = (q : Asked) × (c : Compiled) × Asks words before.shelf q c × (q.mode ≡ mode.Run) × (q.vars ≡ true) × MayEnd InTells q c before.devices Ended
 
--- the words ask whether an accepted text is accepted
+-- the words ask whether an accepted text is accepted, or for its code
 abbrev pub HasCheck : List (List ℕ) → Outside → Type 0
-HasCheck words before = (q : Asked) × (c : Compiled) × Asks words before.shelf q c × (q.mode ≡ mode.Check)
+HasCheck words before = (q : Asked) × (c : Compiled) × Asks words before.shelf q c × ((q.mode ≡ mode.Check) ⊎ (q.mode ≡ mode.List))
 
 -- the words ask for a file, and no text that is told of it is accepted
 abbrev pub IsNotAccepted : List (List ℕ) → Outside → Type 0
@@ -86,7 +87,7 @@ pub record PutsVars (InTells OutTells : Type 0) (q : Asked) (c : Compiled) (befo
   pub told : InTells → on ≡ bytes_of before.input
   pub outcome : Outcome
   pub early : Bool
-  pub permitted : IsPermitted c.program (by_one_worker q.settings.plan q.settings.turns) on early outcome
+  pub permitted : IsPermitted c.program (by_workers q.settings.plan q.settings.workers q.settings.turns) on early outcome
   pub ended : outcome.ending ≡ Ended
   pub written : OutTells → bytes_of now.out ≡ bytes_of before.out ++ with_vars c outcome
   pub calm : IsCalm (sequential c.program q.settings.turns (input_of on)) → outcome ≡ sequential_of q c on

@@ -1,14 +1,16 @@
 //! What becomes of a file, of a text and of a unit.
 
-ghost use Rattle.std.specs.Prelude.{◌≡◌, IfOk, string_bytes};
+ghost use Rattle.std.specs.Prelude.{◌≡◌, ◌<◌, IfOk, string_bytes};
 ghost use Rattle.ada_port.specs.Ports.{IsTold};
 ghost use Rattle.run_plan.specs.Plans.{HasNoZero};
+ghost use Rattle.driver.specs.Coded.{IsBuilt};
 ghost use Rattle.driver.specs.Compile.{IsAccepted, IsRefusalOf};
+ghost use Rattle.stack_code.specs.Listing.{listing_of};
 ghost use Rattle.driver.specs.Compiled.{compiled_of};
 ghost use Rattle.run_reports.specs.Ends.{values_of};
 ghost use Rattle.command_words.specs.Answers.{asked_of, settings_of};
 ghost use Rattle.command_words.specs.Words.{Asked};
-ghost use Rattle.ada_cmd.specs.Answer.{AnswersFile, AnswersText, Closes, EndsBy, IsRefusedLine, RunsUnit, SaysRefusal, devices, outside};
+ghost use Rattle.ada_cmd.specs.Answer.{AnswersFile, AnswersText, Closes, EndsBy, IsRefusedLine, ListsCode, RunsUnit, SaysRefusal, devices, outside};
 ghost use Rattle.run_reports.specs.Lines.{accepted_line};
 ghost use Rattle.run_reports.specs.Vars.{vars_lines};
 
@@ -20,6 +22,7 @@ use run_reports::{
     Status, Unput, put_vars, say, say_out_of_memory, say_raised, say_read_fault, say_spent,
     say_unreadable, say_write_fault,
 };
+use stack_code::{Code, listing};
 use std::alloc::{AllocError, Global};
 use std::thread::Threads;
 
@@ -86,7 +89,9 @@ fn run_unit<R: Threads + Sync, I: Source + Drop, O: Sink + Drop, E: Sink, P: Pul
     err: &mut E,
     pulse: &P,
 ) -> Given<I, O>
-    requires { HasNoZero setting.plan }
+    requires planned { HasNoZero setting.plan }
+    requires some { 0 < setting.workers }
+    requires built { IsBuilt unit.now }
     ensures { RunsUnit ((s : I) → IsTold (I.state s)) ((s : O) → IsTold (O.state s)) (compiled_of unit.now) (settings_of setting) vars result.status
         (devices (I.state input) (O.state out) (E.state err.old)) (devices (I.state result.input) (O.state result.out) (E.state err.new)) }
 {
@@ -101,6 +106,25 @@ fn say_accepted<O: Sink, E: Sink>(out: &mut O, err: &mut E) -> Status
     ensures { Closes accepted_line result (O.state out.old) (O.state out.new) (E.state err.old) (E.state err.new) }
 {
     match out.put(b"accepted\n") {
+        Ok(()) => Status::Done,
+        Err(_) => say_write_fault(err),
+    }
+}
+
+/// Lists code.
+fn say_listing<O: Sink, E: Sink>(alloc: Global, code: &Code, out: &mut O, err: &mut E) -> Status
+    ensures { ListsCode code.now result (O.state out.old) (O.state out.new) (E.state err.old) (E.state err.new) }
+{
+    match listing(alloc, code) {
+        Ok(text) => put_listing(&text, out, err),
+        Err(_) => say_out_of_memory(err),
+    }
+}
+
+fn put_listing<O: Sink, E: Sink>(text: &str, out: &mut O, err: &mut E) -> Status
+    ensures { Closes text.now result (O.state out.old) (O.state out.new) (E.state err.old) (E.state err.new) }
+{
+    match out.put(text.as_bytes()) {
         Ok(()) => Status::Done,
         Err(_) => say_write_fault(err),
     }
@@ -150,7 +174,8 @@ fn answer_text<R: Threads + Sync, I: Source + Drop, O: Sink + Drop, E: Sink, P: 
     err: &mut E,
     pulse: &P,
 ) -> Given<I, O>
-    requires { HasNoZero request.setting.plan }
+    requires planned { HasNoZero request.setting.plan }
+    requires some { 0 < request.setting.workers }
     ensures { AnswersText ((s : I) → IsTold (I.state s)) ((s : O) → IsTold (O.state s)) (asked_of request.entry) text.now result.status
         (devices (I.state input) (O.state out) (E.state err.old)) (devices (I.state result.input) (O.state result.out) (E.state err.new)) }
 {
@@ -169,6 +194,11 @@ fn answer_text<R: Threads + Sync, I: Source + Drop, O: Sink + Drop, E: Sink, P: 
             Mode::Check => {
                 let mut out = out;
                 let status = say_accepted(&mut out, err);
+                Given { status, input, out }
+            }
+            Mode::List => {
+                let mut out = out;
+                let status = say_listing(alloc, &unit.code, &mut out, err);
                 Given { status, input, out }
             }
             Mode::Run => run_unit(rt, alloc, &unit, setting, vars, input, out, err, pulse),
@@ -194,7 +224,8 @@ pub fn answer_request<
     err: &mut E,
     pulse: &P,
 ) -> Given<I, O>
-    requires { HasNoZero request.setting.plan }
+    requires planned { HasNoZero request.setting.plan }
+    requires some { 0 < request.setting.workers }
     ensures { AnswersFile ((s : I) → IsTold (I.state s)) ((s : O) → IsTold (O.state s)) (asked_of request.entry) result.status
         (outside (F.state shelf.old) (I.state input) (O.state out) (E.state err.old))
         (outside (F.state shelf.new) (I.state result.input) (O.state result.out) (E.state err.new)) }

@@ -1,5 +1,7 @@
 use crate::top::{Finished, run_words};
 use ada_port::{MemShelf, MemSink, MemSource, Quiet, ShelfText, SinkFail};
+use driver::compile;
+use stack_code::listing;
 use std::alloc::{AllocError, Global};
 use std::process::Abort;
 use std::test::Fail;
@@ -186,6 +188,33 @@ fn each_text_has_its_output_its_line_and_its_status(rt: HostRuntime) -> Result<(
     ];
     for (words, text, out, err, status) in cases {
         expect(&rt, rt.alloc(), (words, text, NONE), (out, err, status))?;
+    }
+    Ok(())
+}
+
+/// The listing of the code of a text, or nothing where it is refused.
+fn listed(alloc: Global, text: &str) -> Result<String, AllocError> {
+    match compile(alloc, text.as_bytes()) {
+        Ok(unit) => listing(alloc, &unit.code),
+        Err(_) => Ok(String::new(alloc)),
+    }
+}
+
+#[test]
+fn the_code_of_a_text_is_listed(rt: HostRuntime) -> Result<(), Fail> {
+    let alloc = rt.alloc();
+    let text = listed(alloc, FIRST)?;
+    let out = Faults {
+        out: Some((0, 6)),
+        ..NONE
+    };
+    let cases = [
+        ("list t.ada", FIRST, NONE, text.as_str(), "", 0),
+        ("list t.ada", UNDECLARED, NONE, "", UNKNOWN, 1),
+        ("list t.ada", FIRST, out, "0 PUSH", "write fault\n", 7),
+    ];
+    for (words, text, faults, out, err, status) in cases {
+        expect(&rt, alloc, (words, text, faults), (out, err, status))?;
     }
     Ok(())
 }

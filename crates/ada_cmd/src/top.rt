@@ -4,6 +4,9 @@ ghost use Rattle.std.specs.Prelude.{◌≡◌, ◌⊎◌, ◌<◌, ℕ, List, So
 ghost use Rattle.ada_base.specs.declared.reason.Reason.{Reason};
 ghost use Rattle.ada_meaning.specs.Law.{Ended, IsRaceFree, Raised, ReadFault, TurnsSpent};
 ghost use Rattle.ada_port.specs.Ports.{IsTold, Rose, fetched};
+ghost use Rattle.stack_code.specs.Listing.{listing_of};
+ghost use Rattle.stack_code.specs.declared.code.Code.{Code};
+ghost use Rattle.driver.specs.Coded.{HasCode};
 ghost use Rattle.driver.specs.Compile.{IsAccepted, IsFaultOf};
 ghost use Rattle.driver.specs.Compiled.{Compiled};
 ghost use Rattle.driver.specs.Complaints.{Complaint};
@@ -70,13 +73,14 @@ fn answer_words<
 /// 4 where an exception is unhandled, 5 where the turns are spent, 6 for a fault of the input, 7 for a fault of out or err,
 /// and 8 for want of memory.
 ///
-/// The words are `MODE FILE [--workers N] [--chunks PLAN] [--turns K] [--vars]`, where MODE is `check` or `run`. The text is
-/// fetched, compiled and run. There is an input on which the manual permits, under the plan, a run that ends so, with these
+/// The words are `MODE FILE [--workers N] [--chunks PLAN] [--turns K] [--vars]`, where MODE is `check`, `run` or `list`. The text is
+/// fetched, compiled and run. There is an input on which the manual permits, under the plan and so many workers, a run that ends so, with these
 /// final variables: the one that the input tells, where it tells, of which what that run didn't take is left. Where out tells,
 /// the bytes written are that run's, and where `--vars` stands there and the run ended normally, a line for each final
 /// variable behind them. Where no device failed and the sequential run on that input is calm, it is that run; and where a
 /// fault or want of memory stopped the run, its output is a prefix of that run's. A line to err says why the status isn't 0.
-/// Once a device has failed it is not asked again. So far nothing is asked of the runtime and the pulse.
+/// Once a device has failed it is not asked again. The threads of outermost parallel constructs run on so many workers as the
+/// words say, and the pulse is told of each thread that begins.
 pub fn run_words<
     R: Threads + Sync,
     F: Shelf,
@@ -123,6 +127,11 @@ pub fn run_words<
         (devices (I.state input) (O.state out) (E.state err.old)) (devices (I.state result.input) (O.state result.out) (E.state err.new)) }
     ensures checks { (q : Asked) (told : List ℕ) (c : Compiled) → asked (map string_bytes words.now) ≡ Some q → q.mode ≡ modes.Check → (F.state shelf.old).told q.file ≡ Some told → IsAccepted (fetched told) c →
         Meets (λ given. (I.state result.input ≡ I.state input) × Closes accepted_line given (O.state out) (O.state result.out) (E.state err.old) (E.state err.new)) result.status
+        (outside (F.state shelf.old) (I.state input) (O.state out) (E.state err.old))
+        (outside (F.state shelf.new) (I.state result.input) (O.state result.out) (E.state err.new)) }
+    // The listing of the code of an accepted text's typed program, whose parallel constructs lend what their threads may write.
+    ensures lists { (q : Asked) (told : List ℕ) (c : Compiled) → asked (map string_bytes words.now) ≡ Some q → q.mode ≡ modes.List → (F.state shelf.old).told q.file ≡ Some told → IsAccepted (fetched told) c →
+        Meets (λ given. (I.state result.input ≡ I.state input) × ((code : Code) × HasCode c.program code × Closes (listing_of code) given (O.state out) (O.state result.out) (E.state err.old) (E.state err.new))) result.status
         (outside (F.state shelf.old) (I.state input) (O.state out) (E.state err.old))
         (outside (F.state shelf.new) (I.state result.input) (O.state result.out) (E.state err.new)) }
     ensures refuses { (q : Asked) (told : List ℕ) (fault : Complaint) → asked (map string_bytes words.now) ≡ Some q → (F.state shelf.old).told q.file ≡ Some told → IsFaultOf (fetched told) fault →

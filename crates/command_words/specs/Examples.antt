@@ -3,6 +3,7 @@ use Rattle.std.specs.Prelude.{ℕ, zero, suc, ◌==◌, Bool, true, false, List,
 use Rattle.ada_base.specs.Cuts.{Plan, One, Even, Chunked, Listed}
 use Rattle.command_words.specs.Words.{Asked}
 use Rattle.command_words.specs.declared.request.Mode.{Mode}
+use Rattle.command_words.specs.declared.request.Mode.TheVariants as mode
 use Rattle.command_words.specs.declared.request.Mode.TheVariants.{Check, Run}
 
 -- words, and what they ask for, found by hand; None where they are wrong
@@ -46,6 +47,8 @@ abbrev pub forms : List Example
 forms =
     row (codes "check t.ada") (request Check (codes "t.ada") (Even 8) 4 1000000000 false)
     ∷ row (codes "run t.ada") (planned (Even 8))
+    ∷ row (codes "list t.ada") (request mode.List (codes "t.ada") (Even 8) 4 1000000000 false)
+    ∷ row (codes "list list --vars") (request mode.List (codes "list") (Even 8) 4 1000000000 true)
     ∷ row (codes "run check") (request Run (codes "check") (Even 8) 4 1000000000 false)
     ∷ row (codes "run - --vars") (request Run (codes "-") (Even 8) 4 1000000000 true)
     ∷ row (codes "run -- --vars") (request Run (codes "--vars") (Even 8) 4 1000000000 false)
@@ -58,9 +61,10 @@ forms =
     ∷ row (codes "run -- t.ada --vars") None
     ∷ row (codes "run -t.ada") None
     ∷ row (codes "t.ada run") None
+    ∷ row (codes "List t.ada") None
     ∷ row (codes "Run t.ada") None
     ∷ row (codes "runs t.ada") None
-    ∷ row (codes "list t.ada") None
+    ∷ row (codes "lists t.ada") None
     ∷ row (codes "soak 1") None
     ∷ row (codes "help") None
     ∷ row (codes "run t.ada --help") None

@@ -52,6 +52,7 @@ pub record Asked : Type 0 where
 abbrev pub mode_named : List ℕ → Option Mode
 mode_named text = if bytes_eq text (codes "check") then Some mode.Check
     else if bytes_eq text (codes "run") then Some mode.Run
+    else if bytes_eq text (codes "list") then Some mode.List
     else None
 
 -- an option's value, or its default where it is absent

@@ -11,6 +11,8 @@ pub enum Mode {
     Check,
     /// It is compiled and run.
     Run,
+    /// It is compiled, and its code is listed.
+    List,
 }
 
 /// What right words ask for.

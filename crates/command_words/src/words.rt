@@ -114,6 +114,7 @@ fn mode_of(text: Option<&str>) -> Option<Mode>
     match text? {
         "check" => Some(Mode::Check),
         "run" => Some(Mode::Run),
+        "list" => Some(Mode::List),
         _ => None,
     }
 }

@@ -7,4 +7,8 @@ pub mod Words
 mod Leavings
 mod FromTheOutset
 mod Truths
+mod Coded
 mod Declaring
+mod Reading
+mod Loads
+mod Framed

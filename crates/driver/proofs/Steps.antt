@@ -35,6 +35,11 @@ pub refuses_next : {A B C : Type 0} (p : Phase A B Complaint) (q : A → Phase B
 refuses_next p q a b OutOfMemory right is = tt
 refuses_next p q a b (Refused code at other note) right (c, wrong, same) = (c, inr (b, right, wrong), same)
 
+-- the first phase has a result, and the next answers for that
+pub decides_next : {A B C X : Type 0} (p : Phase A B Complaint) (q : A → Phase B C Complaint) (see : X → C) (a : A) (b : B) (r : Result X Refusal) → p.right a b → Decides (q a) see b r → Decides (followed p q) see a r
+decides_next p q see a b (Ok x) right is = (b, right, is)
+decides_next p q see a b (Err refusal) right is = refuses_next p q a b refusal right is
+
 -- a fault gets its refusal
 pub refuses : {A B : Type 0} (p : Phase A B Complaint) (a : A) (c : Complaint) (r : Refusal) → p.wrong a c → r ≡ refusal_of c → IsRefusal p a r
 refuses p a c r wrong same = subst (IsRefusal p a) (sym same) (c, wrong, refl)

@@ -1,26 +1,27 @@
 -- How a unit ran: which run an answer tells of, and which devices failed.
-use Rattle.std.specs.Prelude.{◌≡◌, ℕ, List, [], ◌++◌, drop, Bool}
+use Rattle.std.specs.Prelude.{◌≡◌, ℕ, nat_eq, List, ◌++◌, drop, Bool}
+use Rattle.ada_base.specs.Cuts.{Plan}
 use Rattle.ada_meaning.specs.Law as law
-use Rattle.ada_meaning.specs.Law.{EndsItself, IsPermitted, IsPlan, IsPrefix, Outcome}
-use Rattle.ada_meaning.specs.Nonblocking.{KeepsRule}
-use Rattle.ada_meaning.specs.Programs.{Setting, by_one_worker, input_of, sequential}
+use Rattle.ada_meaning.specs.Law.{EndsItself, IsPermitted, IsPrefix, Outcome}
+use Rattle.ada_meaning.specs.Programs.{Setting, input_of, sequential}
 use Rattle.ada_meaning.specs.Sequential.{IsCalm}
 use Rattle.ada_port.specs.Ports.{Stream, Rose, bytes_of}
-use Rattle.ada_meaning.specs.Stored.{outset}
-use Rattle.typed_tree.specs.Programs.{program}
 use Rattle.typed_tree.specs.Syntax.{Program}
 use Rattle.run_plan.specs.Plans.{plan_of}
 use Rattle.run_plan.specs.declared.plan.Setting as plan
-use Rattle.run_parts.specs.declared.work.Work.{Work}
-use Rattle.run_store.specs.Outside.{Faults, MayBe}
-use Rattle.run_store.specs.Shows.{Image, outside_of}
+use Rattle.run_machine.specs.declared.ends.How.{How}
+use Rattle.run_machine.specs.declared.ends.How.TheVariants as how
 use Rattle.run_reports.specs.Ends.{values_of}
+use Rattle.run_reports.specs.declared.ends.Finals.{Finals}
 use Rattle.run_reports.specs.declared.ends.RunEnd.{RunEnd}
 use Rattle.run_reports.specs.declared.ends.RunEnd.TheVariants as run_end
 
--- so far the threads of a construct are taken in order, as one worker does
+-- so many workers carry out the threads of a construct, which with one are taken in order
+abbrev pub by_workers : Plan → (workers limit : ℕ) → Setting
+by_workers plan workers limit = record { plan = plan; one = nat_eq workers 1; limit = limit }
+
 abbrev pub setting_of : plan.Setting → Setting
-setting_of s = by_one_worker (plan_of s.plan) s.turns
+setting_of s = by_workers (plan_of s.plan) s.workers s.turns
 
 -- the answer tells how the run ended, and what its variables were where it ended normally
 abbrev pub EndsAs : Program → ℕ → RunEnd → Outcome → Type 0
@@ -59,11 +60,11 @@ pub record Runs (InTells OutTells : Type 0) (p : Program) (set : Setting) (end :
   pub told : InTells → on ≡ bytes_of input
   pub run : TellsOf InTells OutTells p set end on (bytes_of input') (bytes_of out) (bytes_of out')
 
-abbrev pub faults_of : Stream → Stream → Faults
-faults_of input out = record { input = input.faults; output = out.faults }
-
--- what became of a run from a state on, where the devices are now
-pub record Comes (InTells OutTells : Type 0) (w : Work) (end : RunEnd) (s : Image) (input out : Stream) : Type 0 where
-  pub causes : (i o : Stream) → s.faults ≡ faults_of i o → Causes end i input o out
-  pub run : KeepsRule (program w.typed.now) → IsPlan w.plan.now → (slots : ℕ) → s.state ≡ outset slots [] s.state.output
-      → (on : List ℕ) × (MayBe InTells on (outside_of s) × TellsOf InTells OutTells (program w.typed.now) (by_one_worker w.plan.now w.limit) end on (bytes_of input) s.state.output (bytes_of out))
+-- the answer that an end of the machine's run is, under a limit of turns, with what the variables were then
+abbrev pub end_by : How → ℕ → Finals → RunEnd
+end_by how.Ended limit finals = run_end.Ended finals
+end_by (how.Raised reason) limit finals = run_end.Raised reason
+end_by how.TurnsSpent limit finals = run_end.TurnsSpent limit
+end_by how.ReadFault limit finals = run_end.ReadFault
+end_by how.WriteFault limit finals = run_end.WriteFault
+end_by how.NoMemory limit finals = run_end.NoMemory

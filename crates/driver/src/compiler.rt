@@ -11,6 +11,7 @@ ghost use Rattle.ada_meaning.specs.Law.{IsRaceFree};
 ghost use Rattle.ada_meaning.specs.Nonblocking.{KeepsRule};
 ghost use Rattle.typed_tree.specs.Programs.{program};
 ghost use Rattle.syntax_nodes.specs.Trees.{program_of};
+ghost use Rattle.driver.specs.Coded.{IsBuilt, IsTyped};
 ghost use Rattle.driver.specs.Complaints.{Complaint};
 ghost use Rattle.driver.specs.Compile.{Decides, IsRefusal, lexing, parsing, from_unblocked, from_typed, from_tree, from_tokens, compiling, refusal_of, IsAccepted, IsFaultOf, IsRefusalOf, GivesUnit, GivesRefusal};
 ghost use Rattle.driver.specs.Compiled.{Compiled, compiled_of};
@@ -34,10 +35,14 @@ use typed_tree::Typed;
 /// where that rule is asked for; and else the least pair of effects in different threads that clash (`E10`). No two threads
 /// of an accepted text touch one variable where one writes, under whatever plan, limit and number of workers.
 ///
+/// A unit was built of the text: its code is that of its typed program, whose parallel constructs lend what their threads
+/// may write, and its variables have their places in the main frame. So it can be run.
+///
 /// An accepted text gets its unit, and every fault of a text its refusal, unless memory runs out.
 pub fn compile(alloc: Global, text: &[u8]) -> Result<Unit, Refusal>
     ensures accepted { IfOk result (λ unit. IsAccepted text.now (compiled_of unit)) }
     ensures race_free { IfOk result (λ unit. IsRaceFree (program unit.typed)) }
+    ensures built { IfOk result IsBuilt }
     ensures refused { IfErr result (IsRefusalOf text.now) }
     ensures all_accepted { (due : Compiled) → IsAccepted text.now due → GivesUnit result due }
     ensures all_refused { (fault : Complaint) → IsFaultOf text.now fault → GivesRefusal result (refusal_of fault) }
@@ -46,7 +51,8 @@ pub fn compile(alloc: Global, text: &[u8]) -> Result<Unit, Refusal>
 }
 
 fn compiled(alloc: Global, text: &[u8]) -> Result<Unit, Refusal>
-    ensures { Decides compiling compiled_of text.now result }
+    ensures unit { Decides compiling compiled_of text.now result }
+    ensures built { IfOk result IsBuilt }
 {
     match tokens_of(alloc, text) {
         Ok(tokens) => unit_of(alloc, &tokens),
@@ -55,7 +61,8 @@ fn compiled(alloc: Global, text: &[u8]) -> Result<Unit, Refusal>
 }
 
 fn unit_of(alloc: Global, tokens: &Tokens) -> Result<Unit, Refusal>
-    ensures { Decides from_tokens compiled_of tokens.now result }
+    ensures unit { Decides from_tokens compiled_of tokens.now result }
+    ensures built { IfOk result IsBuilt }
 {
     let tree = match tree_of(alloc, tokens) {
         Ok(tree) => tree,
@@ -68,7 +75,8 @@ fn unit_of(alloc: Global, tokens: &Tokens) -> Result<Unit, Refusal>
 }
 
 fn whole_of(alloc: Global, tokens: &Tokens, tree: &Tree) -> Result<Unit, Refusal>
-    ensures { Decides (from_tree tokens.now) compiled_of (program_of tree.now) result }
+    ensures unit { Decides (from_tree tokens.now) compiled_of (program_of tree.now) result }
+    ensures built { IfOk result IsBuilt }
 {
     let typed = match typed_of(alloc, tokens, tree) {
         Ok(typed) => typed,
@@ -81,8 +89,10 @@ fn whole_of(alloc: Global, tokens: &Tokens, tree: &Tree) -> Result<Unit, Refusal
 }
 
 fn checked(alloc: Global, tokens: &Tokens, typed: Typed) -> Result<Unit, Refusal>
-    requires { IsFormed (program typed) }
-    ensures { Decides (from_typed tokens.now) compiled_of (program typed) result }
+    requires formed { IsFormed (program typed) }
+    requires named { IsTyped (program typed) }
+    ensures unit { Decides (from_typed tokens.now) compiled_of (program typed) result }
+    ensures built { IfOk result IsBuilt }
 {
     if let Err(refusal) = keeps(tokens, &typed) {
         return Err(refusal);
@@ -96,12 +106,15 @@ fn checked(alloc: Global, tokens: &Tokens, typed: Typed) -> Result<Unit, Refusal
 fn finished(alloc: Global, tokens: &Tokens, typed: Typed) -> Result<Unit, Refusal>
     requires keeps { KeepsRule (program typed) }
     requires formed { IsFormed (program typed) }
-    ensures { Decides (from_unblocked tokens.now) compiled_of (program typed) result }
+    requires named { IsTyped (program typed) }
+    ensures unit { Decides (from_unblocked tokens.now) compiled_of (program typed) result }
+    ensures built { IfOk result IsBuilt }
 {
-    if let Err(refusal) = separated(alloc, tokens, &typed) {
-        return Err(refusal);
-    }
-    match built(alloc, tokens, typed) {
+    let grants = match separated(alloc, tokens, &typed) {
+        Ok(grants) => grants,
+        Err(refusal) => return Err(refusal),
+    };
+    match built(alloc, tokens, typed, &grants) {
         Ok(unit) => Ok(unit),
         Err(refusal) => Err(refusal),
     }

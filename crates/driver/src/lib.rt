@@ -2,6 +2,7 @@
 #![tactic(auto)]
 
 mod compiler;
+mod kept;
 mod naming;
 mod note;
 mod refusal;

@@ -1,12 +1,14 @@
 //! The typed program of a text, the rules on nonblocking text and on conflicts, and the unit.
 
-ghost use Rattle.std.specs.Prelude.{◌≡◌};
+ghost use Rattle.std.specs.Prelude.{◌≡◌, IfOk};
 ghost use Rattle.ada_base.specs.Tokens.{place_of_token};
 ghost use Rattle.ada_meaning.specs.Formed.{IsFormed};
-ghost use Rattle.ada_meaning.specs.Nonblocking.{KeepsRule};
 ghost use Rattle.typed_tree.specs.Programs.{program};
 ghost use Rattle.name_programs.specs.Resolving.{fault_of};
 ghost use Rattle.syntax_nodes.specs.Trees.{program_of};
+ghost use Rattle.check_conflicts.specs.Answer.{AreGrants};
+ghost use Rattle.check_effects.specs.Accepted.{IsAccepted};
+ghost use Rattle.driver.specs.Coded.{IsBuilt, IsTyped};
 ghost use Rattle.driver.specs.Complaints.{complaint};
 ghost use Rattle.driver.specs.Compile.{Decides, blocking, building, naming, named_refusal, refusal_of, separating};
 ghost use Rattle.driver.specs.Compiled.{compiled_of};
@@ -17,6 +19,7 @@ use crate::unit::Unit;
 use crate::units::finish;
 use ada_base::Tokens;
 use check_blocking::{Blocked, check};
+use check_clashes::granted::Grants;
 use check_conflicts::accept::accept;
 use check_conflicts::faults::ConflictFault;
 use check_inference::infer::infer;
@@ -72,18 +75,19 @@ pub fn keeps(tokens: &Tokens, typed: &Typed) -> Result<(), Refusal>
     }
 }
 
-/// Whether the threads of each parallel construct are apart; if not, the least breach of the strict rule, or else the
+/// What the threads of each parallel construct may write, if they are apart; if not, the least breach of the strict rule, or else the
 /// least clash (9.10.1).
-pub fn separated(alloc: Global, tokens: &Tokens, typed: &Typed) -> Result<(), Refusal>
+pub fn separated(alloc: Global, tokens: &Tokens, typed: &Typed) -> Result<Grants, Refusal>
     requires { IsFormed (program typed.now) }
-    ensures { Decides (separating tokens.now) (λ u. program typed.now) (program typed.now) result }
+    ensures apart { Decides (separating tokens.now) (λ u. program typed.now) (program typed.now) result }
+    ensures granted { IfOk result (AreGrants (program typed.now)) }
 {
     let effects = match infer(typed, alloc) {
         Ok(effects) => effects,
         Err(_) => return Err(Refusal::OutOfMemory),
     };
     match accept(typed, &effects, alloc) {
-        Ok(_) => Ok(()),
+        Ok(grants) => Ok(grants),
         Err(ConflictFault::GlobalTouched { at, .. }) => {
             Err(refused(tokens, Note::GlobalTouched, at))
         }
@@ -94,12 +98,15 @@ pub fn separated(alloc: Global, tokens: &Tokens, typed: &Typed) -> Result<(), Re
     }
 }
 
-/// The unit of a typed program that keeps the rule on nonblocking text.
-pub fn built(alloc: Global, tokens: &Tokens, typed: Typed) -> Result<Unit, Refusal>
-    requires { KeepsRule (program typed) }
-    ensures { Decides (building tokens.now) compiled_of (program typed) result }
+/// The unit of a typed program that is accepted.
+pub fn built(alloc: Global, tokens: &Tokens, typed: Typed, grants: &Grants) -> Result<Unit, Refusal>
+    requires accepted { IsAccepted (program typed) }
+    requires named { IsTyped (program typed) }
+    requires granted { AreGrants (program typed) grants.now }
+    ensures unit { Decides (building tokens.now) compiled_of (program typed) result }
+    ensures built { IfOk result IsBuilt }
 {
-    match finish(alloc, tokens, typed) {
+    match finish(alloc, tokens, typed, grants) {
         Ok(unit) => Ok(unit),
         Err(_) => Err(Refusal::OutOfMemory),
     }

@@ -1,20 +1,19 @@
 //! What a text is compiled to.
 
-ghost use Rattle.std.specs.Prelude.{ℕ};
-ghost use Rattle.ada_meaning.specs.Blocked.{Blocked};
-ghost use Rattle.typed_tree.specs.Programs.{program};
-
 use ada_base::Items;
+use ada_meaning::Variable;
 use run_reports::Final;
+use stack_code::Code;
 use typed_tree::Typed;
 
-/// What a text is compiled to: its typed program, in which no call breaks the rule on nonblocking text (9.5); the
-/// variables of the main procedure's declarative part, in order; and the names of the exceptions that it declares, by
-/// their numbers.
+/// What a text is compiled to: its typed program; the variables of the main procedure's declarative part, in order, with
+/// their names and with their places in its frame; the names of the exceptions that it declares, by their numbers; and
+/// its code.
 #[derive(Drop)]
 pub struct Unit {
     pub typed: Typed,
     pub finals: Items<Final>,
+    pub variables: Items<Variable>,
     pub exceptions: Items<Items<u8>>,
-    pub ghost unblocked: { (token last : ℕ) → Blocked (program typed) token last → ⊥ },
+    pub code: Code,
 }

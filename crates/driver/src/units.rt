@@ -2,30 +2,59 @@
 
 ghost use Rattle.std.specs.Prelude.{◌≡◌, ◌++◌, ◌∷◌, [], IfOk, slice_get};
 ghost use Rattle.ada_meaning.specs.Meaning.{object_layout};
-ghost use Rattle.ada_meaning.specs.Nonblocking.{KeepsRule};
 ghost use Rattle.typed_tree.specs.Decoded.{decls_at};
 ghost use Rattle.typed_tree.specs.Programs.{program};
+ghost use Rattle.check_conflicts.specs.Answer.{AreGrants};
+ghost use Rattle.check_effects.specs.Accepted.{IsAccepted};
+ghost use Rattle.driver.specs.Coded.{HasCode, IsBuilt, IsTyped};
 ghost use Rattle.driver.specs.Compiled.{also_final, compiled, compiled_of, declared_variable, exception_names, final_of, finals_behind, name_of, truths};
 
 use crate::shapes::truths_of;
 use crate::unit::Unit;
 use ada_base::{Items, Tokens};
+use check_clashes::granted::Grants;
+use lower_code::lowering::lower;
+use lower_leases::{leases_of, variables_of};
 use run_reports::Final;
+use stack_code::Code;
 use std::alloc::{AllocError, Global};
 use typed_tree::{Decl, Declared, Typed};
 
 /// The unit of a typed program, whose names are those of these tokens. An Err is want of memory.
-pub fn finish(alloc: Global, tokens: &Tokens, typed: Typed) -> Result<Unit, AllocError>
-    requires { KeepsRule (program typed) }
-    ensures { IfOk result (λ unit. compiled_of unit ≡ compiled tokens.now (program typed)) }
+pub fn finish(
+    alloc: Global,
+    tokens: &Tokens,
+    typed: Typed,
+    grants: &Grants,
+) -> Result<Unit, AllocError>
+    requires accepted { IsAccepted (program typed) }
+    requires named { IsTyped (program typed) }
+    requires granted { AreGrants (program typed) grants.now }
+    ensures unit { IfOk result (λ unit. compiled_of unit ≡ compiled tokens.now (program typed)) }
+    ensures built { IfOk result IsBuilt }
 {
     let finals = finals(alloc, tokens, &typed)?;
+    let variables = variables_of(&typed, alloc)?;
     let exceptions = exceptions(alloc, tokens, typed.exceptions.as_slice())?;
+    let code = lowered(alloc, &typed, grants)?;
     Ok(Unit {
         typed,
         finals,
+        variables,
         exceptions,
+        code,
     })
+}
+
+/// The code of a typed program, by what its threads are granted. An Err is want of memory, also where a number of the code is
+/// beyond 32 bits.
+fn lowered(alloc: Global, typed: &Typed, grants: &Grants) -> Result<Code, AllocError>
+    requires { AreGrants (program typed.now) grants.now }
+    ensures { IfOk result (HasCode (program typed.now)) }
+{
+    let leases = leases_of(typed, grants, alloc)?;
+    lower_leases::laws();
+    lower(typed, leases, alloc)
 }
 
 fn exceptions(

@@ -1,10 +1,13 @@
-//! Reads rows from its input, each a text and what is to be said of it, or a program and what is to come of it; compiles each
-//! text and runs each program, and writes each row of which something else comes, and how many rows there were.
+//! Reads rows from its input, each a text and what is to be said of it, or a program and what is to come of it, or its code;
+//! compiles each text and runs or lists each program, and writes each row of which something else comes, and how many rows
+//! there were.
 #![tactic(auto)]
 
+mod listings;
 mod programs;
 mod rows;
 
+use listings::listing_difference;
 use programs::program_difference;
 use rows::{Row, row_of, said_of, text_of, wanted_of};
 use std::alloc::{AllocError, Global};
@@ -27,9 +30,10 @@ fn main(rt: HostRuntime) -> io::Result<()> {
     let mut others: u64 = 0;
     for line in rows.lines() {
         count = count.saturating_add(1);
-        let difference = match line.strip_prefix("R~") {
-            Some(fields) => program_difference(&rt, alloc, fields)?,
-            None => difference(alloc, &row_of(line))?,
+        let difference = match line.split_once('~') {
+            Some(("R", fields)) => program_difference(&rt, alloc, fields)?,
+            Some(("L", fields)) => listing_difference(alloc, fields)?,
+            _ => difference(alloc, &row_of(line))?,
         };
         if let Some(said) = difference {
             others = others.saturating_add(1);

@@ -1,5 +1,6 @@
 //! Rows of programs that run: each with the words behind its file, its input, and what is to come of it.
 
+ghost use Rattle.std.specs.Prelude.{◌<◌};
 ghost use Rattle.run_plan.specs.Plans.{HasNoZero};
 
 use ada_port::{HeldSink, MemSource, Quiet};
@@ -23,7 +24,7 @@ pub struct Program<'a> {
     declarations: &'a str,
     statements: &'a str,
     input: &'a str,
-    wanted: &'a str,
+    pub wanted: &'a str,
 }
 
 fn field(rest: &str) -> (&str, &str) {
@@ -46,8 +47,23 @@ fn program_of(fields: &str) -> Program<'_> {
     }
 }
 
+/// The program of a row whose code is listed.
+pub fn program_listed(fields: &str) -> Program<'_> {
+    let (policy, rest) = field(fields);
+    let (declarations, rest) = field(rest);
+    let (statements, wanted) = field(rest);
+    Program {
+        options: "",
+        policy,
+        declarations,
+        statements,
+        input: "",
+        wanted,
+    }
+}
+
 /// The text of a row.
-fn text_of(alloc: Global, row: &Program<'_>) -> Result<String, AllocError> {
+pub fn text_of(alloc: Global, row: &Program<'_>) -> Result<String, AllocError> {
     let front = if row.policy == "K" {
         "pragma Conflict_Check_Policy (Known_Parallel_Conflict_Checks); "
     } else {
@@ -122,7 +138,8 @@ fn run_text<R: Threads + Sync>(
     text: &str,
     input: MemSource,
 ) -> Result<(Status, Said), AllocError>
-    requires { HasNoZero request.setting.plan }
+    requires planned { HasNoZero request.setting.plan }
+    requires some { 0 < request.setting.workers }
 {
     let mut said = Said {
         out: HeldSink::new(alloc),
@@ -144,7 +161,8 @@ fn run_text<R: Threads + Sync>(
     Ok((status, said))
 }
 
-fn push_field(line: &mut String, bytes: &[u8]) -> Result<(), AllocError> {
+/// A text, as fields have it.
+pub fn push_field(line: &mut String, bytes: &[u8]) -> Result<(), AllocError> {
     for byte in bytes {
         line.push(char::from(swapped(*byte)))?;
     }

@@ -26,6 +26,9 @@ returns-clause-vars_prefix g c = λ q told compiled asks mode vars has accepted.
 pub returns-clause-checks : goal.returns-clause-checks
 returns-clause-checks g c = rw c.number.ensures (causes.checks _ _ _ _ c.answer_words-status.ensures)
 
+pub returns-clause-lists : goal.returns-clause-lists
+returns-clause-lists g c = rw c.number.ensures (causes.lists _ _ _ _ c.answer_words-status.ensures)
+
 pub returns-clause-refuses : goal.returns-clause-refuses
 returns-clause-refuses g c = rw c.number.ensures (causes.refuses _ _ _ _ c.answer_words-status.ensures)
 

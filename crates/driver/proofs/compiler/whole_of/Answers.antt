@@ -7,11 +7,16 @@ use Rattle.driver.proofs.Steps.{refuses_first}
 use Rattle.syntax_nodes.specs.Trees.{program_of}
 use Rattle.driver.proofs.compiler.whole_of.Goals as goal
 
-pub returns-in-Err : goal.returns-in-Err
-returns-in-Err c = refuses_first (naming c.args.tokens.now) (λ tree. from_typed c.args.tokens.now) (program_of c.args.tree.now) c.in-Err.refusal c.in-Err.ensures
+pub returns-in-Err-clause-unit : goal.returns-in-Err-clause-unit
+returns-in-Err-clause-unit c = refuses_first (naming c.args.tokens.now) (λ tree. from_typed c.args.tokens.now) (program_of c.args.tree.now) c.in-Err.refusal c.in-Err.ensures
 
--- the typed program of a text without a fault is formed
-pub checked-requires : goal.checked-requires
-checked-requires c =
+-- the typed program of a text without a fault is formed, and names give it
+pub checked-requires-clause-formed : goal.checked-requires-clause-formed
+checked-requires-clause-formed c =
     let tree = program_of c.args.tree.now in
     formed_programs_law (names_of c.args.tokens.now tree) tree (program c.in-Ok.typed) (sym c.in-Ok.ensures)
+
+pub checked-requires-clause-named : goal.checked-requires-clause-named
+checked-requires-clause-named c =
+    let tree = program_of c.args.tree.now in
+    (names_of c.args.tokens.now tree, (tree, sym c.in-Ok.ensures))
