@@ -6,7 +6,7 @@ use Rattle.std.proofs.lemmas.Bool.{false≢true}
 use Rattle.stack_code.specs.declared.code.Code.{Code}
 use Rattle.stack_code.specs.declared.code.CodeSub.{CodeSub}
 use Rattle.stack_code.specs.declared.instr.Instr.{Instr}
-use Rattle.stack_code.specs.declared.instr.Instr.TheVariants.{Push, Pop, Dup, Swap, Local, Outer, Global, Index, Field, Load, Store, Copy, Fill, Add, Sub, Mul, Div, Mod, Rem, Pow, Neg, Abs, Max, Min, Eq, Ne, Lt, Le, Gt, Ge, And, Or, Xor, Not, Range, Jump, JFalse, JTrue, Turn, Call, CallAt, CallTo, Ret, RetV, Raise, Reraise, Exit, Leave as LeaveNow, LeaveV, Fork, Nest, Unnest, Words, Img, Bool as BoolImage, Wide, Send, SendLn, Get, End, EndV, Halt, Combine, Part, LoadL, LoadO, LoadG, StoreL, StoreO, StoreG, AddI, IndexL, Item, ItemL, JfEq, JfNe, JfLt, JfLe, JfGt, JfGe, Next, Prior, Flip, Differ}
+use Rattle.stack_code.specs.declared.instr.Instr.TheVariants.{Push, Pop, Dup, Swap, Local, Outer, Global, Index, Field, Load, Store, Copy, Fill, Add, Sub, Mul, Div, Mod, Rem, Pow, Neg, Abs, Max, Min, Eq, Ne, Lt, Le, Gt, Ge, And, Or, Xor, Not, Range, Jump, JFalse, JTrue, Turn, Call, CallAt, CallTo, Ret, RetV, Raise, Reraise, Exit, Leave as LeaveNow, LeaveV, Fork, Nest, Unnest, Words, Img, Bool as BoolImage, Wide, Send, SendLn, Get, End, EndV, Halt, Combine, Part, Repeat, Again, LoadL, LoadO, LoadG, StoreL, StoreO, StoreG, AddI, IndexL, Item, ItemL, JfEq, JfNe, JfLt, JfLe, JfGt, JfGe, Next, Prior, Flip, Differ}
 use Rattle.stack_code.specs.declared.path.Asked.{Asked}
 use Rattle.stack_code.specs.declared.operands.Flow.TheVariants.{On, Branch}
 use Rattle.stack_code.specs.Operands.{takes, pushes, flow_of}
@@ -147,6 +147,8 @@ fits c pc st base outward (Call sub) l h = called_fit c pc sub st (slice_get c.s
 fits c pc st base outward (CallAt sub n) l h = called_at_fit c pc (CallAt sub n) sub n (pc + 1) true st st (slice_get c.subs sub) (refl, refl, refl) (omega arith) refl h
 fits c pc st base outward (CallTo sub n to) l h = one_fit c pc (CallTo sub n to) tt st _ l (λ x rest. called_at_fit c pc (CallTo sub n to) sub n to (truth x) (x ∷ rest) rest (slice_get c.subs sub) (refl, refl, refl) (omega arith) refl h)
 fits c pc st base outward Part l h = refl
+fits c pc st base outward (Repeat n) l h = refl
+fits c pc st base outward (Again to) l h = refl
 fits c pc st base outward Ret l h = (tt, omega arith)
 fits c pc st base outward RetV l h = one_fit c pc RetV tt st _ l (λ x rest. (tt, omega arith))
 fits c pc st base outward (Raise reason) l h = (omega arith, tt)

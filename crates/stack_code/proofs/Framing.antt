@@ -1,6 +1,6 @@
 -- A path on cells some of which are gone does the same on a memory that has them.
 use Rattle.std.proofs.Common.{◌≡◌, ℕ, zero, suc, ◌+◌, ◌-◌, ◌≤◌, ℤ, pos, negsuc, List, [], ◌∷◌, ◌++◌, length, take, Option, Some, None, Bool, true, false, cond, refl, sym, ap, ◌∙◌, subst, arith}
-use Rattle.std.specs.Prelude.{slice_get, set, nat_lt}
+use Rattle.std.specs.Prelude.{slice_get, set, nat_eq, nat_lt}
 use Rattle.std.proofs.lemmas.List.{length-append, length-take}
 use Rattle.ada_base.specs.declared.reason.Reason.{Reason}
 use Rattle.ada_base.specs.declared.reason.Reason.TheVariants.{ConstraintError, StorageError}
@@ -8,9 +8,10 @@ use Rattle.stack_code.specs.declared.code.Code.{Code}
 use Rattle.stack_code.specs.declared.code.CodeSub.{CodeSub}
 use Rattle.stack_code.specs.declared.code.Unwind.{Unwind}
 use Rattle.stack_code.specs.declared.instr.Instr.{Instr}
+use Rattle.stack_code.specs.declared.path.Round.{Round}
 use Rattle.ada_base.specs.Cells.{Cell, Gone, Seen, Mine, value_in, where_mine, seen, written, zeros}
-use Rattle.stack_code.specs.Deeds.{Deed, Lacks, GoesOn, Fails, Loads, Stores, Turns, Calls, CallsAt, Combines, Draws, Ends, Leaves, Forks, Nests, Unnests, Writes, Sends, Gets, Gives, deed_of}
-use Rattle.stack_code.specs.Machine.{Frame, State, Went, Goes, Stops, Stop, Done, Left, Asks, Constructs, Spent, Cut, Stuck, Astray, look_by, with_value, with_cells, cut, on, failed, entered, entered_at, ended, pushed_for, entry_of, handled, unwound, raised, turned, entering, entering_at, combining, drawing, ending, nesting, done, acted, stepped, step, going, run}
+use Rattle.stack_code.specs.Deeds.{Deed, Lacks, GoesOn, Fails, Loads, Stores, Turns, Calls, CallsAt, Combines, Draws, Repeats, Rounds, Ends, Leaves, Forks, Nests, Unnests, Writes, Sends, Gets, Gives, deed_of}
+use Rattle.stack_code.specs.Machine.{Frame, State, Went, Goes, Stops, Stop, Done, Left, Asks, Constructs, Spent, Cut, Stuck, Astray, look_by, with_value, with_cells, cut, on, moved_to, failed, entered, entered_at, ended, pushed_for, entry_of, handled, unwound, raised, turned, entering, entering_at, combining, drawing, another, rounding, ending, nesting, done, acted, stepped, step, going, run}
 use Rattle.stack_code.specs.Framed.{fill, Shown, Above, Framed, filled, Same}
 
 -- ---- cells
@@ -163,7 +164,7 @@ module _ (outer : List Cell) where
 
     entering_same : (f : CodeSub) (to : ℕ) (kept : List ℤ) (s : State) → Framed outer s → Same outer (entering limit f to kept s) (entering limit f to kept (filled outer s))
     entering_same f to kept s h = cond_same (nat_lt s.calls 1000) (Goes (entered f to kept s)) (Goes (failed StorageError (cut (length s.stack - f.takes) s.stack) s)) (Goes (entered f to kept (filled outer s))) (Goes (failed StorageError (cut (length s.stack - f.takes) s.stack) (filled outer s))) (
-      ap (λ b. Goes (record (entered f to kept s) { base = b; waiting = record { at = s.pc; to = to; floor = s.floor; base = s.base; nest = s.nest; kept = kept; top = b } ∷ s.waiting; cells = fill s.cells outer ++ zeros f.frame })) (fill_length s.cells outer)
+      ap (λ b. Goes (record (entered f to kept s) { base = b; waiting = record { at = s.pc; to = to; floor = s.floor; base = s.base; nest = s.nest; kept = kept; rounds = s.rounds; top = b } ∷ s.waiting; cells = fill s.cells outer ++ zeros f.frame })) (fill_length s.cells outer)
           ∙ ap (λ cells. Goes (record (entered f to kept s) { cells = cells })) (append_fill s.cells outer (zeros f.frame) h.long),
       record { shown = append_shown s.cells outer (zeros f.frame) h.long h.shown; long = omega (arith, h.long, length-append s.cells (zeros f.frame)); above = (h.long, h.above) },
     )
@@ -174,7 +175,7 @@ module _ (outer : List Cell) where
         let more : List Cell = zeros (s.base + n + f.frame - length s.cells) in
         cond_same (nat_lt s.calls 1000) (cond fit (Goes (entered_at f n to s)) (Goes (failed ConstraintError s.stack s))) (Goes (failed StorageError s.stack s)) (cond fit (Goes (entered_at f n to (filled outer s))) (Goes (failed ConstraintError s.stack (filled outer s)))) (Goes (failed StorageError s.stack (filled outer s)))
         (cond_same fit (Goes (entered_at f n to s)) (Goes (failed ConstraintError s.stack s)) (Goes (entered_at f n to (filled outer s))) (Goes (failed ConstraintError s.stack (filled outer s))) (
-          ap (λ b. Goes (record (entered_at f n to s) { waiting = record { at = s.pc; to = to; floor = s.floor; base = s.base; nest = s.nest; kept = s.kept; top = b } ∷ s.waiting; cells = fill s.cells outer ++ zeros (s.base + n + f.frame - b) })) (fill_length s.cells outer)
+          ap (λ b. Goes (record (entered_at f n to s) { waiting = record { at = s.pc; to = to; floor = s.floor; base = s.base; nest = s.nest; kept = s.kept; rounds = s.rounds; top = b } ∷ s.waiting; cells = fill s.cells outer ++ zeros (s.base + n + f.frame - b) })) (fill_length s.cells outer)
               ∙ ap (λ cells. Goes (record (entered_at f n to s) { cells = cells })) (append_fill s.cells outer more h.long),
           record { shown = append_shown s.cells outer more h.long h.shown; long = omega (arith, h.long, length-append s.cells more); above = (h.long, h.above) },
         )
@@ -184,6 +185,17 @@ module _ (outer : List Cell) where
     drawing_same : (parts : List ℤ) (s : State) → Framed outer s → Same outer (drawing limit parts s) (drawing limit parts (filled outer s))
     drawing_same [] s h = (refl, moved s (on (pos 0 ∷ pos 0 ∷ s.stack) s) h refl refl)
     drawing_same (part ∷ parts) s h = (refl, moved s (on (pos 1 ∷ part ∷ s.stack) (record s { kept = parts })) h refl refl)
+
+    another_same : (to head more : ℕ) (rs : List Round) (s : State) → Framed outer s → Same outer (another limit to head more rs s) (another limit to head more rs (filled outer s))
+    another_same to head zero rs s h = (refl, moved s (on s.stack (record s { rounds = rs })) h refl refl)
+    another_same to head (suc n) rs s h =
+        let next : State = moved_to to s.stack (record s { rounds = record { more = n; head = head } ∷ rs }) in
+        let behind : State = on s.stack (record s { rounds = rs }) in
+        cond_same (nat_eq head to) (Goes next) (Goes behind) (Goes (filled outer next)) (Goes (filled outer behind)) (refl, moved s next h refl refl) (refl, moved s behind h refl refl)
+
+    rounding_same : (to : ℕ) (rs : List Round) (s : State) → Framed outer s → Same outer (rounding limit to rs s) (rounding limit to rs (filled outer s))
+    rounding_same to [] s h = (refl, moved s (on s.stack s) h refl refl)
+    rounding_same to (r ∷ rs) s h = another_same to r.head r.more rs s h
 
     combining_same : (f : CodeSub) (acc : ℤ) (st parts : List ℤ) (s : State) → Framed outer s → Same outer (combining limit f acc st parts s) (combining limit f acc st parts (filled outer s))
     combining_same f acc st [] s h = (refl, moved s (on (acc ∷ st) s) h refl refl)
@@ -217,6 +229,8 @@ module _ (outer : List Cell) where
     done_same (CallsAt f n to fit st) s h = turned_same s (λ x. entering_at limit f n to fit (record x { stack = st })) (λ l t. entering_at_same f n to fit (record s { left = l; turns = t; stack = st }) (moved s (record s { left = l; turns = t; stack = st }) h refl refl))
     done_same (Combines f acc st) s h = combining_same f acc st s.kept s h
     done_same Draws s h = drawing_same s.kept s h
+    done_same (Repeats n) s h = (refl, moved s (on s.stack (record s { rounds = record { more = n - 1; head = s.pc + 1 } ∷ s.rounds })) h refl refl)
+    done_same (Rounds to) s h = rounding_same to s.rounds s h
     done_same (Ends v st) s h = ending_same v st s.waiting s refl h
     done_same (Leaves l st) s h = refl
     done_same (Forks q st) s h = refl

@@ -1,6 +1,6 @@
 -- A run that isn't counted, counted.
 use Rattle.std.proofs.Common.{◌≡◌, ℕ, zero, suc, ◌+◌, ◌-◌, ℤ, pos, List, [], ◌∷◌, ◌++◌, length, Option, Some, None, Bool, true, false, cond, refl, sym, ap, ◌∙◌, subst, arith}
-use Rattle.std.specs.Prelude.{slice_get, nat_lt}
+use Rattle.std.specs.Prelude.{slice_get, nat_eq, nat_lt}
 use Rattle.ada_base.specs.declared.reason.Reason.{Reason}
 use Rattle.ada_base.specs.declared.reason.Reason.TheVariants.{ConstraintError, StorageError}
 use Rattle.stack_code.specs.declared.code.Code.{Code}
@@ -8,9 +8,10 @@ use Rattle.stack_code.specs.declared.code.CodeSub.{CodeSub}
 use Rattle.stack_code.specs.declared.code.Unwind.{Unwind}
 use Rattle.stack_code.specs.declared.instr.Instr.{Instr}
 use Rattle.ada_base.specs.Cells.{Cell, seen, written}
-use Rattle.stack_code.specs.Deeds.{Deed, Lacks, GoesOn, Fails, Loads, Stores, Turns, Calls, CallsAt, Combines, Draws, Ends, Leaves, Forks, Nests, Unnests, Writes, Sends, Gets, Gives, deed_of}
-use Rattle.stack_code.specs.Machine.{Frame, State, Went, Goes, Stops, Stop, Done, Left, Asks, Constructs, Stuck, Astray, Spent, Cut, look_by, with_value, with_cells, cut, on, failed, entered, entered_at, ended, pushed_for, entry_of, handled, unwound, raised, turned, entering, entering_at, combining, drawing, ending, nesting, done, acted, stepped, step, going, run, Comes, Comes_to}
+use Rattle.stack_code.specs.Deeds.{Deed, Lacks, GoesOn, Fails, Loads, Stores, Turns, Calls, CallsAt, Combines, Draws, Repeats, Rounds, Ends, Leaves, Forks, Nests, Unnests, Writes, Sends, Gets, Gives, deed_of}
+use Rattle.stack_code.specs.Machine.{Frame, State, Went, Goes, Stops, Stop, Done, Left, Asks, Constructs, Stuck, Astray, Spent, Cut, look_by, with_value, with_cells, cut, on, moved_to, failed, entered, entered_at, ended, pushed_for, entry_of, handled, unwound, raised, turned, entering, entering_at, combining, drawing, another, rounding, ending, nesting, done, acted, stepped, step, going, run, Comes, Comes_to}
 use Rattle.stack_code.specs.declared.path.Io.TheVariants as io
+use Rattle.stack_code.specs.declared.path.Round.{Round}
 use Rattle.stack_code.specs.declared.path.Leave.TheVariants.{Raise as Raises}
 use Rattle.stack_code.specs.Runs.{IsAtLook}
 use Rattle.stack_code.specs.Looks.{counting, value_looks, cells_looks, kept_looks, raise_looks, deed_looks, act_looks, step_looks, looks_of, Counts, Looks, Looks_to}
@@ -67,6 +68,17 @@ module _ (limit : ℕ) (c : Code) where
   drawing_counts [] s e = still (on (pos 0 ∷ pos 0 ∷ s.stack) s) _ e (λ j. refl)
   drawing_counts (part ∷ parts) s e = still (on (pos 1 ∷ part ∷ s.stack) (record s { kept = parts })) _ e (λ j. refl)
 
+  another_counts : (to head more : ℕ) (rs : List Round) (s : State) → s.left ≡ None → Counts (another limit to head more rs s) 0 (λ n. another limit to head more rs (counting n s))
+  another_counts to head zero rs s e = still (on s.stack (record s { rounds = rs })) _ e (λ j. refl)
+  another_counts to head (suc k) rs s e =
+      let next : State = moved_to to s.stack (record s { rounds = record { more = k; head = head } ∷ rs }) in
+      cond_counts (nat_eq head to) (Goes next) (Goes (on s.stack (record s { rounds = rs }))) 0 (λ n. Goes (counting n next)) (λ n. Goes (on s.stack (counting n (record s { rounds = rs }))))
+      (still next _ e (λ j. refl)) (still (on s.stack (record s { rounds = rs })) _ e (λ j. refl))
+
+  rounding_counts : (to : ℕ) (rs : List Round) (s : State) → s.left ≡ None → Counts (rounding limit to rs s) 0 (λ n. rounding limit to rs (counting n s))
+  rounding_counts to [] s e = still (on s.stack s) _ e (λ j. refl)
+  rounding_counts to (r ∷ rs) s e = another_counts to r.head r.more rs s e
+
   ending_counts : (v : Option ℤ) (st : List ℤ) (fs : List Frame) (s : State) → s.left ≡ None → Counts (ending limit v st fs s) 0 (λ n. ending limit v st fs (counting n s))
   ending_counts v st [] s e = stops Astray s _ (λ j. refl)
   ending_counts v st (f ∷ fs) s e = still (ended f fs f.to (pushed_for v (cut s.floor st)) s) _ e (λ j. refl)
@@ -86,6 +98,8 @@ module _ (limit : ℕ) (c : Code) where
   done_counts (CallsAt f n to fit st) s e = turned_counts s (λ x. entering_at limit f n to fit (record x { stack = st })) e (entering_at_counts f n to fit (record s { turns = s.turns + 1; stack = st }) e)
   done_counts (Combines f acc st) s e = combining_counts f acc st s.kept s e
   done_counts Draws s e = drawing_counts s.kept s e
+  done_counts (Repeats n) s e = still (on s.stack (record s { rounds = record { more = n - 1; head = s.pc + 1 } ∷ s.rounds })) _ e (λ j. refl)
+  done_counts (Rounds to) s e = rounding_counts to s.rounds s e
   done_counts (Ends v st) s e = ending_counts v st s.waiting s e
   done_counts (Leaves l st) s e = stops (Left l) (record s { stack = st }) _ (λ j. refl)
   done_counts (Forks q st) s e = stops (Constructs q) (record s { stack = st }) _ (λ j. refl)

@@ -1,7 +1,7 @@
 -- A path in valid code keeps standing, and never goes astray.
 use Rattle.std.proofs.Common.{◌≡◌, ℕ, zero, suc, ◌+◌, ◌-◌, ◌<◌, ◌≤◌, ℤ, pos, List, [], ◌∷◌, length, get_or, Option, Some, None, Bool, true, false, cond, refl, sym, ap, ◌∙◌, subst, ⊎_elim, arith}
 use Rattle.std.proofs.lemmas.Bool.{false≢true, ltb-true, ltb-false}
-use Rattle.std.specs.Prelude.{IsSome, IsSomeAnd, slice_get, nat_lt}
+use Rattle.std.specs.Prelude.{IsSome, IsSomeAnd, slice_get, nat_eq, nat_lt}
 use Rattle.std.proofs.lemmas.List.{length-drop}
 use Rattle.std.proofs.lemmas.Option.{slice_get_within, slice_get-get_or}
 use Rattle.ada_base.specs.declared.reason.Reason.{Reason}
@@ -13,15 +13,16 @@ use Rattle.stack_code.specs.declared.code.CodeSub.{CodeSub}
 use Rattle.stack_code.specs.declared.code.Spot.{Spot}
 use Rattle.stack_code.specs.declared.code.Unwind.{Unwind}
 use Rattle.stack_code.specs.declared.instr.Instr.{Instr}
-use Rattle.stack_code.specs.declared.instr.Instr.TheVariants.{Fork, Outer, LoadO, StoreO, Call, CallAt, CallTo, Combine, Part, Turn, Nest, Unnest, Ret, RetV}
+use Rattle.stack_code.specs.declared.instr.Instr.TheVariants.{Fork, Outer, LoadO, StoreO, Call, CallAt, CallTo, Combine, Part, Repeat, Again, Turn, Nest, Unnest, Ret, RetV}
+use Rattle.stack_code.specs.declared.path.Round.{Round}
 use Rattle.stack_code.specs.declared.operands.Flow.{Flow}
-use Rattle.stack_code.specs.declared.operands.Flow.TheVariants.{On, To, Branch, Back, Ends as Nowhere}
+use Rattle.stack_code.specs.declared.operands.Flow.TheVariants.{On, To, Branch, Back, Round as RoundTo, Ends as Nowhere}
 use Rattle.stack_code.specs.Operands.{takes, taken_by, pushes, given_by, nest_after, flow_of}
 use Rattle.stack_code.specs.Valid.{Has, HasFrame, Lands, Leads, Belongs, SpotFits, IsValid, Holds, outward}
 use Rattle.ada_base.specs.Cells.{Cell, seen, written}
-use Rattle.stack_code.specs.Deeds.{Deed, Lacks, GoesOn, Fails, Loads, Stores, Turns, Calls, CallsAt, Combines, Draws, Ends, Leaves, Forks, Nests, Unnests, Writes, Sends, Gets, Gives, deed_of}
+use Rattle.stack_code.specs.Deeds.{Deed, Lacks, GoesOn, Fails, Loads, Stores, Turns, Calls, CallsAt, Combines, Draws, Repeats, Rounds, Ends, Leaves, Forks, Nests, Unnests, Writes, Sends, Gets, Gives, deed_of}
 use Rattle.stack_code.specs.Fits.{Finds, IsCallAt, IsFit, IsNext, IsCalm, IsReturn}
-use Rattle.stack_code.specs.Machine.{Frame, State, Went, Goes, look_by, look, with_value, with_cells, cut, on, failed, entered, entered_at, pushed_for, entry_of, handled, unwound, raised, turned, entering, calling, entering_at, calling_at, combining, drawing, ending, nesting, done, acted, stepped, step}
+use Rattle.stack_code.specs.Machine.{Frame, State, Went, Goes, look_by, look, with_value, with_cells, cut, on, moved_to, failed, entered, entered_at, pushed_for, entry_of, handled, unwound, raised, turned, entering, calling, entering_at, calling_at, combining, drawing, another, rounding, ending, nesting, done, acted, stepped, step}
 use Rattle.stack_code.specs.Stands.{IsOuter, IsCall, Waits, Chain, Height, StandsIn, Stands, Keeps}
 use Rattle.stack_code.proofs.Fits.{fits}
 
@@ -50,6 +51,7 @@ lands_next c pc b h n On to l e = subst (Lands c b h n) (sym e) l
 lands_next c pc b h n (To t) to l e = subst (Lands c b h n) (sym e) l
 lands_next c pc b h n (Branch t) to l e = ⊎_elim (λ (w : to ≡ t). subst (Lands c b h n) (sym w) l.0) (λ (w : to ≡ pc + 1). subst (Lands c b h n) (sym w) l.1) e
 lands_next c pc b h n (Back t) to l e = absurd e
+lands_next c pc b h n (RoundTo t) to l e = subst (Lands c b h n) (sym e) l.1
 lands_next c pc b h n Nowhere to l e = absurd e
 
 calm_nest : (i : Instr) → IsCalm i → (n : ℕ) → nest_after i n ≡ n
@@ -122,11 +124,11 @@ module _ (c : Code) (low : Around) (valid : IsValid c) where
     pub within : s.nest ≤ s.nested
     pub chain : Chain c low s.waiting spot.body s.floor (s.nested - s.nest) s.outward
 
-  -- at an instruction that may follow, with what it leaves
-  stands_to : (s : State) (i : Instr) (to : ℕ) (st : List ℤ) (nest nested : ℕ) → Here s i → IsNext s.pc (flow_of i) to → length st + takes c i ≡ length s.stack + pushes c i
+  -- at an instruction whose spot is the one that this one leaves
+  stands_landed : (s : State) (i : Instr) (to : ℕ) (st : List ℤ) (nest nested : ℕ) → (h : Here s i) → Lands c h.spot.body (h.spot.stack - takes c i + pushes c i) (nest_after i h.spot.nest) to → length st + takes c i ≡ length s.stack + pushes c i
       → nest_after i s.nest ≡ nest → nest ≤ nested → nested - nest ≡ s.nested - s.nest → StandsIn c low to st s.floor nest nested None s.waiting s.outward
-  stands_to s i to st nest nested h n l e w r =
-      let q = has_one (slice_get c.spots to) _ (lands_next c s.pc h.spot.body (h.spot.stack - takes c i + pushes c i) (nest_after i h.spot.nest) (flow_of i) to h.fits.leads n) in
+  stands_landed s i to st nest nested h n l e w r =
+      let q = has_one (slice_get c.spots to) _ n in
       let b : q.0.body ≡ h.spot.body = q.2.0 in
       record {
         spot = q.0;
@@ -137,14 +139,19 @@ module _ (c : Code) (low : Around) (valid : IsValid c) where
         chain = subst (λ a. Chain c low s.waiting a s.floor (nested - nest) s.outward) (sym b) (subst (λ k. Chain c low s.waiting h.spot.body s.floor k s.outward) (sym r) h.chain);
       }
 
+  -- at an instruction that may follow, with what it leaves
+  stands_to : (s : State) (i : Instr) (to : ℕ) (st : List ℤ) (nest nested : ℕ) → Here s i → IsNext s.pc (flow_of i) to → length st + takes c i ≡ length s.stack + pushes c i
+      → nest_after i s.nest ≡ nest → nest ≤ nested → nested - nest ≡ s.nested - s.nest → StandsIn c low to st s.floor nest nested None s.waiting s.outward
+  stands_to s i to st nest nested h n l e w r = stands_landed s i to st nest nested h (lands_next c s.pc h.spot.body (h.spot.stack - takes c i + pushes c i) (nest_after i h.spot.nest) (flow_of i) to h.fits.leads n) l e w r
+
   -- an exception is raised
   pub stands_failed : (s : State) (i : Instr) (r : Reason) (st : List ℤ) → Here s i → length s.stack ≤ length st + takes c i → StandsIn c low s.pc st s.floor s.nest s.nested (Some r) s.waiting s.outward
   stands_failed s i r st h l = record { spot = h.spot; at = h.at; height = (i, h.instr, omega (arith, l, h.height)); begun = h.nest; within = h.within; chain = h.chain }
 
   -- a call of a subprogram, whose operands are on top
   stands_entered : (s : State) (i : Instr) (sub : ℕ) (f : CodeSub) (to : ℕ) (kept st : List ℤ) → Here s i → slice_get c.subs sub ≡ Some f → 0 < sub
-      → IsCall i sub (record { at = s.pc; to = to; floor = s.floor; base = s.base; nest = s.nest; kept = kept; top = length s.cells }) → length st + takes c i ≡ length s.stack + f.takes → f.takes ≤ length st
-      → StandsIn c low f.entry st (length st - f.takes) 0 s.nested None (record { at = s.pc; to = to; floor = s.floor; base = s.base; nest = s.nest; kept = kept; top = length s.cells } ∷ s.waiting) s.outward
+      → IsCall i sub (record { at = s.pc; to = to; floor = s.floor; base = s.base; nest = s.nest; kept = kept; rounds = s.rounds; top = length s.cells }) → length st + takes c i ≡ length s.stack + f.takes → f.takes ≤ length st
+      → StandsIn c low f.entry st (length st - f.takes) 0 s.nested None (record { at = s.pc; to = to; floor = s.floor; base = s.base; nest = s.nest; kept = kept; rounds = s.rounds; top = length s.cells } ∷ s.waiting) s.outward
   stands_entered s i sub f to kept st h e z k l w =
       let q = has_one (slice_get c.spots f.entry) _ (valid.subs sub f e) in
       record {
@@ -164,12 +171,12 @@ module _ (c : Code) (low : Around) (valid : IsValid c) where
   later_call s sub h = h.fits.belongs.0
 
   entering_keeps : (s : State) (i : Instr) (sub : ℕ) (f : CodeSub) (to : ℕ) (kept st : List ℤ) (left : Option ℕ) (turns : ℕ) → Here s i → slice_get c.subs sub ≡ Some f → 0 < sub
-      → IsCall i sub (record { at = s.pc; to = to; floor = s.floor; base = s.base; nest = s.nest; kept = kept; top = length s.cells }) → length st + takes c i ≡ length s.stack + f.takes → f.takes ≤ length st
+      → IsCall i sub (record { at = s.pc; to = to; floor = s.floor; base = s.base; nest = s.nest; kept = kept; rounds = s.rounds; top = length s.cells }) → length st + takes c i ≡ length s.stack + f.takes → f.takes ≤ length st
       → Keeps c low (entering 0 f to kept (record s { stack = st; left = left; turns = turns }))
   entering_keeps s i sub f to kept st left turns h e z k l w = cond_keeps c low (nat_lt s.calls 1000)
       (Goes (entered f to kept (record s { stack = st; left = left; turns = turns })))
       (Goes (failed StorageError (cut (length st - f.takes) st) (record s { stack = st; left = left; turns = turns })))
-      (subst (λ o. StandsIn c low f.entry st (length st - f.takes) 0 s.nested o (record { at = s.pc; to = to; floor = s.floor; base = s.base; nest = s.nest; kept = kept; top = length s.cells } ∷ s.waiting) s.outward) (sym h.calm) (stands_entered s i sub f to kept st h e z k l w))
+      (subst (λ o. StandsIn c low f.entry st (length st - f.takes) 0 s.nested o (record { at = s.pc; to = to; floor = s.floor; base = s.base; nest = s.nest; kept = kept; rounds = s.rounds; top = length s.cells } ∷ s.waiting) s.outward) (sym h.calm) (stands_entered s i sub f to kept st h e z k l w))
       (stands_failed s i StorageError (cut (length st - f.takes) st) h (omega (arith, length_cut (length st - f.takes) st (omega arith), l, w)))
 
   -- the same with its frame from a cell of the own one on
@@ -182,7 +189,7 @@ module _ (c : Code) (low : Around) (valid : IsValid c) where
       → length st + takes c i ≡ length s.stack → Keeps c low (entering_at 0 f n to fit (record s { stack = st; left = left; turns = turns }))
   entering_at_keeps s i sub n to fit f st left turns h k e l =
       let x : State = record s { stack = st; left = left; turns = turns } in
-      let w : Frame = record { at = s.pc; to = to; floor = s.floor; base = s.base; nest = s.nest; kept = s.kept; top = length s.cells } in
+      let w : Frame = record { at = s.pc; to = to; floor = s.floor; base = s.base; nest = s.nest; kept = s.kept; rounds = s.rounds; top = length s.cells } in
       let call = called_at_here h.spot.body i s.pc sub n to w k h.fits.belongs refl refl in
       let none : f.takes ≡ 0 = has_fact (slice_get c.subs sub) (λ f. f.takes ≡ 0) f call.1 e in
       cond_keeps c low (nat_lt s.calls 1000)
@@ -317,6 +324,18 @@ module _ (c : Code) (low : Around) (valid : IsValid c) where
   drawing_keeps s limit [] h = on_keeps s Part (s.pc + 1) (pos 0 ∷ pos 0 ∷ s.stack) s.nest s.nested h refl (omega arith) refl h.within refl
   drawing_keeps s limit (part ∷ parts) h = on_keeps s Part (s.pc + 1) (pos 1 ∷ part ∷ s.stack) s.nest s.nested h refl (omega arith) refl h.within refl
 
+  another_keeps : (s : State) (limit to head more : ℕ) (rs : List Round) → Here s (Again to) → Keeps c low (another limit to head more rs s)
+  another_keeps s limit to head zero rs h = on_keeps s (Again to) (s.pc + 1) s.stack s.nest s.nested h refl refl refl h.within refl
+  another_keeps s limit to head (suc n) rs h = cond_keeps c low (nat_eq head to)
+      (Goes (moved_to to s.stack (record s { rounds = record { more = n; head = head } ∷ rs })))
+      (Goes (on s.stack (record s { rounds = rs })))
+      (subst (λ o. StandsIn c low to s.stack s.floor s.nest s.nested o s.waiting s.outward) (sym h.calm) (stands_landed s (Again to) to s.stack s.nest s.nested h h.fits.leads.0 refl refl h.within refl))
+      (on_keeps s (Again to) (s.pc + 1) s.stack s.nest s.nested h refl refl refl h.within refl)
+
+  rounding_keeps : (s : State) (limit to : ℕ) (rs : List Round) → Here s (Again to) → Keeps c low (rounding limit to rs s)
+  rounding_keeps s limit to [] h = on_keeps s (Again to) (s.pc + 1) s.stack s.nest s.nested h refl refl refl h.within refl
+  rounding_keeps s limit to (r ∷ rs) h = another_keeps s limit to r.head r.more rs h
+
   done_keeps : (d : Deed) (s : State) (i : Instr) (limit : ℕ) → Here s i → IsFit c s.pc s.stack i d → Keeps c low (done limit d s)
   done_keeps Lacks s i limit h f = f
   done_keeps (GoesOn to st) s i limit h f = on_keeps s i to st s.nest s.nested h f.1 f.0 (calm_nest i f.2 s.nest) h.within refl
@@ -333,6 +352,8 @@ module _ (c : Code) (low : Around) (valid : IsValid c) where
   done_keeps (CallsAt f n to fit st) s i limit h w = calls_at_keeps s i f n to fit st limit h w
   done_keeps (Combines f acc st) s i limit h w = combining_keeps s w.0 f acc st s.kept limit (subst (Here s) w.1 h) w.2 w.3
   done_keeps Draws s i limit h w = drawing_keeps s limit s.kept (subst (Here s) w h)
+  done_keeps (Repeats n) s i limit h w = let g : Here s (Repeat n) = subst (Here s) w h in on_keeps s (Repeat n) (s.pc + 1) s.stack s.nest s.nested g refl refl refl g.within refl
+  done_keeps (Rounds to) s i limit h w = rounding_keeps s limit to s.rounds (subst (Here s) w h)
   done_keeps (Ends v st) s i limit h f = ending_keeps s i v st s.waiting h.spot h f.0 (omega (arith, f.1, h.height, h.fits.operands)) h.fits h.chain
   done_keeps (Leaves l st) s i limit h f = tt
   done_keeps (Forks q st) s i limit h f =

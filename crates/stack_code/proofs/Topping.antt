@@ -1,6 +1,6 @@
 -- Calls begin frames above those that wait, and returns take them off again.
 use Rattle.std.proofs.Common.{◌≡◌, ℕ, zero, suc, ◌+◌, ◌-◌, ◌≤◌, ℤ, pos, negsuc, List, [], ◌∷◌, length, take, Option, Some, None, Bool, true, false, cond, refl, sym, ap, ◌∙◌, subst, arith}
-use Rattle.std.specs.Prelude.{slice_get, set, nat_lt}
+use Rattle.std.specs.Prelude.{slice_get, set, nat_eq, nat_lt}
 use Rattle.std.proofs.lemmas.List.{length-append, length-take}
 use Rattle.ada_base.specs.declared.reason.Reason.{Reason}
 use Rattle.ada_base.specs.declared.reason.Reason.TheVariants.{ConstraintError, StorageError}
@@ -9,8 +9,9 @@ use Rattle.stack_code.specs.declared.code.Code.{Code}
 use Rattle.stack_code.specs.declared.code.CodeSub.{CodeSub}
 use Rattle.stack_code.specs.declared.code.Unwind.{Unwind}
 use Rattle.stack_code.specs.declared.instr.Instr.{Instr}
-use Rattle.stack_code.specs.Deeds.{Deed, Lacks, GoesOn, Fails, Loads, Stores, Turns, Calls, CallsAt, Combines, Draws, Ends, Leaves, Forks, Nests, Unnests, Writes, Sends, Gets, Gives, deed_of}
-use Rattle.stack_code.specs.Machine.{Frame, State, Went, Goes, Stops, Spent, look_by, with_value, with_cells, cut, on, failed, entered, entered_at, ended, pushed_for, entry_of, handled, unwound, raised, turned, entering, entering_at, combining, drawing, ending, nesting, done, acted, stepped, step, going, run, Comes}
+use Rattle.stack_code.specs.declared.path.Round.{Round}
+use Rattle.stack_code.specs.Deeds.{Deed, Lacks, GoesOn, Fails, Loads, Stores, Turns, Calls, CallsAt, Combines, Draws, Repeats, Rounds, Ends, Leaves, Forks, Nests, Unnests, Writes, Sends, Gets, Gives, deed_of}
+use Rattle.stack_code.specs.Machine.{Frame, State, Went, Goes, Stops, Spent, look_by, with_value, with_cells, cut, on, moved_to, failed, entered, entered_at, ended, pushed_for, entry_of, handled, unwound, raised, turned, entering, entering_at, combining, drawing, another, rounding, ending, nesting, done, acted, stepped, step, going, run, Comes}
 use Rattle.stack_code.specs.Tops.{AreTops, IsTopped, StaysTopped}
 use Rattle.stack_code.proofs.Framing.{mine_of, set_length}
 
@@ -60,6 +61,14 @@ module _ (low : ℕ) where
     drawing_tops [] s t = t
     drawing_tops (part ∷ parts) s t = t
 
+    another_tops : (to head more : ℕ) (rs : List Round) (s : State) → IsTopped low s → StaysTopped low (another limit to head more rs s)
+    another_tops to head zero rs s t = t
+    another_tops to head (suc n) rs s t = cond_tops (nat_eq head to) (Goes (moved_to to s.stack (record s { rounds = record { more = n; head = head } ∷ rs }))) (Goes (on s.stack (record s { rounds = rs }))) t t
+
+    rounding_tops : (to : ℕ) (rs : List Round) (s : State) → IsTopped low s → StaysTopped low (rounding limit to rs s)
+    rounding_tops to [] s t = t
+    rounding_tops to (r ∷ rs) s t = another_tops to r.head r.more rs s t
+
     ended_tops : (s : State) (f : Frame) (fs : List Frame) (to : ℕ) (st : List ℤ) → s.waiting ≡ f ∷ fs → IsTopped low s → IsTopped low (ended f fs to st s)
     ended_tops s f fs to st e t =
         let a : AreTops low (f ∷ fs) (length s.cells) = subst (λ x. AreTops low x (length s.cells)) e t in
@@ -84,6 +93,8 @@ module _ (low : ℕ) where
     done_tops (CallsAt f n to fit st) s t = turned_tops s (λ x. entering_at limit f n to fit (record x { stack = st })) t (λ l k. entering_at_tops f n to fit (record s { left = l; turns = k; stack = st }) t)
     done_tops (Combines f acc st) s t = combining_tops f acc st s.kept s t
     done_tops Draws s t = drawing_tops s.kept s t
+    done_tops (Repeats n) s t = t
+    done_tops (Rounds to) s t = rounding_tops to s.rounds s t
     done_tops (Ends v st) s t = ending_tops v st s.waiting s refl t
     done_tops (Leaves l st) s t = t
     done_tops (Forks q st) s t = t

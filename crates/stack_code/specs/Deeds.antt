@@ -10,7 +10,7 @@ use Rattle.ada_base.specs.declared.reason.Reason.TheVariants.{ConstraintError, P
 use Rattle.ada_base.specs.Operation.{within, result_of}
 use Rattle.ada_base.specs.Image.{image, truth_image, padded}
 use Rattle.stack_code.specs.declared.instr.Instr.{Instr}
-use Rattle.stack_code.specs.declared.instr.Instr.TheVariants.{Push, Pop, Dup, Swap, Local, Outer, Global, Index, Field, Load, Store, Copy, Fill, Add, Sub, Mul, Div, Mod, Rem, Pow, Neg, Abs, Max, Min, Eq, Ne, Lt, Le, Gt, Ge, And, Or, Xor, Not, Range, Jump, JFalse, JTrue, Turn, Call, CallAt, CallTo, Ret, RetV, Raise, Reraise, Exit, Leave as LeaveNow, LeaveV, Fork, Nest, Unnest, Words, Img, Bool as BoolImage, Wide, Send, SendLn, Get, End, EndV, Halt, Combine, Part, LoadL, LoadO, LoadG, StoreL, StoreO, StoreG, AddI, IndexL, Item, ItemL, JfEq, JfNe, JfLt, JfLe, JfGt, JfGe, Next, Prior, Flip, Differ}
+use Rattle.stack_code.specs.declared.instr.Instr.TheVariants.{Push, Pop, Dup, Swap, Local, Outer, Global, Index, Field, Load, Store, Copy, Fill, Add, Sub, Mul, Div, Mod, Rem, Pow, Neg, Abs, Max, Min, Eq, Ne, Lt, Le, Gt, Ge, And, Or, Xor, Not, Range, Jump, JFalse, JTrue, Turn, Call, CallAt, CallTo, Ret, RetV, Raise, Reraise, Exit, Leave as LeaveNow, LeaveV, Fork, Nest, Unnest, Words, Img, Bool as BoolImage, Wide, Send, SendLn, Get, End, EndV, Halt, Combine, Part, Repeat, Again, LoadL, LoadO, LoadG, StoreL, StoreO, StoreG, AddI, IndexL, Item, ItemL, JfEq, JfNe, JfLt, JfLe, JfGt, JfGe, Next, Prior, Flip, Differ}
 use Rattle.stack_code.specs.declared.code.Code.{Code}
 use Rattle.stack_code.specs.declared.operators.Relation.{Relation}
 use Rattle.stack_code.specs.declared.operators.Relation.TheVariants.{Equal, Unequal, Less, AtMost, Greater, AtLeast}
@@ -100,6 +100,8 @@ pub data Deed : Type 0 where
   CallsAt : CodeSub → (cell to : ℕ) → (fit : Bool) → (stack : List ℤ) → Deed
   Combines : CodeSub → (acc : ℤ) (stack : List ℤ) → Deed
   Draws : Deed  -- takes off the next accumulator that is kept
+  Repeats : (rounds : ℕ) → Deed  -- begins a part that is done so many times
+  Rounds : (head : ℕ) → Deed  -- ends a round of the part whose rounds begin there
   Ends : (value : Option ℤ) (stack : List ℤ) → Deed  -- ends the subprogram
   Leaves : Leave → (stack : List ℤ) → Deed
   Forks : Asked → (stack : List ℤ) → Deed
@@ -277,6 +279,8 @@ deed_of c pc st base outward EndV = on_one st (λ x st. Gives (Some x) st)
 deed_of c pc st base outward Halt = Gives None st
 deed_of c pc st base outward (Combine sub) = on_one st (λ acc st. combining (slice_get c.subs sub) acc st)
 deed_of c pc st base outward Part = Draws
+deed_of c pc st base outward (Repeat n) = Repeats n
+deed_of c pc st base outward (Again to) = Rounds to
 -- the fused ones
 deed_of c pc st base outward (LoadL n) = load_from pc st (pos (base + n))
 deed_of c pc st base outward (LoadO k n) = load_of_frame pc st (slice_get outward (k - 1)) n

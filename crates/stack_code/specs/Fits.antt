@@ -2,11 +2,11 @@
 use Rattle.std.specs.Prelude.{◌≡◌, ℕ, ◌+◌, ◌<◌, ◌≤◌, ◌⊎◌, ℤ, List, ◌∷◌, length, Option, Some, None, IsSome, slice_get}
 use Rattle.stack_code.specs.declared.code.Code.{Code}
 use Rattle.stack_code.specs.declared.instr.Instr.{Instr}
-use Rattle.stack_code.specs.declared.instr.Instr.TheVariants.{Outer, LoadO, StoreO, Call, CallAt, CallTo, Combine, Part, Nest, Unnest, Ret, RetV, Turn, Fork, Send, SendLn, Get}
+use Rattle.stack_code.specs.declared.instr.Instr.TheVariants.{Outer, LoadO, StoreO, Call, CallAt, CallTo, Combine, Part, Repeat, Again, Nest, Unnest, Ret, RetV, Turn, Fork, Send, SendLn, Get}
 use Rattle.stack_code.specs.declared.operands.Flow.{Flow}
-use Rattle.stack_code.specs.declared.operands.Flow.TheVariants.{On, To, Branch, Back, Ends as Nowhere}
+use Rattle.stack_code.specs.declared.operands.Flow.TheVariants.{On, To, Branch, Back, Round, Ends as Nowhere}
 use Rattle.stack_code.specs.Operands.{takes, pushes, flow_of}
-use Rattle.stack_code.specs.Deeds.{Deed, Lacks, GoesOn, Fails, Loads, Stores, Turns, Calls, CallsAt, Combines, Draws, Ends, Nests, Unnests, Writes, Forks, Sends, Gets}
+use Rattle.stack_code.specs.Deeds.{Deed, Lacks, GoesOn, Fails, Loads, Stores, Turns, Calls, CallsAt, Combines, Draws, Repeats, Rounds, Ends, Nests, Unnests, Writes, Forks, Sends, Gets}
 
 -- the frames that an instruction names, and the subprogram that it calls
 abbrev pub Finds : Code → List ℕ → Instr → Type 0
@@ -19,12 +19,13 @@ Finds c outward (CallAt sub n) = IsSome (slice_get c.subs sub)
 Finds c outward (CallTo sub n to) = IsSome (slice_get c.subs sub)
 Finds c outward _ = Unit {0}
 
--- an instruction that may follow at once
+-- an instruction that may follow at once, where no further round begins
 abbrev pub IsNext : ℕ → Flow → ℕ → Type 0
 IsNext pc On to = to ≡ pc + 1
 IsNext pc (To t) to = to ≡ t
 IsNext pc (Branch t) to = (to ≡ t) ⊎ (to ≡ pc + 1)
 IsNext pc (Back t) to = ⊥
+IsNext pc (Round t) to = to ≡ pc + 1
 IsNext pc Nowhere to = ⊥
 
 -- it neither begins nor ends a construct, nor begins a turn
@@ -58,6 +59,8 @@ IsFit c pc st i (Calls f) = (k : ℕ) × (i ≡ Call k) × (slice_get c.subs k �
 IsFit c pc st i (CallsAt f n to fit st') = (k : ℕ) × IsCallAt pc i k n to × (slice_get c.subs k ≡ Some f) × (length st' + takes c i ≡ length st)
 IsFit c pc st i (Combines f acc st') = (k : ℕ) × (i ≡ Combine k) × (slice_get c.subs k ≡ Some f) × (st ≡ acc ∷ st')
 IsFit c pc st i Draws = i ≡ Part
+IsFit c pc st i (Repeats n) = i ≡ Repeat n
+IsFit c pc st i (Rounds head) = i ≡ Again head
 IsFit c pc st i (Ends v st') = IsReturn i v × (length st' + takes c i ≡ length st)
 IsFit c pc st i Nests = i ≡ Nest
 IsFit c pc st i Unnests = i ≡ Unnest

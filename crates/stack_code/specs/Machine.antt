@@ -1,5 +1,5 @@
 -- What the machine does: one instruction of one path, as a function of the path's state.
-use Rattle.std.specs.Prelude.{◌≡◌, ℕ, zero, suc, ◌+◌, ◌-◌, ℤ, pos, List, [], ◌∷◌, ◌++◌, length, drop, take, Option, Some, None, slice_get, cond, nat_lt, Bool}
+use Rattle.std.specs.Prelude.{◌≡◌, ℕ, zero, suc, ◌+◌, ◌-◌, ℤ, pos, List, [], ◌∷◌, ◌++◌, length, drop, take, Option, Some, None, slice_get, cond, nat_eq, nat_lt, Bool}
 use Rattle.ada_base.specs.declared.reason.Reason.{Reason}
 use Rattle.ada_base.specs.declared.reason.Reason.TheVariants.{ConstraintError, StorageError}
 use Rattle.stack_code.specs.declared.instr.Instr.{Instr}
@@ -14,13 +14,14 @@ use Rattle.stack_code.specs.declared.path.Io.{Io}
 use Rattle.stack_code.specs.declared.path.Io.TheVariants as io
 use Rattle.stack_code.specs.declared.path.Leave.{Leave}
 use Rattle.stack_code.specs.declared.path.Leave.TheVariants.{Exit as Exits, Return as Returns, Raise as Raises}
+use Rattle.stack_code.specs.declared.path.Round.{Round}
 use Rattle.stack_code.specs.Listing.{reason_number}
 use Rattle.ada_base.specs.Cells.{Cell, seen, written, zeros}
-use Rattle.stack_code.specs.Deeds.{Deed, Lacks, GoesOn, Fails, Loads, Stores, Turns, Calls, CallsAt, Combines, Draws, Ends, Leaves, Forks, Nests, Unnests, Writes, Sends, Gets, Gives, deed_of}
+use Rattle.stack_code.specs.Deeds.{Deed, Lacks, GoesOn, Fails, Loads, Stores, Turns, Calls, CallsAt, Combines, Draws, Repeats, Rounds, Ends, Leaves, Forks, Nests, Unnests, Writes, Sends, Gets, Gives, deed_of}
 
 -- a body that waits for its call, which stands at that instruction, and where it goes on; what is its own: where its
--- operands and its frame begin, the constructs begun in it, the accumulators that its last fork kept, and where the cells
--- ended
+-- operands and its frame begin, the constructs begun in it, the accumulators that its last fork kept, the parts that it
+-- repeats, and where the cells ended
 pub record Frame : Type 0 where
   pub at : ℕ
   pub to : ℕ
@@ -28,6 +29,7 @@ pub record Frame : Type 0 where
   pub base : ℕ
   pub nest : ℕ
   pub kept : List ℤ
+  pub rounds : List Round
   pub top : ℕ
 
 pub record State : Type 0 where
@@ -38,6 +40,8 @@ pub record State : Type 0 where
   -- the constructs begun in the own body, and the accumulators that its last fork kept
   pub nest : ℕ
   pub kept : List ℤ
+  -- the parts that are being repeated in the own body, the innermost first
+  pub rounds : List Round
   -- where the own frame begins, and the frames outward from a thread's own
   pub base : ℕ
   pub outward : List ℕ
@@ -110,8 +114,9 @@ entered f to kept s = record s {
   floor = length s.stack - f.takes;
   nest = 0;
   kept = [];
+  rounds = [];
   base = length s.cells;
-  waiting = record { at = s.pc; to = to; floor = s.floor; base = s.base; nest = s.nest; kept = kept; top = length s.cells } ∷ s.waiting;
+  waiting = record { at = s.pc; to = to; floor = s.floor; base = s.base; nest = s.nest; kept = kept; rounds = s.rounds; top = length s.cells } ∷ s.waiting;
   calls = s.calls + 1;
   cells = s.cells ++ zeros f.frame;
 }
@@ -123,8 +128,9 @@ entered_at f n to s = record s {
   floor = length s.stack;
   nest = 0;
   kept = [];
+  rounds = [];
   base = s.base + n;
-  waiting = record { at = s.pc; to = to; floor = s.floor; base = s.base; nest = s.nest; kept = s.kept; top = length s.cells } ∷ s.waiting;
+  waiting = record { at = s.pc; to = to; floor = s.floor; base = s.base; nest = s.nest; kept = s.kept; rounds = s.rounds; top = length s.cells } ∷ s.waiting;
   calls = s.calls + 1;
   cells = s.cells ++ zeros (s.base + n + f.frame - length s.cells);
 }
@@ -141,6 +147,7 @@ ended f fs to st s = record s {
   floor = f.floor;
   nest = f.nest;
   kept = f.kept;
+  rounds = f.rounds;
   base = f.base;
   waiting = fs;
   calls = s.calls - 1;
@@ -155,13 +162,14 @@ abbrev pub entry_of : List Unwind → ℕ → Option Unwind
 entry_of [] q = None
 entry_of (u ∷ us) q = cond (nat_lt q u.from) (entry_of us q) (cond (nat_lt q u.to) (Some u) (entry_of us q))
 
--- the handler begins; accumulators that were to be combined are gone
+-- the handler begins; accumulators that were to be combined are gone, and no part is repeated any more
 abbrev pub handled : Unwind → Reason → State → State
 handled u r s = record s {
   pc = u.handler;
   stack = pos (reason_number r) ∷ cut (s.floor + u.depth) s.stack;
   nest = u.nest;
   kept = [];
+  rounds = [];
   nested = s.nested - (s.nest - u.nest);
   raising = None;
 }
@@ -210,6 +218,17 @@ module _ (limit : ℕ) where
   drawing [] s = Goes (on (pos 0 ∷ pos 0 ∷ s.stack) s)
   drawing (part ∷ parts) s = Goes (on (pos 1 ∷ part ∷ s.stack) (record s { kept = parts }))
 
+  -- another round of a part follows, and begins at the one instruction: it does at the other
+  abbrev pub another : (to head more : ℕ) → List Round → State → Went
+  another to head zero rs s = Goes (on s.stack (record s { rounds = rs }))
+  another to head (suc n) rs s = cond (nat_eq head to)
+      (Goes (moved_to to s.stack (record s { rounds = record { more = n; head = head } ∷ rs })))
+      (Goes (on s.stack (record s { rounds = rs })))
+
+  abbrev pub rounding : ℕ → List Round → State → Went
+  rounding to [] s = Goes (on s.stack s)
+  rounding to (r ∷ rs) s = another to r.head r.more rs s
+
   abbrev pub ending : Option ℤ → List ℤ → List Frame → State → Went
   ending v st [] s = Stops Astray s
   ending v st (f ∷ fs) s = Goes (ended f fs f.to (pushed_for v (cut s.floor st)) s)
@@ -231,6 +250,8 @@ module _ (limit : ℕ) where
   done (CallsAt f n to fit st) s = calling_at f n to fit st s
   done (Combines f acc st) s = combining f acc st s.kept s
   done Draws s = drawing s.kept s
+  done (Repeats n) s = Goes (on s.stack (record s { rounds = record { more = n - 1; head = s.pc + 1 } ∷ s.rounds }))
+  done (Rounds head) s = rounding head s.rounds s
   done (Ends v st) s = ending v st s.waiting s
   done (Leaves l st) s = Stops (Left l) (record s { stack = st })
   done (Forks q st) s = Stops (Constructs q) (record s { stack = st })
@@ -326,6 +347,7 @@ begun entry base outward turns calls nested left cells = record {
   floor = 0;
   nest = 0;
   kept = [];
+  rounds = [];
   base = base;
   outward = outward;
   waiting = [];

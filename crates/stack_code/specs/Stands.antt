@@ -1,6 +1,6 @@
 -- A path that stands in valid code: it has the operands and the constructs begun that its spot tells, and so have the bodies
 -- that wait for their calls.
-use Rattle.std.specs.Prelude.{◌≡◌, ℕ, ◌+◌, ◌-◌, ◌*◌, ◌<◌, ◌≤◌, ◌⊎◌, ℤ, List, [], ◌∷◌, length, Option, Some, None, IsSome, slice_get}
+use Rattle.std.specs.Prelude.{◌≡◌, ℕ, suc, ◌+◌, ◌-◌, ◌*◌, ◌<◌, ◌≤◌, ◌⊎◌, ℤ, List, [], ◌∷◌, length, drop, Option, Some, None, IsSome, slice_get}
 use Rattle.ada_base.specs.declared.reason.Reason.{Reason}
 use Rattle.stack_code.specs.declared.code.Around.{Around}
 use Rattle.stack_code.specs.declared.code.Around.TheVariants.{Sub, Site}
@@ -8,9 +8,10 @@ use Rattle.stack_code.specs.declared.code.Code.{Code}
 use Rattle.stack_code.specs.declared.code.Spot.{Spot}
 use Rattle.stack_code.specs.declared.code.Unwind.{Unwind}
 use Rattle.stack_code.specs.declared.instr.Instr.{Instr}
-use Rattle.stack_code.specs.declared.instr.Instr.TheVariants.{Call, CallAt, CallTo, Combine, Fork, Turn}
+use Rattle.stack_code.specs.declared.instr.Instr.TheVariants.{Call, CallAt, CallTo, Combine, Fork, Turn, Repeat}
+use Rattle.stack_code.specs.declared.path.Round.{Round}
 use Rattle.stack_code.specs.declared.operands.Flow.{Flow}
-use Rattle.stack_code.specs.declared.operands.Flow.TheVariants.{On, To, Branch, Back, Ends}
+use Rattle.stack_code.specs.declared.operands.Flow.TheVariants.{On, To, Branch, Back, Round as RoundTo, Ends}
 use Rattle.stack_code.specs.Operands.{takes, flow_of}
 use Rattle.stack_code.specs.Valid.{Holds, outward}
 use Rattle.stack_code.specs.Machine.{Frame, State, Went, Goes, Stops, Asks, Constructs, Astray}
@@ -92,12 +93,14 @@ Keeps c low (Stops _ s) = Unit {0}
 
 -- ---- what falls at each step
 
--- an instruction that a jump leads to; a call that comes back is none, for there is one call less that waits then
+-- an instruction that a jump leads to; a call that comes back is none, for there is one call less that waits then, nor is
+-- another round, for there is one less that follows
 abbrev pub IsTarget : Flow → ℕ → Type 0
 IsTarget On t = ⊥
 IsTarget (To u) t = t ≡ u
 IsTarget (Branch u) t = t ≡ u
 IsTarget (Back u) t = ⊥
+IsTarget (RoundTo u) t = ⊥
 IsTarget Ends t = ⊥
 
 -- a jump leads forward, or to a turn, and an unwind entry to an instruction after those that it holds
@@ -110,14 +113,35 @@ abbrev pub wait : Option Instr → ℕ → ℕ
 wait (Some Turn) n = 0
 wait o n = n
 
+-- how many instructions are done at most from a list's beginning to its end, where all jumps lead forward: a part that is
+-- repeated costs no more than all that follows, so many times
+abbrev pub cost : List Instr → ℕ
+cost [] = 0
+cost (Repeat n ∷ is) = suc (cost is + (n - 1) * cost is)
+cost (i ∷ is) = suc (cost is)
+
+-- from an instruction on
+abbrev pub cost_from : Code → ℕ → ℕ
+cost_from c pc = cost (drop pc c.instrs)
+
+-- the rounds that follow of the parts that are repeated
+abbrev pub cost_of_rounds : Code → List Round → ℕ
+cost_of_rounds c [] = 0
+cost_of_rounds c (r ∷ rs) = r.more * (2 * cost_from c r.head) + cost_of_rounds c rs
+
+-- also in the bodies that wait
+abbrev pub cost_of_waiting : Code → List Frame → ℕ
+cost_of_waiting c [] = 0
+cost_of_waiting c (f ∷ fs) = cost_of_rounds c f.rounds + cost_of_waiting c fs
+
 -- the way to the end of the code, or to a turn
 abbrev pub way : Code → Option Reason → ℕ → ℕ
-way c None pc = 2 * (wait (slice_get c.instrs pc) (length c.instrs + 1) + (length c.instrs - pc)) + 1
-way c (Some r) pc = 2 * (length c.instrs + 1 + (length c.instrs - pc))
+way c None pc = 2 * (wait (slice_get c.instrs pc) (cost c.instrs + 1) + cost_from c pc) + 1
+way c (Some r) pc = 2 * (cost c.instrs + 1 + cost_from c pc)
 
--- the turns that are left twice, and the calls that wait; then the way
+-- the turns that are left twice, and the calls that wait; then the way, and what rounds cost that follow
 abbrev pub rank : Code → ℕ → State → ℕ
-rank c limit s = (2 * (limit - s.turns) + length s.waiting) * (4 * length c.instrs + 4) + way c s.raising s.pc
+rank c limit s = (2 * (limit - s.turns) + length s.waiting) * (4 * cost c.instrs + 4) + way c s.raising s.pc + (cost_of_rounds c s.rounds + cost_of_waiting c s.waiting)
 
 abbrev pub Falls : Code → ℕ → ℕ → Went → Type 0
 Falls c limit r (Goes s) = (rank c limit s < r) × (s.turns ≤ limit)

@@ -12,7 +12,7 @@ use Rattle.stack_code.specs.declared.code.SiteKind.TheVariants.{Reduction, Chunk
 use Rattle.stack_code.specs.declared.code.Spot.{Spot}
 use Rattle.stack_code.specs.declared.code.Unwind.{Unwind}
 use Rattle.stack_code.specs.declared.operands.Flow.{Flow}
-use Rattle.stack_code.specs.declared.operands.Flow.TheVariants.{On, To, Branch, Back, Ends}
+use Rattle.stack_code.specs.declared.operands.Flow.TheVariants.{On, To, Branch, Back, Round, Ends}
 use Rattle.stack_code.specs.Operands.{takes, pushes, ends_of, nest_after, flow_of, is_reduction}
 
 -- each item of a list, with its number
@@ -76,6 +76,7 @@ Leads c at body height nest On = Lands c body height nest (at + 1)
 Leads c at body height nest (To t) = Lands c body height nest t
 Leads c at body height nest (Branch t) = Lands c body height nest t × Lands c body height nest (at + 1)
 Leads c at body height nest (Back t) = Lands c body height nest t
+Leads c at body height nest (Round t) = Lands c body height nest t × Lands c body height nest (at + 1)
 Leads c at body height nest Ends = Unit {0}
 
 -- a reduction by a function

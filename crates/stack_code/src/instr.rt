@@ -134,6 +134,11 @@ pub enum Instr {
     /// Takes off the next accumulator that the last fork of this body kept, and pushes it and 1; where none is left it
     /// pushes 0 and 0.
     Part,
+    /// Begins a part that is done so many times, once at least; each round begins at the next instruction.
+    Repeat(u64),
+    /// The end of a round: where another one follows, and rounds begin at that instruction, it begins; else the part is
+    /// done.
+    Again(u32),
     /// The following do what several of those above do one after another. Pushes a cell of the own frame: `Local`,
     /// `Load`.
     LoadL(u32),

@@ -15,6 +15,8 @@ pub enum Flow {
     Branch(u32),
     /// That one follows once the call has ended.
     Back(u32),
+    /// That one follows where it begins another round, or the next.
+    Round(u32),
     /// None does.
     Ends,
 }
@@ -127,6 +129,8 @@ pub fn takes_of(code: &Code, instr: Instr) -> u32
         | Instr::Global(_)
         | Instr::CallAt(_, _)
         | Instr::Part
+        | Instr::Repeat(_)
+        | Instr::Again(_)
         | Instr::Jump(_)
         | Instr::Turn
         | Instr::Ret
@@ -224,6 +228,8 @@ pub fn pushes_of(code: &Code, instr: Instr) -> u32
         | Instr::End
         | Instr::EndV
         | Instr::Halt
+        | Instr::Repeat(_)
+        | Instr::Again(_)
         | Instr::StoreL(_)
         | Instr::StoreO(_, _)
         | Instr::StoreG(_)
@@ -276,6 +282,7 @@ pub fn flow_of(instr: Instr) -> Flow
         | Instr::Next(_, _, to)
         | Instr::Prior(_, _, to) => Flow::Branch(to),
         Instr::CallTo(_, _, to) => Flow::Back(to),
+        Instr::Again(to) => Flow::Round(to),
         Instr::Ret
         | Instr::RetV
         | Instr::Raise(_)
