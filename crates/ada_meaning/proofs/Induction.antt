@@ -1,5 +1,5 @@
 -- Two readings of the operations that are related, operation by operation, give related meanings to every program.
-use Rattle.std.proofs.Common.{◌≡◌, ℕ, zero, suc, ◌+◌, ◌*◌, min, ℤ, pos, ◌-ℤ◌, int_lt, int_le, nat_lt, nat_le, List, [], ◌∷◌, ◌++◌, slice_get, Option, Some, None, Bool, true, false, not, cond, ◌&&◌, ◌||◌, refl, true≢false, ◌∙◌, sym}
+use Rattle.std.proofs.Common.{is_some, ◌≡◌, ℕ, zero, suc, ◌+◌, ◌*◌, min, ℤ, pos, ◌-ℤ◌, int_lt, int_le, nat_lt, nat_le, List, [], ◌∷◌, ◌++◌, slice_get, Option, Some, None, Bool, true, false, not, cond, ◌&&◌, ◌||◌, refl, true≢false, ◌∙◌, sym}
 use Rattle.ada_base.specs.declared.operation.Op.{Op}
 use Rattle.ada_base.specs.declared.reason.Reason.{Reason}
 use Rattle.ada_base.specs.declared.reason.Reason.TheVariants as reason
@@ -22,7 +22,6 @@ use Rattle.behaviours.specs.Joins.{Site}
 use Rattle.behaviours.specs.Paths.{Leave, Exits, Returns, Raises, Entity, VariableOf, ConstantOf, Region, Everywhere, Here}
 use Rattle.ada_meaning.specs.Values.{result, truth, bit, is_in, between, to_nat, count, base_of, unary, is_zero, divides, overflows, value_or_zero, defaults, laid, zeros, image_of, handles_reason, is_chosen}
 use Rattle.ada_meaning.specs.Operations.{CheckKind, RangeCheck, IndexCheck, OverflowCheck, ZeroCheck, Cut, Sized, Operations, zero_checked, overflow_checked, operate, reduce}
-use Rattle.ada_meaning.specs.Turns.{takes_turns}
 use Rattle.ada_meaning.specs.Meaning
 use Rattle.ada_meaning.specs.Meaning.{ObjectPart, Env, Back, Passed, Returned, outset, with_target, with_handled, inside, variable_root, constant_root, array_root, iterated_env, cut_of, value_cut_of, arms_of, exits, returns, raises, value_of, reason_of, has_handlers, sub_at, moved, object_layout, most_nested, most_threads, most_iterations, most_calls}
 use Rattle.ada_meaning.specs.Nonblocking.{MayCall, MayReduce, KeepsExpr, KeepsOptional, KeepsSelections, KeepsActuals, KeepsValue, KeepsComposite, KeepsAssociations, KeepsIteration, KeepsChunk, KeepsPieces, KeepsDecls, Keeps, KeepsAll, KeepsAlternatives, KeepsArms, KeepsHandlers, KeepsBody, KeepsSubs, KeepsRule, nonblocking_of}
@@ -265,7 +264,7 @@ module _ {ℓ κ ν} {o : Operations {ℓ}} {q : Operations {κ}} (rel : Relates
         pub associated : (a : Associations) (env : Env) (so_far : List ℤ) (h : Spot) → KeepsAssociations nonblocking a h.blocking → R h.world (Meaning.associated o limit program calls a env so_far) (Meaning.associated q limit program calls' a env so_far)
         associated NoAssociation env so_far h k = rel.ret h.world so_far
         associated (Association runs i mentions value rest) env so_far h k =
-            rel.bind h.world (all_runs h.world runs so_far (λ n. rel.bind h.world (value_turns h.world (takes_turns runs i value)) (λ _. cells value (iterated_env i n env) h k.1))) (λ cs. associated rest env cs h k.2)
+            rel.bind h.world (all_runs h.world runs so_far (λ n. rel.bind h.world (value_turns h.world (is_some i)) (λ _. cells value (iterated_env i n env) h k.1))) (λ cs. associated rest env cs h k.2)
 
         pub course : (i : Iteration) (env : Env) (h : Spot) → KeepsIteration nonblocking i h.blocking → R h.world (Meaning.course o limit program calls i env) (Meaning.course q limit program calls' i env)
         course (Range x reverse low high c filter) env h k = rel.bind h.world (eval low env h k.0) (λ l. rel.bind h.world (eval high env h k.1) (λ u. rel.bind h.world (bounds h.world c l u) (λ _. rel.ret h.world _)))

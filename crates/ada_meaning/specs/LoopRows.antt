@@ -191,7 +191,7 @@ abbrev pub AllRaise : Type 0
 AllRaise = under (Even 8) all_raise ≡ writes (99 ∷ 10 ∷ [])
 
 -- X : Integer := 4; A : array (1 .. 3) of Integer := (1 | 3 => X + 1, others => X); with (1 .. 3 => X + 1), and with
--- (2 => X + 1, others => X): within the turns that they take, and within one fewer
+-- (2 => X + 1, others => X), which take no turn, and with (for K in 1 .. 3 => X + 1), which takes three
 
 abbrev filled : Associations → Program
 filled given = made_of (array_of 3 ∷ []) (object_of 0 1 ∷ object_of 1 3 ∷ []) []
@@ -215,6 +215,9 @@ together = filled (given (part 0 3 ∷ []) more NoAssociation)
 abbrev single : Program
 single = filled (given (part 1 1 ∷ []) more (given (part 0 1 ∷ part 2 1 ∷ []) (variable 0) NoAssociation))
 
+abbrev numbered : Program
+numbered = filled (Association (part 0 3 ∷ []) (Some (record { parameter = 0; first = pos 1 })) NoExpr (stored more) NoAssociation)
+
 abbrev within : ℕ → Program → Answer
 within turns program = answer_of program (sequential program turns no_input)
 
@@ -223,8 +226,8 @@ abbrev is_spent : Answer
 is_spent = record { output = []; end = Spent; finals = (pos 4 ∷ []) ∷ [] }
 
 abbrev pub Filled : Type 0
-Filled = (within 1 apart ≡ is_spent)
-    × (within 2 apart ≡ holds ((pos 4 ∷ []) ∷ (pos 5 ∷ pos 4 ∷ pos 5 ∷ []) ∷ []))
-    × (within 2 together ≡ is_spent)
-    × (within 3 together ≡ holds ((pos 4 ∷ []) ∷ (pos 5 ∷ pos 5 ∷ pos 5 ∷ []) ∷ []))
+Filled = (within 0 apart ≡ holds ((pos 4 ∷ []) ∷ (pos 5 ∷ pos 4 ∷ pos 5 ∷ []) ∷ []))
+    × (within 0 together ≡ holds ((pos 4 ∷ []) ∷ (pos 5 ∷ pos 5 ∷ pos 5 ∷ []) ∷ []))
+    × (within 2 numbered ≡ is_spent)
+    × (within 3 numbered ≡ holds ((pos 4 ∷ []) ∷ (pos 5 ∷ pos 5 ∷ pos 5 ∷ []) ∷ []))
     × (within 0 single ≡ holds ((pos 4 ∷ []) ∷ (pos 4 ∷ pos 5 ∷ pos 4 ∷ []) ∷ []))

@@ -1,6 +1,6 @@
 -- What programs do, over any operations: the dynamic semantics of the manual, a construct a clause, in the order of
 -- evaluation.
-use Rattle.std.specs.Prelude.{ℕ, zero, suc, ◌+◌, ◌*◌, min, ℤ, pos, ◌+ℤ◌, ◌-ℤ◌, int_lt, int_le, nat_eq, nat_lt, nat_le, List, [], ◌∷◌, ◌++◌, slice_get, Option, Some, None, Bool, true, false, not, ◌&&◌, ◌||◌, cond}
+use Rattle.std.specs.Prelude.{ℕ, zero, suc, ◌+◌, ◌*◌, min, ℤ, pos, ◌+ℤ◌, ◌-ℤ◌, int_lt, int_le, nat_eq, nat_lt, nat_le, List, [], ◌∷◌, ◌++◌, slice_get, Option, Some, None, is_some, Bool, true, false, not, ◌&&◌, ◌||◌, cond}
 use Rattle.ada_base.specs.declared.reason.Reason.{Reason}
 use Rattle.ada_base.specs.declared.reason.Reason.TheVariants as reason
 use Rattle.ada_base.specs.Operation.{is_in_base}
@@ -26,7 +26,6 @@ use Rattle.behaviours.specs.Doings.{through, folded}
 use Rattle.behaviours.specs.Paths.{Leave, Exits, Returns, Raises, Entity, VariableOf, ConstantOf, Region, Everywhere, Here}
 use Rattle.behaviours.specs.Joins.{Now, Site}
 use Rattle.ada_meaning.specs.Values.{truth, bit, is_in, between, to_nat, count, base_of, unary, compares, is_chosen, handles_reason, without_zeros, layout, defaults, laid, zeros, image_of}
-use Rattle.ada_meaning.specs.Turns.{takes_turns}
 use Rattle.ada_meaning.specs.Operations.{RangeCheck, IndexCheck, OverflowCheck, Cut, ByPlan, Sized, chunk_of, Operations, operate, reduce}
 
 -- an object and how many cells of it come before
@@ -284,7 +283,7 @@ module _ {ℓ} (ops : Operations {ℓ}) where
     cs ← run_values 0 r.count r.first r.stride value so_far
     runs_values rs value cs
 
-  -- what comes before each evaluation of an association's value
+  -- what comes before each evaluation of an association's value: a turn, where the association is iterated
   abbrev pub value_turn : Bool → Doing (Unit {0})
   value_turn turns = cond turns turned (ret tt)
 
@@ -477,7 +476,7 @@ module _ {ℓ} (ops : Operations {ℓ}) where
       pub associated : Associations → Env → List ℤ → Doing (List ℤ)
       associated NoAssociation env so_far = ret so_far
       associated (Association runs iterated mentions value rest) env so_far = do
-        cs ← runs_values runs (λ k. value_turn (takes_turns runs iterated value) >>= λ _. cells value (iterated_env iterated k env)) so_far
+        cs ← runs_values runs (λ k. value_turn (is_some iterated) >>= λ _. cells value (iterated_env iterated k env)) so_far
         associated rest env cs
 
       -- the range or array of an iteration, evaluated once (5.5, 5.5.2)

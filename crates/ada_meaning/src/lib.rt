@@ -1,6 +1,6 @@
 //! What programs mean: the definitions of their runs (chapters 3 to 6, 9 and 11), and the laws of these definitions.
 //! The functions of this module and of `stored` have no body: their contracts are what is proved. `stored` has the laws of
-//! a run over a state that code can hold; `turns` reads off a program which values take turns.
+//! a run over a state that code can hold.
 #![tactic(auto)]
 
 ghost use Rattle.ada_meaning.specs.Blocked.{BlockedLaw};
@@ -16,11 +16,9 @@ ghost use Rattle.ada_meaning.specs.CallRows.{Downs, Begins, NotCopied, NoReturn,
 
 pub mod slots;
 pub mod stored;
-pub mod turns;
 
 pub use behaviours::shuffle_law;
 pub use slots::{Slot, Variable};
-pub use turns::takes_turns;
 use typed_tree::Typed;
 
 /// How many threads a parallel construct has where no number is asked for (5.5, 5.6.1).

@@ -28,7 +28,6 @@ use Rattle.typed_tree.specs.declared.expressions.Reducer.{Reducer}
 use Rattle.typed_tree.specs.declared.expressions.Reducer.TheVariants.{Operator, Function}
 use Rattle.ada_meaning.specs.Values.{truth, bit, is_in, between, to_nat, count, base_of, unary, is_zero, divides, overflows, result, value_or_zero, defaults, image_of, handles_reason, is_chosen, without_zeros, layout, laid, zeros}
 use Rattle.ada_meaning.specs.Operations.{CheckKind, RangeCheck, IndexCheck, OverflowCheck, ZeroCheck, ByPlan, Sized, chunk_of, Operations, operate, reduce}
-use Rattle.ada_meaning.specs.Turns.{takes_turns}
 use Rattle.ada_meaning.specs.Meaning
 use Rattle.ada_meaning.specs.Meaning.{ObjectPart, Env, Course, Chunking, Back, Passed, Returned, outset, with_target, with_handled, inside, variable_root, constant_root, array_root, iterated_env, cut_of, value_cut_of, arms_of, exits, returns, raises, value_of, reason_of, has_handlers, sub_at, moved, object_layout, most_nested, most_threads, most_iterations, most_calls}
 use Rattle.typed_tree.specs.Syntax.{Expr, Static, Variable, Constant, Parameter, Target, Group, Unary, Binary, AndThen, OrElse, Relation, Membership, If, Call, Convert, Reduction, Optional, Absent, Present, Selections, Whole, Field, Index, Actuals, NoActual, In, InOut, Out, CompositeInOut, CompositeOut, Value, Number, Cells, Composite, WholeVariable, WholeConstant, WholeTarget, CompositeIf, Aggregate, Associations, NoAssociation, Association, Iteration, Range, Components, Chunk, NoChunk, Count, Each, Pieces, NoPiece, Text, Image, Padded, Decls, NoDecl, DeclareDefault, DeclareVariable, DeclareConstant, Mentions, Stmt, Null, Assign, CallProcedure, Exit, Return, ReturnValue, Raise, Reraise, IfThen, Case, Loop, For, ParallelFor, Parallel, Block, Put, Get, Stmts, End, Then, Alternatives, NoAlternative, Alternative, Arms, NoArm, Arm, Handlers, NoHandler, Handler, Body, Sub, Program}
@@ -637,7 +636,7 @@ module _ (program : Program) (fine : Construct → Type 0) where
         associated_good : (a : Associations) (so_far : List ℤ) (s : Scene) → Has s (InAssociations program.subtypes s.roles a) → Fine s (Meaning.associated ops limit program calls a s.env so_far)
         associated_good NoAssociation so_far s k = done s so_far
         associated_good (Association runs i mentions value rest) so_far s k =
-            seq s (all_runs s runs so_far (λ n. seq s (value_turns s (takes_turns runs i value)) (λ _ _. cells_good value (naming s (iterated_hidden i s.roles) (iterated_env i n s.env) (suits_iterated s.now s.roles s.env i n s.suits)) (part program fine (λ i h. inr (inl h)) k)))) (λ cs _.
+            seq s (all_runs s runs so_far (λ n. seq s (value_turns s (is_some i)) (λ _ _. cells_good value (naming s (iterated_hidden i s.roles) (iterated_env i n s.env) (suits_iterated s.now s.roles s.env i n s.suits)) (part program fine (λ i h. inr (inl h)) k)))) (λ cs _.
             associated_good rest cs s (part program fine (λ i h. inr (inr h)) k))
 
         course_good : (it : Iteration) (s : Scene) → Has s (InCourse program.subtypes s.roles it) → Fine s (Meaning.course ops limit program calls it s.env)

@@ -1,5 +1,5 @@
 -- Each program has a number of slots with which its runs by notes lack none: one for each object that is declared or passed.
-use Rattle.std.proofs.Common.{ℕ, zero, suc, ◌+◌, ◌*◌, ◌<◌, ◌≤◌, min, ℤ, pos, ◌-ℤ◌, int_lt, int_le, nat_lt, nat_le, List, [], ◌∷◌, ◌++◌, length, replicate, slice_get, Option, Some, None, Result, Bool, true, false, not, cond, ◌&&◌, ◌||◌, sym, subst, arith}
+use Rattle.std.proofs.Common.{ℕ, zero, suc, ◌+◌, ◌*◌, ◌<◌, ◌≤◌, min, ℤ, pos, ◌-ℤ◌, int_lt, int_le, nat_lt, nat_le, List, [], ◌∷◌, ◌++◌, length, replicate, slice_get, Option, Some, None, is_some, Result, Bool, true, false, not, cond, ◌&&◌, ◌||◌, sym, subst, arith}
 use Rattle.std.proofs.lemmas.List.{length-replicate}
 use Rattle.ada_base.specs.declared.reason.Reason.{Reason}
 use Rattle.ada_base.specs.declared.reason.Reason.TheVariants as reason
@@ -19,7 +19,6 @@ use Rattle.typed_tree.specs.declared.expressions.Reducer.TheVariants.{Operator, 
 use Rattle.behaviours.specs.Paths.{Exits, Returns, Raises, Entity, VariableOf, ConstantOf, Region, Everywhere, Here}
 use Rattle.ada_meaning.specs.Values.{truth, bit, is_in, between, to_nat, count, base_of, unary, defaults, laid, zeros, image_of, handles_reason, is_chosen}
 use Rattle.ada_meaning.specs.Operations.{RangeCheck, IndexCheck, OverflowCheck, Sized, Operations}
-use Rattle.ada_meaning.specs.Turns.{takes_turns}
 use Rattle.ada_meaning.specs.Stored
 use Rattle.ada_meaning.specs.Stored.{State, Cause, Stored, NoRoom, key, noted, noted_outset, no_slot}
 use Rattle.ada_meaning.specs.Meaning
@@ -274,7 +273,7 @@ module _ (program : Program) where
     associated : (x : Associations) → Enough (Associates x)
     associated NoAssociation = none (λ n a env so_far. ret_has so_far tt)
     associated (Association runs i mentions value rest) = two (cells value) (associated rest) (λ n h r a env so_far.
-        then_has (all_runs a runs so_far (λ k. then_has (value_turns a (takes_turns runs i value)) (λ _. h a (iterated_env i k env)))) (λ cs. r a env cs))
+        then_has (all_runs a runs so_far (λ k. then_has (value_turns a (is_some i)) (λ _. h a (iterated_env i k env)))) (λ cs. r a env cs))
 
     iterate : (i : Iteration) → Enough (Iterates i)
     iterate (Range x reverse low high c filter) = three (eval low) (eval high) (optional filter) (λ n l h f. record {

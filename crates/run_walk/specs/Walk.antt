@@ -1,5 +1,5 @@
 -- What the functions of the walk compute, a word for each.
-use Rattle.std.specs.Prelude.{ℕ, suc, min, ℤ, ◌*◌, ◌-ℤ◌, Bool, not, true, false, List, [], ◌∷◌, ◌++◌, slice_get, Option, Some, None, cond}
+use Rattle.std.specs.Prelude.{ℕ, suc, min, ℤ, ◌*◌, ◌-ℤ◌, Bool, not, true, false, List, [], ◌∷◌, ◌++◌, slice_get, Option, Some, None, is_some, cond}
 use Rattle.ada_base.specs.Cuts.{evens, cuts_of}
 use Rattle.ada_base.specs.declared.reason.Reason.{Reason}
 use Rattle.ada_base.specs.declared.reason.Reason.TheVariants as reason
@@ -25,7 +25,6 @@ use Rattle.ada_meaning.specs.Values.{truth, bit, compares, between, to_nat, is_i
 use Rattle.ada_meaning.specs.Operations.{IndexCheck, RangeCheck, Sized, operate, reduce}
 use Rattle.ada_meaning.specs.Meaning as meaning
 use Rattle.ada_meaning.specs.Meaning.{Env, ObjectPart, Passed, Returned, Back, Course, Chunking, inside, variable_root, constant_root, moved, with_target, iterated_env, outset, returns, exits, value_of, sub_at}
-use Rattle.ada_meaning.specs.Turns.{takes_turns}
 use Rattle.ada_meaning.specs.Stored
 use Rattle.ada_meaning.specs.Stored.{Stored, Took, thread, par, first_of_both, after_all, doings, bind, ret, leaves, handles, apart, reads, writes, checks, puts}
 use Rattle.ada_base.specs.Image.{padded}
@@ -186,7 +185,7 @@ module _ (w : Work) (d : ℕ) where
 
   -- the cells of the components of an association
   unfoldable pub association_values : List Run → Option Iterated → Value → Env → List ℤ → Stored (List ℤ)
-  association_values rs iterated v env so_far = runs_values rs (takes_turns rs iterated v) iterated v env so_far
+  association_values rs iterated v env so_far = runs_values rs (is_some iterated) iterated v env so_far
 
   -- ---- actual parameters, each evaluated, read and checked
 

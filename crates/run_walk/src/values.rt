@@ -10,7 +10,6 @@ ghost use Rattle.run_parts.specs.Words.{nodes_of};
 use crate::exprs::eval;
 use crate::names::select;
 use ada_base::{Items, Reason};
-use ada_meaning::takes_turns;
 use run_parts::{Cells, Work, further, lay, one, placed, read_whole, turned, write_all, zeros};
 use run_store::{End, Env, Leave, Object, ObjectPart, Port, Store, is_in, is_true};
 use typed_tree::{Association, Check, Composite, Iterated, Leaf, Root, Run, Value};
@@ -256,7 +255,7 @@ fn association_values<P: Port + Drop>(
 ) -> Result<Items<i64>, End>
     ensures { Shows P.Tells (spec.association_values work.now calls (runs_in (leaves_at (nodes_of work.now) association.runs)) association.iterated (value_at (nodes_of work.now) association.value) (env_of env.now) out) result store.old store.new }
 {
-    let turns = takes_turns(&work.typed.nodes, association);
+    let turns = association.iterated.is_some();
     let each = PerComponent {
         turns,
         iterated: association.iterated,

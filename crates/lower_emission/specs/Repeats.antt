@@ -1,7 +1,6 @@
--- Which values of an aggregate take turns (4.3): those that are computed anew for each of several components.
+-- Which values of an aggregate are computed anew for each of several components (4.3).
 use Rattle.std.specs.Prelude.{nat_lt, List, [], ◌∷◌, Option, Some, None, Bool, true, false, not, ◌&&◌, ◌||◌}
 use Rattle.typed_tree.specs.declared.expressions.Run.{Run}
-use Rattle.typed_tree.specs.declared.expressions.Iterated.{Iterated}
 use Rattle.typed_tree.specs.Statics.{is_whole}
 use Rattle.typed_tree.specs.Syntax.{Expr, Static, Variable, Constant, Parameter, Target, Value, Number, Cells, Composite, WholeVariable, WholeConstant, WholeTarget, CompositeIf, Aggregate, Associations, NoAssociation, Association}
 
@@ -42,8 +41,6 @@ abbrev mutual
   are_plain (Association runs None mentions value rest) = is_plain value && are_plain rest
   are_plain (Association runs (Some x) mentions value rest) = false
 
--- whether each evaluation of an association's value takes a turn: it is iterated, or it stands for several components
--- and isn't plain
-abbrev pub takes_turns : List Run → Option Iterated → Value → Bool
-takes_turns runs None value = several runs && not (is_plain value)
-takes_turns runs (Some i) value = true
+-- it stands for several components, and isn't plain
+abbrev pub is_repeated : List Run → Value → Bool
+is_repeated runs value = several runs && not (is_plain value)

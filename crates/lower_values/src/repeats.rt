@@ -1,21 +1,17 @@
-//! Which values of an aggregate take turns (4.3).
+//! Which values of an aggregate are computed anew for each of several components (4.3).
 
 ghost use Rattle.std.specs.Prelude.{◌≡◌};
 ghost use Rattle.typed_tree.specs.Decoded.{associations_at, composite_at, expr_at, leaves_at, runs_in, selections_at, value_at};
 ghost use Rattle.typed_tree.specs.Statics as statics;
-ghost use Rattle.ada_meaning.specs.Turns as spec;
+ghost use Rattle.lower_emission.specs.Repeats as spec;
 
-use typed_tree::{Association, Composite, Expr, Leaf, Nodes, Value};
+use typed_tree::{Composite, Expr, Leaf, Nodes, Value};
 
-/// Whether each evaluation of the value of an association takes a turn: the association has a parameter, or stands for
-/// several components with a value that has to be computed for each (4.3.3).
-pub fn takes_turns(nodes: &Nodes, association: Association) -> bool
-    ensures { result ≡ spec.takes_turns (runs_in (leaves_at nodes.now association.runs)) association.iterated (value_at nodes.now association.value) }
+/// Whether a value is computed anew for each of several components of these runs (4.3.3).
+pub fn is_repeated(nodes: &Nodes, runs: u32, value: u32) -> bool
+    ensures { result ≡ spec.is_repeated (runs_in (leaves_at nodes.now runs)) (value_at nodes.now value) }
 {
-    match association.iterated {
-        None => is_several(nodes, association.runs) && !is_plain(nodes, association.value),
-        Some(_) => true,
-    }
+    is_several(nodes, runs) && !is_plain(nodes, value)
 }
 
 fn is_several(nodes: &Nodes, runs: u32) -> bool

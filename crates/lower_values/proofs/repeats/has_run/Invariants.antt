@@ -1,10 +1,10 @@
 use Rattle.std.proofs.Common.{◌≡◌}
 use Rattle.typed_tree.specs.Decoded.{leaves_at, runs_in}
-use Rattle.ada_meaning.specs.Turns.{several}
-use Rattle.ada_meaning.proofs.turns.is_several.Given as goal
+use Rattle.lower_emission.specs.Repeats.{some_run}
+use Rattle.lower_values.proofs.repeats.has_run.Given as goal
 
 abbrev pub invariant-loop-cell : goal.invariant-loop-cell
-invariant-loop-cell l = several (runs_in (leaves_at l.nodes l.runs)) ≡ several (runs_in (leaves_at l.nodes l.at))
+invariant-loop-cell l = some_run (runs_in (leaves_at l.nodes l.runs)) ≡ some_run (runs_in (leaves_at l.nodes l.at))
 
 abbrev pub decreases-loop-cell : goal.decreases-loop-cell
 decreases-loop-cell l = l.at

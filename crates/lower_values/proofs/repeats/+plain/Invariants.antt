@@ -1,7 +1,7 @@
 use Rattle.std.proofs.Common.{◌≡◌, ◌≤◌}
 use Rattle.typed_tree.specs.Decoded.{associations_at}
-use Rattle.ada_meaning.specs.Turns.{are_plain}
-use Rattle.ada_meaning.proofs.turns.+plain.Given as goal
+use Rattle.lower_emission.specs.Repeats.{are_plain}
+use Rattle.lower_values.proofs.repeats.+plain.Given as goal
 
 abbrev pub decreases-is_plain : goal.decreases-is_plain
 decreases-is_plain l = l.value
