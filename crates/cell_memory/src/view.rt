@@ -208,7 +208,8 @@ impl<'a> View<'a> {
         let Some(least) = self.len.checked_add(n) else {
             return Err(AllocError);
         };
-        let many = least.max(size.saturating_mul(2));
+        // By a quarter more: while the cells are copied both blocks take memory.
+        let many = least.max(size.saturating_add(size / 4));
         let own = copied(&self.own, self.len, many)?;
         let before = mem::replace(&mut self.own, own);
         before.free();
