@@ -38,10 +38,10 @@ pub failed_by : (s : State) (r : Reason) (st st' : List ℤ) → st' ≡ st → 
 failed_by s r st st' e = ap (λ st. failed r st s) e
 
 pub handled_by : (s : State) (u : Unwind) (r : Reason) (st mid : List ℤ) → st ≡ pos (reason_number r) ∷ mid → mid ≡ cut (s.floor + u.depth) s.stack
-    → record s { pc = u.handler; stack = st; nest = u.nest; kept = []; nested = s.nested - (s.nest - u.nest); raising = None } ≡ handled u r s
-handled_by s u r st mid e f = ap (λ st. record s { pc = u.handler; stack = st; nest = u.nest; kept = []; nested = s.nested - (s.nest - u.nest); raising = None }) (e ∙ ap (λ st. pos (reason_number r) ∷ st) f)
+    → record s { pc = u.handler; stack = st; nest = u.nest; kept = []; rounds = []; nested = s.nested - (s.nest - u.nest); raising = None } ≡ handled u r s
+handled_by s u r st mid e f = ap (λ st. record s { pc = u.handler; stack = st; nest = u.nest; kept = []; rounds = []; nested = s.nested - (s.nest - u.nest); raising = None }) (e ∙ ap (λ st. pos (reason_number r) ∷ st) f)
 
 pub ended_by : (s : State) (f : Frame) (fs : List Frame) (to : ℕ) (st : List ℤ) (cells : List Cell) → st ≡ cut s.floor s.stack → cells ≡ take f.top s.cells
-    → record s { pc = to; stack = st; floor = f.floor; nest = f.nest; kept = f.kept; base = f.base; waiting = fs; calls = s.calls - 1; nested = s.nested - s.nest; cells = cells } ≡ ended f fs to (cut s.floor s.stack) s
-ended_by s f fs to st cells e g = ap (λ st. record s { pc = to; stack = st; floor = f.floor; nest = f.nest; kept = f.kept; base = f.base; waiting = fs; calls = s.calls - 1; nested = s.nested - s.nest; cells = cells }) e
-    ∙ ap (λ cells. record s { pc = to; stack = cut s.floor s.stack; floor = f.floor; nest = f.nest; kept = f.kept; base = f.base; waiting = fs; calls = s.calls - 1; nested = s.nested - s.nest; cells = cells }) g
+    → record s { pc = to; stack = st; floor = f.floor; nest = f.nest; kept = f.kept; rounds = f.rounds; base = f.base; waiting = fs; calls = s.calls - 1; nested = s.nested - s.nest; cells = cells } ≡ ended f fs to (cut s.floor s.stack) s
+ended_by s f fs to st cells e g = ap (λ st. record s { pc = to; stack = st; floor = f.floor; nest = f.nest; kept = f.kept; rounds = f.rounds; base = f.base; waiting = fs; calls = s.calls - 1; nested = s.nested - s.nest; cells = cells }) e
+    ∙ ap (λ cells. record s { pc = to; stack = cut s.floor s.stack; floor = f.floor; nest = f.nest; kept = f.kept; rounds = f.rounds; base = f.base; waiting = fs; calls = s.calls - 1; nested = s.nested - s.nest; cells = cells }) g

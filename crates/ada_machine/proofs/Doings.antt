@@ -173,7 +173,7 @@ module _ (limit : ℕ) (c : Code) (m : Machine) (cells : List Cell) (calm : m.ra
           let t : takes c (Call k) ≡ f.takes = ap taken_by there in
           let floor : m'.floor ≡ length (reverse m.stack.items) - f.takes = ap (λ s. s.floor) e in
           steps_on limit c m cells r within m' cells' s (ap (λ s. s.raising) e ∙ calm)
-          (ready_called limit c m m' cells cells' (record { at = m.pc; to = m.pc + 1; floor = m.floor; base = m.base; nest = m.nest; kept = reverse m.kept.items; top = length cells }) r s more near refl (ap (λ s. s.waiting) e) (ap (λ s. s.outward) e)
+          (ready_called limit c m m' cells cells' (record { at = m.pc; to = m.pc + 1; floor = m.floor; base = m.base; nest = m.nest; kept = reverse m.kept.items; rounds = reverse m.rounds.items; top = length cells }) r s more near refl (ap (λ s. s.waiting) e) (ap (λ s. s.outward) e)
           (record {
             sub = k;
             instr = Call k;
@@ -242,7 +242,7 @@ module _ (limit : ℕ) (c : Code) (m : Machine) (cells : List Cell) (calm : m.ra
       window_goes l g o e room near more =
           let s : step limit c (state_of m cells) ≡ Goes (state_of m' cells') = window_begins l ∙ ap (λ b. enters b fit) (lt-ltb m.calls 1000 g) ∙ ap (enters true) o ∙ ap Goes (sym e) in
           let x = fine_at c m cells i r calm w.at in
-          let waits : Frame = record { at = m.pc; to = to; floor = m.floor; base = m.base; nest = m.nest; kept = reverse m.kept.items; top = length cells } in
+          let waits : Frame = record { at = m.pc; to = to; floor = m.floor; base = m.base; nest = m.nest; kept = reverse m.kept.items; rounds = reverse m.rounds.items; top = length cells } in
           let call = called_at_here c r.low r.valid x.here.spot.body i m.pc k n to waits w.call x.here.fits.belongs refl refl in
           let floor : m'.floor ≡ length st = ap (λ s. s.floor) e in
           steps_on limit c m cells r within m' cells' s (ap (λ s. s.raising) e ∙ calm)
@@ -318,7 +318,7 @@ module _ (limit : ℕ) (c : Code) (m : Machine) (cells : List Cell) (calm : m.ra
           let x = fine_at c m cells (Combine k) r calm at in
           let floor : m'.floor ≡ length st - f.takes = ap (λ s. s.floor) e in
           steps_on limit c m cells r within m' cells' s (ap (λ s. s.raising) e ∙ calm)
-          (ready_called limit c m m' cells cells' (record { at = m.pc; to = m.pc; floor = m.floor; base = m.base; nest = m.nest; kept = parts; top = length cells }) r s more near refl (ap (λ s. s.waiting) e) (ap (λ s. s.outward) e)
+          (ready_called limit c m m' cells cells' (record { at = m.pc; to = m.pc; floor = m.floor; base = m.base; nest = m.nest; kept = parts; rounds = reverse m.rounds.items; top = length cells }) r s more near refl (ap (λ s. s.waiting) e) (ap (λ s. s.outward) e)
           (record {
             sub = k;
             instr = Combine k;

@@ -11,6 +11,7 @@ pub mod Looking
 pub mod Memories
 pub mod Outcomes
 pub mod Readies
+pub mod Rounding
 pub mod Steps
 pub mod Viewing
 pub mod Walks

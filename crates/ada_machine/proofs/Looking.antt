@@ -7,7 +7,7 @@ use Rattle.ada_base.specs.declared.reason.Reason.TheVariants.{StorageError}
 use Rattle.stack_code.specs.declared.path.Asked.{Asked}
 use Rattle.stack_code.specs.declared.code.Code.{Code}
 use Rattle.stack_code.specs.declared.instr.Instr.{Instr}
-use Rattle.stack_code.specs.declared.instr.Instr.TheVariants.{Call, CallAt, CallTo, Part, Combine, Ret, RetV, Exit, Leave, LeaveV, Fork, Unnest, Words, Img, Bool, Wide, Send, SendLn, Get, End, EndV, Halt}
+use Rattle.stack_code.specs.declared.instr.Instr.TheVariants.{Call, CallAt, CallTo, Part, Repeat, Again, Combine, Ret, RetV, Exit, Leave, LeaveV, Fork, Unnest, Words, Img, Bool, Wide, Send, SendLn, Get, End, EndV, Halt}
 use Rattle.stack_code.specs.Deeds as Deeds
 use Rattle.stack_code.specs.Deeds.{Deed, called, called_at, truth, GoesOn, Fails, Loads, Stores, Forks, on_one, forked, can_fork, asked, many, deed_of}
 use Rattle.stack_code.specs.Machine.{State, Goes, Stop, step, Comes, Comes_to, entry_of}
@@ -88,6 +88,8 @@ IsQuiet End = Unit {0}
 IsQuiet EndV = Unit {0}
 IsQuiet Halt = Unit {0}
 IsQuiet Part = Unit {0}
+IsQuiet (Repeat rounds) = Unit {0}
+IsQuiet (Again to) = Unit {0}
 IsQuiet i = ⊥
 
 one_none : (s : State) (st : List ℤ) (k : ℤ → List ℤ → Deed) → ((x : ℤ) (rest : List ℤ) → deed_looks (k x rest) s ≡ 0) → deed_looks (on_one st k) s ≡ 0
@@ -125,6 +127,8 @@ quiet_none c s End q = refl
 quiet_none c s EndV q = one_none s s.stack _ (λ x rest. refl)
 quiet_none c s Halt q = refl
 quiet_none c s Part q = refl
+quiet_none c s (Repeat rounds) q = refl
+quiet_none c s (Again to) q = refl
 quiet_none c s i q = absurd q
 
 -- no look was taken, and none counted

@@ -8,7 +8,7 @@ use Rattle.stack_code.specs.declared.code.Code.{Code}
 use Rattle.stack_code.specs.declared.instr.Instr.{Instr}
 use Rattle.stack_code.specs.declared.instr.Instr.TheVariants.{Push, Call, CallAt, CallTo, Combine}
 use Rattle.stack_code.specs.declared.operands.Flow.{Flow}
-use Rattle.stack_code.specs.declared.operands.Flow.TheVariants.{On, To, Branch, Back, Ends}
+use Rattle.stack_code.specs.declared.operands.Flow.TheVariants.{On, To, Branch, Back, Round, Ends}
 use Rattle.stack_code.specs.Operands.{takes, pushes, ends_of, nest_after, flow_of}
 use Rattle.stack_code.specs.Valid.{HasStack, Lands, Leads, IsValid}
 use Rattle.stack_code.specs.Fits.{Finds}
@@ -148,6 +148,7 @@ module _ (c : Code) (low : Around) (valid : IsValid c) where
   height_led pc body n k (To t) floor room l g = inl (height_next body n k t floor room l g)
   height_led pc body n k (Branch t) floor room l g = inl (height_next body n k t floor room l.0 g)
   height_led pc body n k (Back t) floor room l g = inl (height_next body n k t floor room l g)
+  height_led pc body n k (Round t) floor room l g = inl (height_next body n k t floor room l.0 g)
   height_led pc body n k Ends floor room l g = inr refl
 
   -- the stack of a path that stands fits

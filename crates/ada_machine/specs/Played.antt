@@ -4,7 +4,7 @@ use Rattle.std.specs.Int.{w64}
 use Rattle.ada_base.specs.declared.reason.Reason.{Reason}
 use Rattle.ada_base.specs.declared.reason.Reason.TheVariants.{Declared}
 use Rattle.stack_code.specs.declared.instr.Instr.{Instr}
-use Rattle.stack_code.specs.declared.instr.Instr.TheVariants.{Turn, Call, CallAt, CallTo, Part, Ret, RetV, Exit, Leave, LeaveV, Fork, Nest, Unnest, Words, Img, Bool, Wide, Send, SendLn, Get, End, EndV, Halt, Combine, Copy}
+use Rattle.stack_code.specs.declared.instr.Instr.TheVariants.{Turn, Call, CallAt, CallTo, Part, Repeat, Again, Ret, RetV, Exit, Leave, LeaveV, Fork, Nest, Unnest, Words, Img, Bool, Wide, Send, SendLn, Get, End, EndV, Halt, Combine, Copy}
 use Rattle.ada_base.specs.Cells.{Cell, Gone, Seen, Mine, seen, written}
 use Rattle.stack_code.specs.Deeds.{Deed, GoesOn, Fails, Loads, Stores, on_two, loads_all, stores_all}
 use Rattle.ada_machine.specs.declared.memory.Placed.{Placed}
@@ -133,6 +133,8 @@ AsksMore (Call sub) = Unit {0}
 AsksMore (CallAt sub n) = Unit {0}
 AsksMore (CallTo sub n to) = Unit {0}
 AsksMore Part = Unit {0}
+AsksMore (Repeat rounds) = Unit {0}
+AsksMore (Again to) = Unit {0}
 AsksMore Ret = Unit {0}
 AsksMore RetV = Unit {0}
 AsksMore (Exit loop) = Unit {0}

@@ -5,7 +5,7 @@ use Rattle.stack_code.specs.declared.code.Code.{Code}
 use Rattle.stack_code.specs.declared.code.CodeSub.{CodeSub}
 use Rattle.stack_code.specs.declared.code.Spot.{Spot}
 use Rattle.stack_code.specs.declared.instr.Instr.{Instr}
-use Rattle.stack_code.specs.declared.instr.Instr.TheVariants.{Call, CallAt, CallTo, Combine, Words, Img, Bool, Wide, Send, SendLn}
+use Rattle.stack_code.specs.declared.instr.Instr.TheVariants.{Call, CallAt, CallTo, Combine, Repeat, Words, Img, Bool, Wide, Send, SendLn}
 use Rattle.stack_code.specs.Operands.{takes}
 use Rattle.stack_code.specs.Valid.{Has, HasStack, IsValid}
 use Rattle.ada_base.specs.Cells.{Cell}
@@ -33,7 +33,7 @@ use Rattle.ada_machine.specs.declared.machine.Went.TheVariants as went
 use Rattle.ada_machine.specs.Played.{Exceeds, Overlaps}
 
 abbrev pub frame_of : Waiting → Frame
-frame_of w = record { at = w.at; to = w.to; floor = w.floor; base = w.base; nest = w.nest; kept = reverse w.kept.items; top = w.top }
+frame_of w = record { at = w.at; to = w.to; floor = w.floor; base = w.base; nest = w.nest; kept = reverse w.kept.items; rounds = reverse w.rounds.items; top = w.top }
 
 abbrev pub frames_of : List Waiting → List Frame
 frames_of ws = map frame_of (reverse ws)
@@ -46,6 +46,7 @@ state_of m cells = record {
   floor = m.floor;
   nest = m.nest;
   kept = reverse m.kept.items;
+  rounds = reverse m.rounds.items;
   base = m.base;
   outward = m.outward.items;
   waiting = frames_of m.waiting.items;
@@ -65,8 +66,9 @@ begins f e s = record s {
   floor = e.floor;
   nest = 0;
   kept = [];
+  rounds = [];
   base = e.base;
-  waiting = record { at = s.pc; to = e.to; floor = s.floor; base = s.base; nest = s.nest; kept = s.kept; top = e.top } ∷ s.waiting;
+  waiting = record { at = s.pc; to = e.to; floor = s.floor; base = s.base; nest = s.nest; kept = s.kept; rounds = s.rounds; top = e.top } ∷ s.waiting;
   calls = s.calls + 1;
   turns = s.turns + 1;
 }
@@ -119,12 +121,13 @@ abbrev pub IsTrueOnTop : List ℤ → Type 0
 IsTrueOnTop [] = ⊥
 IsTrueOnTop (x ∷ st) = truth x ≡ true
 
--- the instructions that may want memory: a call that begins, and what adds to a line or sends it
+-- the instructions that may want memory: a call or a repeated part that begins, and what adds to a line or sends it
 abbrev pub Allocates : Instr → State → Type 0
 Allocates (Call sub) q = q.calls < 1000
 Allocates (CallAt sub n) q = q.calls < 1000
 Allocates (CallTo sub n to) q = IsTrueOnTop q.stack × (q.calls < 1000)
 Allocates (Combine sub) q = IsMore q.kept × (q.calls < 1000)
+Allocates (Repeat rounds) q = Unit {0}
 Allocates (Words text) q = Unit {0}
 Allocates Img q = Unit {0}
 Allocates Bool q = Unit {0}

@@ -82,6 +82,7 @@ fn begin_body(m: &mut Machine, callee: CodeSub, entry: Entry)
 {
     let alloc = *m.kept.allocator();
     let kept = mem::replace(&mut m.kept, Vec::new(alloc));
+    let rounds = mem::replace(&mut m.rounds, Vec::new(alloc));
     m.waiting.push_reserved(Waiting {
         at: m.pc,
         to: entry.to,
@@ -89,6 +90,7 @@ fn begin_body(m: &mut Machine, callee: CodeSub, entry: Entry)
         base: m.base,
         nest: m.nest,
         kept,
+        rounds,
         top: entry.top,
     });
     m.pc = callee.entry as usize;

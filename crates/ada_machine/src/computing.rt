@@ -151,6 +151,8 @@ pub fn compute<C: Cells>(
         | Instr::CallAt(_, _)
         | Instr::CallTo(_, _, _)
         | Instr::Part
+        | Instr::Repeat(_)
+        | Instr::Again(_)
         | Instr::Ret
         | Instr::RetV
         | Instr::Exit(_)

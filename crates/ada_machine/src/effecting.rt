@@ -11,7 +11,7 @@ ghost use Rattle.ada_machine.specs.States.{state_of, more, Ready, Steps, LooksBy
 
 use crate::calls::{enter, enter_at, return_to};
 use crate::cells::Cells;
-use crate::effects::{begin_construct, begin_turn, end_construct, fail};
+use crate::effects::{begin_construct, begin_part, begin_turn, end_construct, end_round, fail};
 use crate::lines::{add_image, add_padded, add_truth, add_words, ask, give_line};
 use crate::machine::{Machine, Stop, Went};
 use crate::operands::{put, take, truth};
@@ -502,6 +502,42 @@ fn draw(code: &Code, m: &mut Machine, limit: u64) -> Went
     Went::On
 }
 
+// Begins a part that is done so many times.
+fn repeat(code: &Code, m: &mut Machine, limit: u64, count: u64) -> Went
+    requires ready { (cells : List Cell) × Ready code.now m.old cells }
+    requires calm { m.old.raising ≡ None }
+    requires at { slice_get code.now.instrs m.old.pc ≡ Some (Instr.Repeat count) }
+    requires within { m.old.turns ≤ limit }
+    requires next { m.old.pc < usize.MAX }
+    ensures steps { (cells : List Cell) → Ready code.now m.old cells → Steps limit code.now result m.old cells m.new cells }
+    ensures paused { result ≡ Went.Stopped Stop.Paused → ⊥ }
+    ensures looks { m.new.looks ≡ m.old.looks }
+{
+    let _ = code;
+    let _ = limit;
+    match begin_part(m, count) {
+        Ok(()) => Went::On,
+        Err(_) => Went::Stopped(Stop::NoMemory),
+    }
+}
+
+// Ends a round of one.
+fn again(code: &Code, m: &mut Machine, limit: u64, to: u32) -> Went
+    requires ready { (cells : List Cell) × Ready code.now m.old cells }
+    requires calm { m.old.raising ≡ None }
+    requires at { slice_get code.now.instrs m.old.pc ≡ Some (Instr.Again to) }
+    requires within { m.old.turns ≤ limit }
+    requires next { m.old.pc < usize.MAX }
+    ensures steps { (cells : List Cell) → Ready code.now m.old cells → Steps limit code.now result m.old cells m.new cells }
+    ensures paused { result ≡ Went.Stopped Stop.Paused → ⊥ }
+    ensures looks { m.new.looks ≡ m.old.looks }
+{
+    let _ = code;
+    let _ = limit;
+    end_round(m, to as usize);
+    Went::On
+}
+
 fn combine<C: Cells, H: Halt>(
     code: &Code,
     m: &mut Machine,
@@ -590,6 +626,8 @@ pub(crate) fn effect<C: Cells, H: Halt>(
             call_to(code, m, view, limit, halt, Return { sub, cell, to })
         }
         Instr::Part => draw(code, m, limit),
+        Instr::Repeat(count) => repeat(code, m, limit, count),
+        Instr::Again(to) => again(code, m, limit, to),
         Instr::Ret => return_plain(code, m, view, limit),
         Instr::RetV => return_value(code, m, view, limit),
         Instr::Exit(number) => Went::Stopped(Stop::Left(Leave::Exit(number))),

@@ -2,7 +2,7 @@
 ghost use Rattle.std.specs.Prelude.{◌≡◌, ◌+◌, ◌-◌, ◌^◌, ◌<◌, ◌≤◌, ◌∷◌, [], ℕ, ℤ, List, length, reverse, vec_len, vec_capacity, Some, None, pos, IsOk, OnOk, OnErr};
 ghost use Rattle.ada_base.specs.Cells.{Cell};
 ghost use Rattle.stack_code.specs.Listing.{reason_number};
-ghost use Rattle.stack_code.specs.Machine.{cut, on, entered, ended, pushed_for, handled, failed};
+ghost use Rattle.stack_code.specs.Machine.{cut, on, entered, ended, pushed_for, handled, failed, rounding, Goes};
 ghost use Rattle.ada_machine.specs.Places.{Stays};
 ghost use Rattle.ada_machine.specs.States.{state_of, frame_of, frames_of};
 
@@ -10,7 +10,9 @@ use crate::cells::Cells;
 use crate::machine::{Machine, Waiting};
 use crate::operands::put;
 use ada_base::Reason;
+use stack_code::path::Round;
 use stack_code::{Unwind, reason_number};
+use std::alloc::AllocError;
 
 #[inline(always)]
 pub(crate) fn begin_turn(m: &mut Machine)
@@ -48,6 +50,49 @@ pub(crate) fn end_construct(m: &mut Machine)
     m.nest -= 1;
     m.nested -= 1;
     m.pc += 1;
+}
+
+// A part begins that is done so many times. An Err leaves all as it was.
+#[tactic(auto, using(crate::proofs::Rounding::begun))]
+pub(crate) fn begin_part(m: &mut Machine, count: u64) -> Result<(), AllocError>
+    requires next { m.old.pc < usize.MAX }
+    ensures ok { OnOk result ((cells : List Cell) → state_of m.new cells ≡ on (reverse m.old.stack.items) (record (state_of m.old cells) { rounds = record { more = count - 1; head = m.old.pc + 1 } ∷ reverse m.old.rounds.items })) }
+    ensures err { OnErr result ((cells : List Cell) → state_of m.new cells ≡ state_of m.old cells) }
+    ensures room { vec_capacity m.new.stack ≡ vec_capacity m.old.stack }
+    ensures looks { m.new.looks ≡ m.old.looks }
+{
+    m.rounds.reserve(1)?;
+    let head = m.pc + 1;
+    m.rounds.push_reserved(Round {
+        more: count.saturating_sub(1),
+        head,
+    });
+    m.pc = head;
+    Ok(())
+}
+
+// A round ends: where another one follows, and rounds begin at that instruction, it begins; else the part is done.
+pub(crate) fn end_round(m: &mut Machine, to: usize)
+    requires next { m.old.pc < usize.MAX }
+    ensures state { (limit : ℕ) (cells : List Cell) → rounding limit to (reverse m.old.rounds.items) (state_of m.old cells) ≡ Goes (state_of m.new cells) }
+    ensures same { (vec_capacity m.new.stack ≡ vec_capacity m.old.stack) × (m.new.base ≡ m.old.base) × (m.new.waiting ≡ m.old.waiting) × (m.new.outward ≡ m.old.outward) }
+    ensures calm { m.new.raising ≡ m.old.raising }
+    ensures looks { m.new.looks ≡ m.old.looks }
+{
+    if m.rounds.len() == 0 {
+        m.pc += 1;
+        return;
+    }
+    let round = m.rounds.take_last();
+    if 0 < round.more && round.head == to {
+        m.rounds.push_reserved(Round {
+            more: round.more - 1,
+            head: to,
+        });
+        m.pc = to;
+    } else {
+        m.pc += 1;
+    }
 }
 
 // Cuts the stack to a height.
@@ -96,6 +141,7 @@ pub(crate) fn handle(m: &mut Machine, entry: Unwind, reason: Reason)
     m.nested -= m.nest - entry.nest;
     m.nest = entry.nest;
     m.kept.clear();
+    m.rounds.clear();
     m.pc = entry.handler as usize;
     m.raising = None;
 }
@@ -121,6 +167,7 @@ pub(crate) fn leave_frame<C: Cells>(m: &mut Machine, view: &mut C, caller: Waiti
         base,
         nest,
         kept,
+        rounds,
         top,
     } = caller;
     let height = m.floor;
@@ -131,6 +178,7 @@ pub(crate) fn leave_frame<C: Cells>(m: &mut Machine, view: &mut C, caller: Waiti
     m.nested -= m.nest;
     m.nest = nest;
     m.kept = kept;
+    m.rounds = rounds;
     m.base = base;
     m.calls = m.calls.saturating_sub(1);
 }

@@ -1,4 +1,5 @@
 use ada_base::{Items, Reason};
+use stack_code::path::Round;
 use stack_code::{Asked, Io, Leave};
 
 /// Why a machine stopped.
@@ -33,7 +34,8 @@ pub enum Went {
 }
 
 /// A body that waits for its call: where the call stands and where it goes on, where its operands and its frame begin,
-/// the constructs begun in it, what its last fork kept, of which the first is last, and where the cells ended.
+/// the constructs begun in it, what its last fork kept, of which the first is last, the parts that it repeats, and where the
+/// cells ended.
 #[derive(Drop)]
 pub struct Waiting {
     /// The call.
@@ -48,12 +50,14 @@ pub struct Waiting {
     pub nest: u32,
     /// The accumulators that are still to be combined, the first last.
     pub kept: Vec<i64>,
+    /// The parts that are being repeated in it, the innermost last.
+    pub rounds: Vec<Round>,
     /// Where the cells ended before the call.
     pub top: u64,
 }
 
 /// One logical thread between two instructions. The top of the stack is last, and so are the innermost of the bodies that
-/// wait and the first of what the last fork kept.
+/// wait and of the parts that are repeated, and the first of what the last fork kept.
 #[derive(Drop)]
 pub struct Machine {
     /// The next instruction.
@@ -66,6 +70,8 @@ pub struct Machine {
     pub nest: u32,
     /// The accumulators that are still to be combined, the first last.
     pub kept: Vec<i64>,
+    /// The parts that are being repeated in the own body, the innermost last.
+    pub rounds: Vec<Round>,
     /// Where the own frame begins.
     pub base: u64,
     /// Where the frames outward from a thread's own begin, the innermost first.

@@ -88,6 +88,7 @@ impl Machine {
             floor: 0,
             nest: 0,
             kept: Vec::new(alloc),
+            rounds: Vec::new(alloc),
             base: frames[0],
             outward,
             waiting: Vec::new(alloc),

@@ -1,17 +1,18 @@
 -- A run on the memory that touches no more than the view lets it, isn't stuck on the view.
-use Rattle.std.proofs.Common.{◌≡◌, ℕ, zero, suc, ◌+◌, ◌-◌, ◌<◌, inl, inr, ℤ, pos, negsuc, Bool, true, false, cond, List, [], ◌∷◌, ◌++◌, length, set, take, Option, Some, None, arith, refl, sym, ◌∙◌, ap, subst, length-append, length-set}
+use Rattle.std.proofs.Common.{◌≡◌, ℕ, zero, suc, ◌+◌, ◌-◌, ◌<◌, inl, inr, ℤ, pos, negsuc, nat_eq, Bool, true, false, cond, List, [], ◌∷◌, ◌++◌, length, set, take, Option, Some, None, arith, refl, sym, ◌∙◌, ap, subst, length-append, length-set}
 use Rattle.std.specs.Prelude.{slice_get, nat_lt}
 use Rattle.std.proofs.lemmas.List.{get_or-set_same, get_or-set_other, get_or_append_left, get_or-append_right, get_or-take, length-replicate}
 use Rattle.std.proofs.lemmas.Bool.{cases_lt, cases_eq}
 use Rattle.ada_base.specs.declared.reason.Reason.{Reason}
 use Rattle.ada_base.specs.declared.reason.Reason.TheVariants.{ConstraintError, StorageError}
 use Rattle.stack_code.specs.declared.instr.Instr.{Instr}
+use Rattle.stack_code.specs.declared.path.Round.{Round}
 use Rattle.stack_code.specs.declared.code.Code.{Code}
 use Rattle.stack_code.specs.declared.code.CodeSub.{CodeSub}
 use Rattle.stack_code.specs.declared.code.Unwind.{Unwind}
 use Rattle.ada_base.specs.Cells.{Cell, Gone, Seen, Mine, value_in, seen, written, zeros}
-use Rattle.stack_code.specs.Deeds.{Deed, Lacks, GoesOn, Fails, Loads, Stores, Turns, Calls, CallsAt, Combines, Draws, Ends, Leaves, Forks, Nests, Unnests, Writes, Sends, Gets, Gives, deed_of}
-use Rattle.stack_code.specs.Machine.{Frame, State, Spent, Went, Goes, Stops, look_by, look, with_value, with_cells, cut, on, failed, entered, entered_at, entry_of, handled, unwound, raised, turned, entering, calling, entering_at, calling_at, combining, drawing, ending, nesting, done, acted, stepped, step, going, run}
+use Rattle.stack_code.specs.Deeds.{Deed, Lacks, GoesOn, Fails, Loads, Stores, Turns, Calls, CallsAt, Combines, Draws, Repeats, Rounds, Ends, Leaves, Forks, Nests, Unnests, Writes, Sends, Gets, Gives, deed_of}
+use Rattle.stack_code.specs.Machine.{Frame, State, Spent, Went, Goes, Stops, look_by, look, with_value, with_cells, cut, on, moved_to, failed, entered, entered_at, entry_of, handled, unwound, raised, turned, entering, calling, entering_at, calling_at, combining, drawing, another, rounding, ending, nesting, done, acted, stepped, step, going, run}
 use Rattle.cell_memory.specs.Sight.{is_mine}
 use Rattle.machine_paths.specs.Alike.{at, Kept, with_memory, Chain, Alike}
 use Rattle.cell_memory.specs.Sight.{is_gone}
@@ -107,6 +108,15 @@ module _ (b : ℕ) where
   draws limit [] s o = (tt, o)
   draws limit (part ∷ parts) s o = (tt, o)
 
+  another_back : (limit to head more : ℕ) (rs : List Round) (s : State) → Own b s.cells → Well b (another limit to head more rs s)
+  another_back limit to head zero rs s o = (tt, o)
+  another_back limit to head (suc n) rs s o =
+      elim (nat_eq head to) as (λ y. Well b (cond y (Goes (moved_to to s.stack (record s { rounds = record { more = n; head = head } ∷ rs }))) (Goes (on s.stack (record s { rounds = rs }))))) [ true ↦ (tt, o) | false ↦ (tt, o) ]
+
+  rounds_back : (limit to : ℕ) (rs : List Round) (s : State) → Own b s.cells → Well b (rounding limit to rs s)
+  rounds_back limit to [] s o = (tt, o)
+  rounds_back limit to (r ∷ rs) s o = another_back limit to r.head r.more rs s o
+
   combines : (limit : ℕ) (f : CodeSub) (acc : ℤ) (st parts : List ℤ) (s : State) → Own b s.cells → Well b (combining limit f acc st parts s)
   combines limit f acc st [] s o = (tt, o)
   combines limit f acc st (part ∷ parts) s o = turns s o limit (λ x. entering limit f x.pc parts (record x { stack = part ∷ acc ∷ st })) (λ l n. enters (record s { stack = part ∷ acc ∷ st }) o limit f s.pc parts l n)
@@ -177,6 +187,8 @@ module _ (b : ℕ) (vs ms : List Cell) where
   back limit (Calls f) s ns k o a g = calls b s o limit f (s.pc + 1) s.kept
   back limit (CallsAt f cell to fit st) s ns k o a g = calls_at b limit f cell to fit st s o
   back limit Draws s ns k o a g = draws b limit s.kept s o
+  back limit (Repeats n) s ns k o a g = (tt, o)
+  back limit (Rounds to) s ns k o a g = rounds_back b limit to s.rounds s o
   back limit (Combines f acc st) s ns k o a g = combines b limit f acc st s.kept s o
   back limit (Ends v st) s ns k o a g = endings b s o limit v st s.waiting
   back limit (Leaves l st) s ns k o a g = (tt, o)

@@ -1,15 +1,16 @@
 -- What a bound of looks changes.
 use Rattle.std.proofs.Common.{◌≡◌, ◌≢◌, ℕ, zero, suc, ◌+◌, ◌-◌, ◌⊎◌, inl, inr, ℤ, Bool, true, false, cond, List, [], ◌∷◌, length, Option, Some, None, refl, sym, ap, subst}
-use Rattle.std.specs.Prelude.{slice_get, nat_lt}
+use Rattle.std.specs.Prelude.{slice_get, nat_eq, nat_lt}
 use Rattle.ada_base.specs.declared.reason.Reason.{Reason}
 use Rattle.ada_base.specs.declared.reason.Reason.TheVariants.{ConstraintError, StorageError}
 use Rattle.stack_code.specs.declared.instr.Instr.{Instr}
+use Rattle.stack_code.specs.declared.path.Round.{Round}
 use Rattle.stack_code.specs.declared.code.Code.{Code}
 use Rattle.stack_code.specs.declared.code.CodeSub.{CodeSub}
 use Rattle.stack_code.specs.declared.code.Unwind.{Unwind}
 use Rattle.ada_base.specs.Cells.{seen, written}
-use Rattle.stack_code.specs.Deeds.{Deed, Lacks, GoesOn, Fails, Loads, Stores, Turns, Calls, CallsAt, Combines, Draws, Ends, Leaves, Forks, Nests, Unnests, Writes, Sends, Gets, Gives, deed_of}
-use Rattle.stack_code.specs.Machine.{Frame, State, Stop, Spent, Cut, Went, Goes, Stops, look, with_value, with_cells, cut, on, failed, entered, entered_at, entry_of, handled, unwound, raised, turned, entering, calling, entering_at, calling_at, combining, drawing, ending, nesting, done, acted, stepped, step, going, run}
+use Rattle.stack_code.specs.Deeds.{Deed, Lacks, GoesOn, Fails, Loads, Stores, Turns, Calls, CallsAt, Combines, Draws, Repeats, Rounds, Ends, Leaves, Forks, Nests, Unnests, Writes, Sends, Gets, Gives, deed_of}
+use Rattle.stack_code.specs.Machine.{Frame, State, Stop, Spent, Cut, Went, Goes, Stops, look, with_value, with_cells, cut, on, moved_to, failed, entered, entered_at, entry_of, handled, unwound, raised, turned, entering, calling, entering_at, calling_at, combining, drawing, another, rounding, ending, nesting, done, acted, stepped, step, going, run}
 use Rattle.machine_paths.specs.Bounded.{with_left, Bounded}
 
 cut_too : (w y : Went) (u : State) → Bounded w y → Bounded w (Stops Cut u)
@@ -94,6 +95,20 @@ draws : (limit : ℕ) (parts : List ℤ) (s : State) (j : ℕ) → Bounded (draw
 draws limit [] s j = (refl, inl (j, refl))
 draws limit (part ∷ parts) s j = (refl, inl (j, refl))
 
+another_bounded : (limit to head more : ℕ) (rs : List Round) (s : State) (j : ℕ) → Bounded (another limit to head more rs (with_left s None)) (another limit to head more rs (with_left s (Some j)))
+another_bounded limit to head zero rs s j = (refl, inl (j, refl))
+another_bounded limit to head (suc n) rs s j =
+    elim (nat_eq head to) as (λ y. Bounded
+    (cond y (Goes (moved_to to s.stack (record (with_left s None) { rounds = record { more = n; head = head } ∷ rs }))) (Goes (on s.stack (record (with_left s None) { rounds = rs }))))
+    (cond y (Goes (moved_to to s.stack (record (with_left s (Some j)) { rounds = record { more = n; head = head } ∷ rs }))) (Goes (on s.stack (record (with_left s (Some j)) { rounds = rs }))))) [
+      | true ↦ (refl, inl (j, refl))
+      | false ↦ (refl, inl (j, refl))
+    ]
+
+rounds_bounded : (limit to : ℕ) (rs : List Round) (s : State) (j : ℕ) → Bounded (rounding limit to rs (with_left s None)) (rounding limit to rs (with_left s (Some j)))
+rounds_bounded limit to [] s j = (refl, inl (j, refl))
+rounds_bounded limit to (r ∷ rs) s j = another_bounded limit to r.head r.more rs s j
+
 combines : (limit : ℕ) (f : CodeSub) (acc : ℤ) (st parts : List ℤ) (s : State) (j : ℕ) → Bounded (combining limit f acc st parts (with_left s None)) (combining limit f acc st parts (with_left s (Some j)))
 combines limit f acc st [] s j = (refl, inl (j, refl))
 combines limit f acc st (part ∷ parts) s j = turns s limit (λ x. entering limit f x.pc parts (record x { stack = part ∷ acc ∷ st })) (λ n i. enters (record s { stack = part ∷ acc ∷ st }) limit f s.pc parts n i) j
@@ -116,6 +131,8 @@ does limit Turns s j = turns s limit (λ t. Goes (on t.stack t)) (λ n i. (refl,
 does limit (Calls f) s j = calls s limit f (s.pc + 1) s.kept j
 does limit (CallsAt f cell to fit st) s j = calls_at limit f cell to fit st s j
 does limit Draws s j = draws limit s.kept s j
+does limit (Repeats n) s j = (refl, inl (j, refl))
+does limit (Rounds to) s j = rounds_bounded limit to s.rounds s j
 does limit (Combines f acc st) s j = combines limit f acc st s.kept s j
 does limit (Ends v st) s j = endings s limit v st s.waiting j
 does limit (Leaves l st) s j = (λ e. cc, refl, inl (j, refl))

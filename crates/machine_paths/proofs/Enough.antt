@@ -2,7 +2,6 @@
 use Rattle.std.proofs.Common.{◌≡◌, ℕ, zero, suc, ◌+◌, ◌-◌, ◌*◌, ◌<◌, ◌≤◌, ℤ, List, [], ◌∷◌, length, Option, Some, None, Result, Ok, Err, Bool, true, false, cond, refl, sym, ap, ◌∙◌, subst, arith}
 use Rattle.std.specs.Prelude.{slice_get, max, IsSomeAnd}
 use Rattle.std.proofs.Math.Nat.{mul-le-mul_right, max-le, le-max_left}
-use Rattle.std.proofs.lemmas.Option.{slice_get_within}
 use Rattle.behaviours.specs.Joins.{Share, deal}
 use Rattle.ada_base.specs.declared.reason.Reason.{Reason}
 use Rattle.ada_base.specs.Notes.{InOrder}
@@ -18,10 +17,10 @@ use Rattle.stack_code.specs.declared.path.Leave.TheVariants.{Raise as Raises, Ex
 use Rattle.stack_code.specs.Answers.{OfKind, IsAnswer}
 use Rattle.stack_code.specs.Operands.{is_reduction}
 use Rattle.stack_code.specs.Machine.{Frame, State, Stop, Done, Left, Spent, Cut, Asks, Constructs, Stuck, Astray, Went, Goes, Stops, step, after, after_fork as answered_fork, resumed}
-use Rattle.stack_code.specs.Stands.{Stands, Forked as StandsForked, Keeps, IsForward, Falls, wait, way, rank}
+use Rattle.stack_code.specs.Stands.{Stands, Forked as StandsForked, Keeps, IsForward, Falls, wait, cost, cost_from, cost_of_rounds, cost_of_waiting, way, rank}
 use Rattle.stack_code.specs.Valid.{IsValid}
 use Rattle.stack_code.proofs.Standing.{fine, has_one, keeps}
-use Rattle.stack_code.proofs.Falling.{falls}
+use Rattle.stack_code.proofs.Falling.{falls, cost_later, cost_passed}
 use Rattle.stack_code.proofs.Answering.{fork_stands}
 use Rattle.ada_lower.specs.Driven.{World, Dyn, Path, Final, Step, On, Off, Forks, Forked, clip, cut_to, off, dyn_of, raw_of, sizes_for, with_turns, thread_ended, thread_went, in_order, by_notes, gathered, thread_at, answer_of, answering, with_answer, with_dyn, at_site, fork, fork_end, driven, after_fork, goes, Finally}
 use Rattle.machine_paths.specs.Silent.{unasked, silently}
@@ -92,12 +91,15 @@ module _ (limit : ℕ) (c : Code) where
   off_enough k b r f e h is = subst (λ e. Does k b r (Off f) e) (final_is f e is) (silently_off r f, h)
 
   rank_same : (s t : State) → Stood s t → rank c limit t ≡ rank c limit s
-  rank_same s t h = λ i. (2 * (limit - h.turns i) + length (h.waiting i)) * (4 * length c.instrs + 4) + way c (h.raising i) (h.pc i)
+  rank_same s t h = λ i. (2 * (limit - h.turns i) + length (h.waiting i)) * (4 * cost c.instrs + 4) + way c (h.raising i) (h.pc i) + (cost_of_rounds c (h.rounds i) + cost_of_waiting c (h.waiting i))
 
-  rank_less : (s t : State) → s.turns ≤ t.turns → length t.waiting ≤ length s.waiting → way c t.raising t.pc < way c s.raising s.pc → rank c limit t < rank c limit s
-  rank_less s t h w l =
-      let m : (2 * (limit - t.turns) + length t.waiting) * (4 * length c.instrs + 4) ≤ (2 * (limit - s.turns) + length s.waiting) * (4 * length c.instrs + 4) = mul-le-mul_right (4 * length c.instrs + 4) (omega (arith, h, w)) in
-      omega (arith, m, l)
+  abbrev rounds_cost : State → ℕ
+  rounds_cost s = cost_of_rounds c s.rounds + cost_of_waiting c s.waiting
+
+  rank_less : (s t : State) → s.turns ≤ t.turns → length t.waiting ≤ length s.waiting → way c t.raising t.pc < way c s.raising s.pc → rounds_cost t ≤ rounds_cost s → rank c limit t < rank c limit s
+  rank_less s t h w l r =
+      let m : (2 * (limit - t.turns) + length t.waiting) * (4 * cost c.instrs + 4) ≤ (2 * (limit - s.turns) + length s.waiting) * (4 * cost c.instrs + 4) = mul-le-mul_right (4 * cost c.instrs + 4) (omega (arith, h, w)) in
+      omega (arith, m, l, r)
 
   module _ (quiet : ℕ → Bool) (valid : IsValid c) (forward : IsForward c) (later : BeginsLater c) (hushed : IsHushed c quiet) where
     -- ---- a step
@@ -143,18 +145,18 @@ module _ (limit : ℕ) (c : Code) where
       abbrev reduces : Bool
       reduces = is_reduction inner.kind
 
-      here_way : way c p.state.raising p.state.pc ≡ 2 * (length c.instrs + 1 + (length c.instrs - p.state.pc)) + 1
-      here_way = ap (λ o. way c o p.state.pc) g.0.calm ∙ ap (λ i. 2 * (wait i (length c.instrs + 1) + (length c.instrs - p.state.pc)) + 1) g.0.here
+      here_way : way c p.state.raising p.state.pc ≡ 2 * (cost c.instrs + 1 + cost_from c p.state.pc) + 1
+      here_way = ap (λ o. way c o p.state.pc) g.0.calm ∙ ap (λ i. 2 * (wait i (cost c.instrs + 1) + cost_from c p.state.pc) + 1) g.0.here
 
-      within : p.state.pc < length c.instrs
-      within = slice_get_within c.instrs p.state.pc (Fork q.site) g.0.here
+      passed : (to : ℕ) → p.state.pc < to → cost_from c to < cost_from c p.state.pc
+      passed to l = cost_passed c.instrs p.state.pc to (Fork q.site) g.0.here l
 
       thread_enough : (d : Dyn) (j : Share) (f : Final) → d.turns ≡ p.state.turns → d.world.notes ≡ InOrder → goes limit c n (On (begins d j)) ≡ Some f → Does q.site reduces r (On (begins d j)) f × (f.dyn.world.notes ≡ InOrder)
       thread_enough d j f e o is =
           let s = (begins d j).state in
           let after : p.state.pc < inner.entry = later p.state.pc q.site inner g.0.here at in
-          let w = wait_most (slice_get c.instrs inner.entry) (length c.instrs + 1) in
-          let less = rank_less p.state s (omega (arith, e)) (omega arith) (omega (arith, here_way, after, w, within)) in
+          let w = wait_most (slice_get c.instrs inner.entry) (cost c.instrs + 1) in
+          let less = rank_less p.state s (omega (arith, e)) (omega arith) (omega (arith, here_way, passed inner.entry after, w)) (omega arith) in
           let h = ih q.site inner at r (On (begins d j)) f
           (begun_stands c valid q.site inner (Site low) p.state top d.turns p.state.calls p.state.nested d.left s.cells at g.0, omega (arith, e, g.1), omega (arith, less, g.2), o) is in
           (h, ap (λ (w : World). w.notes) (silently_world limit c d.world o r (On (begins d j)) f refl h.0) ∙ o)
@@ -215,22 +217,22 @@ module _ (limit : ℕ) (c : Code) where
         of_kind o e = subst (λ o. IsSomeAnd o (λ s. OfKind s.kind a)) (sym e) h
 
       -- it is nearer to its end
-      nearer_on : (s t : State) → s.pc ≡ p.state.pc → s.raising ≡ None → s.waiting ≡ p.state.waiting → p.state.turns ≤ s.turns → t.pc ≡ s.pc + 1 → t.raising ≡ s.raising → t.waiting ≡ s.waiting → t.turns ≡ s.turns → rank c limit t < rank c limit p.state
-      nearer_on s t a b w l pc raising waiting turns =
-          let n = wait_most (slice_get c.instrs t.pc) (length c.instrs + 1) in
-          let v : way c t.raising t.pc ≡ 2 * (wait (slice_get c.instrs t.pc) (length c.instrs + 1) + (length c.instrs - t.pc)) + 1 = ap (λ o. way c o t.pc) (raising ∙ b) in
-          rank_less p.state t (omega (arith, turns, l)) (omega (arith, ap length (waiting ∙ w))) (omega (arith, v, here_way, n, within, pc, a))
+      nearer_on : (s t : State) → s.pc ≡ p.state.pc → s.raising ≡ None → s.waiting ≡ p.state.waiting → p.state.turns ≤ s.turns → t.pc ≡ s.pc + 1 → t.raising ≡ s.raising → t.waiting ≡ s.waiting → t.turns ≡ s.turns → t.rounds ≡ p.state.rounds → rank c limit t < rank c limit p.state
+      nearer_on s t a b w l pc raising waiting turns rounds =
+          let n = wait_most (slice_get c.instrs t.pc) (cost c.instrs + 1) in
+          let v : way c t.raising t.pc ≡ 2 * (wait (slice_get c.instrs t.pc) (cost c.instrs + 1) + cost_from c t.pc) + 1 = ap (λ o. way c o t.pc) (raising ∙ b) in
+          rank_less p.state t (omega (arith, turns, l)) (omega (arith, ap length (waiting ∙ w))) (omega (arith, v, here_way, n, passed t.pc (omega (arith, pc, a)))) (omega (arith, ap (cost_of_rounds c) rounds, ap (cost_of_waiting c) (waiting ∙ w)))
 
       resumed_less : (a : Gave) → OfKind inner.kind a → (d : Dyn) → p.state.turns ≤ d.turns → (rank c limit (goes_with a d) < rank c limit p.state) × ((goes_with a d).turns ≡ d.turns)
       resumed_less a h d l = subst (λ o. (rank c limit (after o a (with_dyn c d p.state)) < rank c limit p.state) × ((after o a (with_dyn c d p.state)).turns ≡ d.turns)) (sym g.0.here) (by_gave a h) where
         by_gave : (a : Gave) → OfKind inner.kind a → (rank c limit (answered_fork a (record (with_dyn c d p.state) { kept = [] })) < rank c limit p.state) × ((answered_fork a (record (with_dyn c d p.state) { kept = [] })).turns ≡ d.turns)
-        by_gave gave.Nothing h = (nearer_on (with_dyn c d p.state) (answered_fork gave.Nothing (record (with_dyn c d p.state) { kept = [] })) refl g.0.calm refl l refl refl refl refl, refl)
+        by_gave gave.Nothing h = (nearer_on (with_dyn c d p.state) (answered_fork gave.Nothing (record (with_dyn c d p.state) { kept = [] })) refl g.0.calm refl l refl refl refl refl refl, refl)
         by_gave (gave.Numbers []) h = absurd h
-        by_gave (gave.Numbers (v ∷ vs)) h = (nearer_on (with_dyn c d p.state) (answered_fork (gave.Numbers (v ∷ vs)) (record (with_dyn c d p.state) { kept = [] })) refl g.0.calm refl l refl refl refl refl, refl)
-        by_gave (gave.Left (Raises x)) h = (rank_less p.state (record (with_dyn c d p.state) { kept = []; raising = Some x }) l (omega arith) (omega (arith, here_way)), refl)
-        by_gave (gave.Left (Exits m)) h = (nearer_on (with_dyn c d p.state) (answered_fork (gave.Left (Exits m)) (record (with_dyn c d p.state) { kept = [] })) refl g.0.calm refl l refl refl refl refl, refl)
-        by_gave (gave.Left (Returns None)) h = (nearer_on (with_dyn c d p.state) (answered_fork (gave.Left (Returns None)) (record (with_dyn c d p.state) { kept = [] })) refl g.0.calm refl l refl refl refl refl, refl)
-        by_gave (gave.Left (Returns (Some v))) h = (nearer_on (with_dyn c d p.state) (answered_fork (gave.Left (Returns (Some v))) (record (with_dyn c d p.state) { kept = [] })) refl g.0.calm refl l refl refl refl refl, refl)
+        by_gave (gave.Numbers (v ∷ vs)) h = (nearer_on (with_dyn c d p.state) (answered_fork (gave.Numbers (v ∷ vs)) (record (with_dyn c d p.state) { kept = [] })) refl g.0.calm refl l refl refl refl refl refl, refl)
+        by_gave (gave.Left (Raises x)) h = (rank_less p.state (record (with_dyn c d p.state) { kept = []; raising = Some x }) l (omega arith) (omega (arith, here_way)) (omega arith), refl)
+        by_gave (gave.Left (Exits m)) h = (nearer_on (with_dyn c d p.state) (answered_fork (gave.Left (Exits m)) (record (with_dyn c d p.state) { kept = [] })) refl g.0.calm refl l refl refl refl refl refl, refl)
+        by_gave (gave.Left (Returns None)) h = (nearer_on (with_dyn c d p.state) (answered_fork (gave.Left (Returns None)) (record (with_dyn c d p.state) { kept = [] })) refl g.0.calm refl l refl refl refl refl refl, refl)
+        by_gave (gave.Left (Returns (Some v))) h = (nearer_on (with_dyn c d p.state) (answered_fork (gave.Left (Returns (Some v))) (record (with_dyn c d p.state) { kept = [] })) refl g.0.calm refl l refl refl refl refl refl, refl)
 
       good_end : (b : Bool) (h : Result Gave Stop) (d : Dyn) → HowWell reduces h → p.state.turns ≤ d.turns → d.turns ≤ limit → d.world.notes ≡ InOrder → Good low b r (fork_end c (with_answer c (answer_of c inner.kind q) h) d p.state)
       good_end b (Ok a) d w l t o =
@@ -273,14 +275,14 @@ module _ (limit : ℕ) (c : Code) where
         let i = has_one (slice_get c.sites q.site) _ (fine c (Site k) valid p.state.pc _ g.0.spot g.0.here g.0.at).belongs in
         fork_goes n (all_enough n) r k q p i.0 i.1 g site at e is
 
-    way_short : (o : Option Reason) (pc : ℕ) → way c o pc < 4 * length c.instrs + 4
-    way_short None pc = let w = wait_most (slice_get c.instrs pc) (length c.instrs + 1) in omega (arith, w)
-    way_short (Some r) pc = omega arith
+    way_short : (o : Option Reason) (pc : ℕ) → way c o pc < 4 * cost c.instrs + 4
+    way_short None pc = let w = wait_most (slice_get c.instrs pc) (cost c.instrs + 1) in let l : cost_from c pc ≤ cost c.instrs = cost_later c.instrs 0 pc (omega arith) in omega (arith, w, l)
+    way_short (Some r) pc = let l : cost_from c pc ≤ cost c.instrs = cost_later c.instrs 0 pc (omega arith) in omega (arith, l)
 
     -- a thread that begins there
-    pub begun_enough : (k : ℕ) (site : CodeSite) → slice_get c.sites k ≡ Some site → (p : Path) (e : Final) → Stands c (Site k) p.state → p.state.waiting ≡ [] → p.state.turns ≤ limit → p.world.notes ≡ InOrder → Finally limit c (On p) e → silently limit c (enough limit c) (On p) ≡ Some e
-    begun_enough k site at p e h w t o f =
+    pub begun_enough : (k : ℕ) (site : CodeSite) → slice_get c.sites k ≡ Some site → (p : Path) (e : Final) → Stands c (Site k) p.state → p.state.waiting ≡ [] → p.state.rounds ≡ [] → p.state.turns ≤ limit → p.world.notes ≡ InOrder → Finally limit c (On p) e → silently limit c (enough limit c) (On p) ≡ Some e
+    begun_enough k site at p e h w v t o f =
         let s = way_short p.state.raising p.state.pc in
-        let m : (2 * (limit - p.state.turns) + length p.state.waiting) * (4 * length c.instrs + 4) ≤ (2 * limit) * (4 * length c.instrs + 4) = mul-le-mul_right (4 * length c.instrs + 4) (omega (arith, ap length w)) in
-        let all : (2 * limit + 1) * (4 * length c.instrs + 4) ≡ (2 * limit) * (4 * length c.instrs + 4) + (4 * length c.instrs + 4) = grind arith in
-        (all_enough f.0 k site at (enough limit c) (On p) e (h, t, omega (arith, s, m, all), o) f.1).0
+        let m : (2 * (limit - p.state.turns) + length p.state.waiting) * (4 * cost c.instrs + 4) ≤ (2 * limit) * (4 * cost c.instrs + 4) = mul-le-mul_right (4 * cost c.instrs + 4) (omega (arith, ap length w)) in
+        let all : (2 * limit + 1) * (4 * cost c.instrs + 4) ≡ (2 * limit) * (4 * cost c.instrs + 4) + (4 * cost c.instrs + 4) = grind arith in
+        (all_enough f.0 k site at (enough limit c) (On p) e (h, t, omega (arith, s, m, all, ap (cost_of_rounds c) v, ap (cost_of_waiting c) w), o) f.1).0

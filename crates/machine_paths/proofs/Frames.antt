@@ -1,17 +1,18 @@
 -- A run that isn't stuck on its view is the same on a memory that shows what the view has.
 use Rattle.std.proofs.Common.{◌≡◌, ℕ, zero, suc, ◌+◌, ◌-◌, ◌<◌, ◌≤◌, inl, inr, ℤ, pos, negsuc, Bool, true, false, cond, List, [], ◌∷◌, ◌++◌, length, set, take, Option, Some, None, arith, refl, sym, ◌∙◌, ap, subst, length-append, length-set}
-use Rattle.std.specs.Prelude.{slice_get, nat_lt}
+use Rattle.std.specs.Prelude.{slice_get, nat_eq, nat_lt}
 use Rattle.std.proofs.lemmas.List.{get_or-set_same, get_or-set_other, get_or_append_left, get_or-append_right, get_or-take}
 use Rattle.std.proofs.lemmas.Bool.{cases_lt, cases_eq}
 use Rattle.ada_base.specs.declared.reason.Reason.{Reason}
 use Rattle.ada_base.specs.declared.reason.Reason.TheVariants.{ConstraintError, StorageError}
 use Rattle.stack_code.specs.declared.instr.Instr.{Instr}
+use Rattle.stack_code.specs.declared.path.Round.{Round}
 use Rattle.stack_code.specs.declared.code.Code.{Code}
 use Rattle.stack_code.specs.declared.code.CodeSub.{CodeSub}
 use Rattle.stack_code.specs.declared.code.Unwind.{Unwind}
 use Rattle.ada_base.specs.Cells.{Cell, Gone, Seen, Mine, value_in, seen, where_mine, written, zeros}
-use Rattle.stack_code.specs.Deeds.{Deed, Lacks, GoesOn, Fails, Loads, Stores, Turns, Calls, CallsAt, Combines, Draws, Ends, Leaves, Forks, Nests, Unnests, Writes, Sends, Gets, Gives, deed_of}
-use Rattle.stack_code.specs.Machine.{Frame, State, Stop, Spent, Went, Goes, Stops, look_by, look, with_value, with_cells, cut, on, failed, entered, entered_at, ended, entry_of, handled, unwound, raised, turned, entering, calling, entering_at, calling_at, combining, drawing, ending, nesting, done, acted, stepped, step, going, run}
+use Rattle.stack_code.specs.Deeds.{Deed, Lacks, GoesOn, Fails, Loads, Stores, Turns, Calls, CallsAt, Combines, Draws, Repeats, Rounds, Ends, Leaves, Forks, Nests, Unnests, Writes, Sends, Gets, Gives, deed_of}
+use Rattle.stack_code.specs.Machine.{Frame, State, Stop, Spent, Went, Goes, Stops, look_by, look, with_value, with_cells, cut, on, moved_to, failed, entered, entered_at, ended, entry_of, handled, unwound, raised, turned, entering, calling, entering_at, calling_at, combining, drawing, another, rounding, ending, nesting, done, acted, stepped, step, going, run}
 use Rattle.cell_memory.specs.Sight.{is_mine}
 use Rattle.ada_workers.specs.Paths.{Shows, Covers}
 use Rattle.machine_paths.specs.Alike.{at, Kept, with_memory, Chain, Alike}
@@ -198,7 +199,7 @@ module _ (b : ℕ) (vs ms : List Cell) where
       (k.long, c),
       (
         ns ++ zeros f.frame,
-        (λ i. Goes (record (entered f to kept (with_memory (record s { left = l; turns = n }) ns)) { base = k.covers.0 i; waiting = record { at = s.pc; to = to; floor = s.floor; base = s.base; nest = s.nest; kept = kept; top = k.covers.0 i } ∷ s.waiting })),
+        (λ i. Goes (record (entered f to kept (with_memory (record s { left = l; turns = n }) ns)) { base = k.covers.0 i; waiting = record { at = s.pc; to = to; floor = s.floor; base = s.base; nest = s.nest; kept = kept; rounds = s.rounds; top = k.covers.0 i } ∷ s.waiting })),
         kept_push s.cells ns f.frame k,
       ),
     )
@@ -209,7 +210,7 @@ module _ (b : ℕ) (vs ms : List Cell) where
       (
         ns ++ zeros (s.base + cell + f.frame - length s.cells),
         (λ i. Goes (record (entered_at f cell to (with_memory (record s { left = l; turns = n }) ns)) {
-          waiting = record { at = s.pc; to = to; floor = s.floor; base = s.base; nest = s.nest; kept = s.kept; top = k.covers.0 i } ∷ s.waiting;
+          waiting = record { at = s.pc; to = to; floor = s.floor; base = s.base; nest = s.nest; kept = s.kept; rounds = s.rounds; top = k.covers.0 i } ∷ s.waiting;
           cells = ns ++ zeros (s.base + cell + f.frame - k.covers.0 i);
         })),
         kept_push s.cells ns (s.base + cell + f.frame - length s.cells) k,
@@ -273,6 +274,20 @@ module _ (b : ℕ) (vs ms : List Cell) where
   draws_alike limit [] s ns k c = (c, (ns, refl, k))
   draws_alike limit (part ∷ parts) s ns k c = (c, (ns, refl, k))
 
+  another_alike : (limit to head more : ℕ) (rs : List Round) (s : State) (ns : List Cell) (k : Kept b vs ms s.cells ns) (c : Chain b s.waiting) → Pair (another limit to head more rs s) (another limit to head more rs (with_memory s ns))
+  another_alike limit to head zero rs s ns k c = (c, (ns, refl, k))
+  another_alike limit to head (suc n) rs s ns k c =
+      elim (nat_eq head to) as (λ y. Pair
+      (cond y (Goes (moved_to to s.stack (record s { rounds = record { more = n; head = head } ∷ rs }))) (Goes (on s.stack (record s { rounds = rs }))))
+      (cond y (Goes (moved_to to s.stack (record (with_memory s ns) { rounds = record { more = n; head = head } ∷ rs }))) (Goes (on s.stack (record (with_memory s ns) { rounds = rs }))))) [
+        | true ↦ (c, (ns, refl, k))
+        | false ↦ (c, (ns, refl, k))
+      ]
+
+  rounds_alike : (limit to : ℕ) (rs : List Round) (s : State) (ns : List Cell) (k : Kept b vs ms s.cells ns) (c : Chain b s.waiting) → Pair (rounding limit to rs s) (rounding limit to rs (with_memory s ns))
+  rounds_alike limit to [] s ns k c = (c, (ns, refl, k))
+  rounds_alike limit to (r ∷ rs) s ns k c = another_alike limit to r.head r.more rs s ns k c
+
   combines : (limit : ℕ) (f : CodeSub) (acc : ℤ) (st parts : List ℤ) (s : State) (ns : List Cell) (k : Kept b vs ms s.cells ns) (c : Chain b s.waiting) → Pair (combining limit f acc st parts s) (combining limit f acc st parts (with_memory s ns))
   combines limit f acc st [] s ns k c = (c, (ns, refl, k))
   combines limit f acc st (part ∷ parts) s ns k c = turns_alike s ns k c limit (λ x. entering limit f x.pc parts (record x { stack = part ∷ acc ∷ st })) (λ l n. entering_alike (record s { stack = part ∷ acc ∷ st }) ns k c limit f s.pc parts l n)
@@ -298,6 +313,8 @@ module _ (b : ℕ) (vs ms : List Cell) where
   does limit (Calls f) s ns k c = calls_alike s ns k c limit f (s.pc + 1) s.kept
   does limit (CallsAt f cell to fit st) s ns k c = calls_at_alike limit f cell to fit st s ns k c
   does limit Draws s ns k c = draws_alike limit s.kept s ns k c
+  does limit (Repeats n) s ns k c = (c, (ns, refl, k))
+  does limit (Rounds to) s ns k c = rounds_alike limit to s.rounds s ns k c
   does limit (Combines f acc st) s ns k c = combines limit f acc st s.kept s ns k c
   does limit (Ends v st) s ns k c = endings s ns k c limit v st s.waiting c
   does limit (Leaves l st) s ns k c = λ g. (ns, refl, k, c)

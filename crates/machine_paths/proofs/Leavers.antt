@@ -6,7 +6,7 @@ use Rattle.ada_base.specs.declared.operation.Op.TheVariants as op
 use Rattle.ada_base.specs.declared.reason.Reason.TheVariants.{StorageError}
 use Rattle.ada_base.specs.Operation.{within}
 use Rattle.stack_code.specs.declared.instr.Instr.{Instr}
-use Rattle.stack_code.specs.declared.instr.Instr.TheVariants.{Push, Pop, Dup, Swap, Local, Outer, Global, Index, Field, Load, Store, Copy, Fill, Add, Sub, Mul, Div, Mod, Rem, Pow, Neg, Abs, Max, Min, Eq, Ne, Lt, Le, Gt, Ge, And, Or, Xor, Not, Range, Jump, JFalse, JTrue, Turn, Call, CallAt, CallTo, Ret, RetV, Raise, Reraise, Exit, Leave as LeaveNow, LeaveV, Fork, Nest, Unnest, Words, Img, Bool as BoolImage, Wide, Send, SendLn, Get, End, EndV, Halt, Combine, Part, LoadL, LoadO, LoadG, StoreL, StoreO, StoreG, AddI, IndexL, Item, ItemL, JfEq, JfNe, JfLt, JfLe, JfGt, JfGe, Next, Prior, Flip, Differ}
+use Rattle.stack_code.specs.declared.instr.Instr.TheVariants.{Push, Pop, Dup, Swap, Local, Outer, Global, Index, Field, Load, Store, Copy, Fill, Add, Sub, Mul, Div, Mod, Rem, Pow, Neg, Abs, Max, Min, Eq, Ne, Lt, Le, Gt, Ge, And, Or, Xor, Not, Range, Jump, JFalse, JTrue, Turn, Call, CallAt, CallTo, Ret, RetV, Raise, Reraise, Exit, Leave as LeaveNow, LeaveV, Fork, Nest, Unnest, Words, Img, Bool as BoolImage, Wide, Send, SendLn, Get, End, EndV, Halt, Combine, Part, Repeat, Again, LoadL, LoadO, LoadG, StoreL, StoreO, StoreG, AddI, IndexL, Item, ItemL, JfEq, JfNe, JfLt, JfLe, JfGt, JfGe, Next, Prior, Flip, Differ}
 use Rattle.stack_code.specs.declared.code.Code.{Code}
 use Rattle.stack_code.specs.declared.operators.Relation.TheVariants.{Equal, Unequal, Less, AtMost, Greater, AtLeast}
 use Rattle.stack_code.specs.declared.operators.Digits.TheVariants.{Both, Either, Differ}
@@ -145,6 +145,8 @@ leaves_by c pc st base outward (Call sub) = inr (called_free st _)
 leaves_by c pc st base outward (CallAt sub n) = inr (called_at_free n _ true st _)
 leaves_by c pc st base outward (CallTo sub n to) = inr (one_free st _ (λ x rest. called_at_free n to (truth x) rest _))
 leaves_by c pc st base outward Part = inr tt
+leaves_by c pc st base outward (Repeat n) = inr tt
+leaves_by c pc st base outward (Again to) = inr tt
 leaves_by c pc st base outward Ret = inr tt
 leaves_by c pc st base outward RetV = inr (one_free st _ (λ x rest. tt))
 leaves_by c pc st base outward (Raise reason) = inr tt

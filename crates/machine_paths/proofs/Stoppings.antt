@@ -1,6 +1,6 @@
 -- At which instruction a step stops.
 use Rattle.std.proofs.Common.{◌≡◌, ℕ, zero, suc, ◌+◌, ◌-◌, ◌⊎◌, inl, inr, ℤ, List, [], ◌∷◌, length, Option, Some, None, Bool, true, false, cond, refl, sym, subst}
-use Rattle.std.specs.Prelude.{slice_get, nat_lt}
+use Rattle.std.specs.Prelude.{slice_get, nat_eq, nat_lt}
 use Rattle.ada_base.specs.Cells.{Cell, seen, written}
 use Rattle.ada_base.specs.declared.reason.Reason.{Reason}
 use Rattle.ada_base.specs.declared.reason.Reason.TheVariants.{ConstraintError, StorageError}
@@ -9,12 +9,13 @@ use Rattle.stack_code.specs.declared.code.Code.{Code}
 use Rattle.stack_code.specs.declared.code.CodeSub.{CodeSub}
 use Rattle.stack_code.specs.declared.code.Unwind.{Unwind}
 use Rattle.stack_code.specs.declared.instr.Instr.{Instr}
+use Rattle.stack_code.specs.declared.path.Round.{Round}
 use Rattle.stack_code.specs.declared.path.Leave.{Leave}
 use Rattle.stack_code.specs.declared.path.Leave.TheVariants.{Raise as Raises}
 use Rattle.stack_code.specs.Answers.{IsIo}
-use Rattle.stack_code.specs.Deeds.{Deed, Lacks, GoesOn, Fails, Loads, Stores, Turns, Calls, CallsAt, Combines, Draws, Ends, Leaves, Forks, Nests, Unnests, Writes, Sends, Gets, Gives, deed_of}
+use Rattle.stack_code.specs.Deeds.{Deed, Lacks, GoesOn, Fails, Loads, Stores, Turns, Calls, CallsAt, Combines, Draws, Repeats, Rounds, Ends, Leaves, Forks, Nests, Unnests, Writes, Sends, Gets, Gives, deed_of}
 use Rattle.stack_code.specs.Fits.{IsFit}
-use Rattle.stack_code.specs.Machine.{Frame, State, Done, Left, Spent, Cut, Asks, Constructs, Stuck, Astray, Went, Goes, Stops, look_by, with_value, with_cells, cut, on, failed, entered, entered_at, entry_of, handled, unwound, raised, turned, entering, entering_at, combining, drawing, ending, nesting, done, acted, stepped, step}
+use Rattle.stack_code.specs.Machine.{Frame, State, Done, Left, Spent, Cut, Asks, Constructs, Stuck, Astray, Went, Goes, Stops, look_by, with_value, with_cells, cut, on, moved_to, failed, entered, entered_at, entry_of, handled, unwound, raised, turned, entering, entering_at, combining, drawing, another, rounding, ending, nesting, done, acted, stepped, step}
 use Rattle.stack_code.specs.Stands.{Stands}
 use Rattle.stack_code.specs.Valid.{IsValid}
 use Rattle.stack_code.proofs.Standing.{here_of, fit_of}
@@ -24,11 +25,12 @@ use Rattle.machine_paths.proofs.Leavers.{Stays, Leaver, leaves_by}
 pub record Stood (s t : State) : Type 0 where
   pub pc : t.pc ≡ s.pc
   pub waiting : t.waiting ≡ s.waiting
+  pub rounds : t.rounds ≡ s.rounds
   pub turns : t.turns ≡ s.turns
   pub raising : t.raising ≡ s.raising
 
 stood : (s : State) (st : List ℤ) (cells : List Cell) → Stood s (record s { stack = st; cells = cells })
-stood s st cells = record { pc = refl; waiting = refl; turns = refl; raising = refl }
+stood s st cells = record { pc = refl; waiting = refl; rounds = refl; turns = refl; raising = refl }
 
 -- at a fork the path stands, and asks and leaves come of their instructions
 abbrev pub StoppedAt : Instr → State → Went → Type 0
@@ -61,6 +63,14 @@ module _ (i : Instr) (limit : ℕ) where
   drawing_at : (s : State) (parts : List ℤ) → StoppedAt i s (drawing limit parts s)
   drawing_at s [] = tt
   drawing_at s (part ∷ parts) = tt
+
+  another_at : (s : State) (to head more : ℕ) (rs : List Round) → StoppedAt i s (another limit to head more rs s)
+  another_at s to head zero rs = tt
+  another_at s to head (suc n) rs = elim (nat_eq head to) as (λ y. StoppedAt i s (cond y (Goes (moved_to to s.stack (record s { rounds = record { more = n; head = head } ∷ rs }))) (Goes (on s.stack (record s { rounds = rs }))))) [ true ↦ tt | false ↦ tt ]
+
+  rounding_at : (s : State) (to : ℕ) (rs : List Round) → StoppedAt i s (rounding limit to rs s)
+  rounding_at s to [] = tt
+  rounding_at s to (r ∷ rs) = another_at s to r.head r.more rs
 
   combining_at : (s : State) (f : CodeSub) (acc : ℤ) (st parts : List ℤ) → StoppedAt i s (combining limit f acc st parts s)
   combining_at s f acc st [] = tt
@@ -95,7 +105,7 @@ module _ (i : Instr) (limit : ℕ) where
   ] where
     back : (w : List Cell) (x : Went) → StoppedAt i (record s { cells = w }) x → StoppedAt i s x
     back w (Goes t) g = g
-    back w (Stops (Constructs q) t) g = record { pc = g.pc; waiting = g.waiting; turns = g.turns; raising = g.raising }
+    back w (Stops (Constructs q) t) g = record { pc = g.pc; waiting = g.waiting; rounds = g.rounds; turns = g.turns; raising = g.raising }
     back w (Stops (Asks io) t) g = g
     back w (Stops (Left l) t) g = g
     back w (Stops (Done v) t) g = g
@@ -107,6 +117,8 @@ module _ (i : Instr) (limit : ℕ) where
   done_at c pc stack (Calls g) s h f = turned_at s (λ t. entering limit g (s.pc + 1) s.kept t) (λ l n. entering_at_all s (record s { left = l; turns = n }) g (s.pc + 1) s.kept)
   done_at c pc stack (CallsAt g m to fit st) s h f = turned_at s (λ t. entering_at limit g m to fit (record t { stack = st })) (λ l n. entering_frame s (record s { left = l; turns = n; stack = st }) g m to fit)
   done_at c pc stack Draws s h f = drawing_at s s.kept
+  done_at c pc stack (Repeats n) s h f = tt
+  done_at c pc stack (Rounds to) s h f = rounding_at s to s.rounds
   done_at c pc stack (Combines g acc st) s h f = combining_at s g acc st s.kept
   done_at c pc stack (Ends v st) s h f = ending_at s v st s.waiting
   done_at c pc stack (Leaves l st) s h f = on_leave l st h

@@ -40,7 +40,7 @@ enough_law limit c told valid forward later hushed plan site q low p at forked t
     let s = thread_start limit c plan site q p.state top from j in
     let x = thread_at c top site q p (record { cells = cs; turns = from; left = n; world = w }) j in
     let own = own_cells site.frame q j in
-    let ran : silently limit c (enough limit c) (On x) ≡ Some e = begun_enough limit c told valid forward later hushed q.site site at x e (begun_stands c valid q.site site low p.state top from p.state.calls p.state.nested n x.state.cells at forked) refl le notes f in
+    let ran : silently limit c (enough limit c) (On x) ≡ Some e = begun_enough limit c told valid forward later hushed q.site site at x e (begun_stands c valid q.site site low p.state top from p.state.calls p.state.nested n x.state.cells at forked) refl refl le notes f in
     let same : in_step (quiet plan) (On x) ≡ On (starts s.path n (cs ++ map Mine s.own)) = ap (λ l. in_step (quiet plan) (On (record { state = record x.state { cells = cs ++ l }; world = w }))) (sym own) in
     ap (λ y. outcome_of s.path (silently limit c (enough limit c) y)) (sym same) ∙ ap (outcome_of s.path) (silently_in limit c w (quiet plan) notes refl (sym planned) (enough limit c) (On x) e refl ran)
 

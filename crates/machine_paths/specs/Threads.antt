@@ -1,5 +1,5 @@
 -- A thread's path of the machine, that runs the constructs in it in order, as a path of ada_workers.
-use Rattle.std.specs.Prelude.{ℕ, ◌+◌, ◌*◌, pos, negsuc, List, [], ◌∷◌, length, Option, Some, None}
+use Rattle.std.specs.Prelude.{ℕ, ◌+◌, ◌*◌, pos, negsuc, List, [], ◌∷◌, Option, Some, None}
 use Rattle.ada_base.specs.Cells.{Cell}
 use Rattle.ada_base.specs.Cuts.{Plan, cuts_of}
 use Rattle.ada_base.specs.Input.{Nothing}
@@ -8,6 +8,7 @@ use Rattle.ada_workers.specs.Paths.{Ending, AtEnd, Left as Leaves, Spent as Over
 use Rattle.ada_workers.specs.Iterated.{Touch, Reads, Writes}
 use Rattle.stack_code.specs.declared.code.Code.{Code}
 use Rattle.stack_code.specs.Machine.{Stop, Done, Left, Spent, Cut, Asks, Constructs, Stuck, Astray, begun}
+use Rattle.stack_code.specs.Stands.{cost}
 use Rattle.ada_lower.specs.Driven.{World, Path, Final, On}
 use Rattle.machine_paths.specs.Silent.{silently}
 use Rattle.machine_paths.specs.Touched as machine
@@ -56,9 +57,9 @@ abbrev pub outcome_of : ThreadPath → Option Final → Outcome ThreadPath
 outcome_of p None = record { path = p; cells = []; end = IsStuck }
 outcome_of p (Some e) = record { path = final_path p e; cells = e.dyn.cells; end = ending e.how }
 
--- as many steps as forward code can take, with the constructs in it
+-- as many steps as forward code can take, with the constructs in it and the rounds of its parts
 abbrev pub enough : ℕ → Code → ℕ
-enough limit c = 2 * ((2 * limit + 1) * (4 * length c.instrs + 4))
+enough limit c = 2 * ((2 * limit + 1) * (4 * cost c.instrs + 4))
 
 -- what it comes to
 abbrev pub ran : ThreadPath → Option ℕ → List Cell → Option Final

@@ -4,7 +4,7 @@ use Rattle.ada_base.specs.declared.reason.Reason.{Reason}
 use Rattle.stack_code.specs.declared.instr.Instr.{Instr}
 use Rattle.stack_code.specs.declared.code.Code.{Code}
 use Rattle.ada_base.specs.Cells.{Cell, seen, written}
-use Rattle.stack_code.specs.Deeds.{Deed, Lacks, GoesOn, Fails, Loads, Stores, Turns, Calls, CallsAt, Combines, Draws, Ends, Leaves, Forks, Nests, Unnests, Writes, Sends, Gets, Gives, deed_of}
+use Rattle.stack_code.specs.Deeds.{Deed, Lacks, GoesOn, Fails, Loads, Stores, Turns, Calls, CallsAt, Combines, Draws, Repeats, Rounds, Ends, Leaves, Forks, Nests, Unnests, Writes, Sends, Gets, Gives, deed_of}
 use Rattle.stack_code.specs.Machine.{State, Went, Goes, Stops, step}
 use Rattle.cell_memory.specs.Sight.{is_mine, is_gone}
 use Rattle.machine_paths.specs.Alike.{at, NotStuck}
@@ -35,6 +35,8 @@ touches_of (Calls f) cs = []
 touches_of (CallsAt f n to fit st) cs = []
 touches_of (Combines f acc st) cs = []
 touches_of Draws cs = []
+touches_of (Repeats n) cs = []
+touches_of (Rounds head) cs = []
 touches_of (Ends v st) cs = []
 touches_of (Leaves l st) cs = []
 touches_of (Forks q st) cs = []

@@ -1,6 +1,6 @@
 -- Which instructions ask.
 use Rattle.std.proofs.Common.{◌≡◌, ◌⊎◌, inl, inr, ℕ, zero, suc, ◌+◌, ◌-◌, ℤ, Bool, true, false, cond, List, [], ◌∷◌, length, Option, Some, None, arith, refl, sym, ◌∙◌, ap, subst}
-use Rattle.std.specs.Prelude.{slice_get, nat_lt}
+use Rattle.std.specs.Prelude.{slice_get, nat_eq, nat_lt}
 use Rattle.ada_base.specs.Cells.{Cell, seen, written}
 use Rattle.ada_base.specs.declared.reason.Reason.{Reason}
 use Rattle.ada_base.specs.declared.reason.Reason.TheVariants.{StorageError, ConstraintError}
@@ -11,9 +11,10 @@ use Rattle.stack_code.specs.declared.code.Unwind.{Unwind}
 use Rattle.stack_code.specs.declared.instr.Instr.{Instr}
 use Rattle.stack_code.specs.declared.instr.Instr.TheVariants.{Send, SendLn, Get}
 use Rattle.stack_code.specs.declared.path.Io.TheVariants as io
-use Rattle.stack_code.specs.Deeds.{Deed, Lacks, GoesOn, Fails, Loads, Stores, Turns, Calls, CallsAt, Combines, Draws, Ends, Leaves, Forks, Nests, Unnests, Writes, Sends, Gets, Gives, deed_of}
+use Rattle.stack_code.specs.declared.path.Round.{Round}
+use Rattle.stack_code.specs.Deeds.{Deed, Lacks, GoesOn, Fails, Loads, Stores, Turns, Calls, CallsAt, Combines, Draws, Repeats, Rounds, Ends, Leaves, Forks, Nests, Unnests, Writes, Sends, Gets, Gives, deed_of}
 use Rattle.stack_code.specs.Fits.{IsFit}
-use Rattle.stack_code.specs.Machine.{Frame, State, Stop, Asks, Went, Goes, Stops, acted, combining, cut, done, drawing, ending, entered, entered_at, entering, entering_at, entry_of, failed, going, handled, look_by, nesting, on, raised, run, step, stepped, turned, unwound, with_cells, with_value, Comes_to}
+use Rattle.stack_code.specs.Machine.{Frame, State, Stop, Asks, Went, Goes, Stops, acted, another, combining, cut, done, drawing, ending, entered, entered_at, entering, entering_at, entry_of, failed, going, handled, look_by, nesting, on, raised, rounding, run, step, stepped, turned, unwound, with_cells, with_value, Comes_to}
 use Rattle.stack_code.specs.Stands.{Keeps, Stands}
 use Rattle.stack_code.specs.Valid.{IsValid}
 use Rattle.stack_code.proofs.Fits.{fits}
@@ -57,6 +58,14 @@ module _ (limit : ℕ) (i : Instr) (pc : ℕ) where
   drawing_asks [] s = tt
   drawing_asks (p ∷ ps) s = tt
 
+  another_asks : (to head more : ℕ) (rs : List Round) (s : State) → AsksBy i pc (another limit to head more rs s)
+  another_asks to head zero rs s = tt
+  another_asks to head (suc n) rs s = cond_asks (nat_eq head to) _ _ tt tt
+
+  rounding_asks : (to : ℕ) (rs : List Round) (s : State) → AsksBy i pc (rounding limit to rs s)
+  rounding_asks to [] s = tt
+  rounding_asks to (r ∷ rs) s = another_asks to r.head r.more rs s
+
   ending_asks : (v : Option ℤ) (st : List ℤ) (fs : List Frame) (s : State) → AsksBy i pc (ending limit v st fs s)
   ending_asks v st [] s = tt
   ending_asks v st (f ∷ fs) s = tt
@@ -81,6 +90,8 @@ module _ (limit : ℕ) (c : Code) (i : Instr) where
   done_asks (CallsAt g n to fit st) s f = turned_asks limit i s.pc s _ (λ t. entering_at_asks limit i s.pc g n to fit (record t { stack = st }))
   done_asks (Combines g acc st) s f = combining_asks limit i s.pc g acc st s.kept s
   done_asks Draws s f = drawing_asks limit i s.pc s.kept s
+  done_asks (Repeats n) s f = tt
+  done_asks (Rounds to) s f = rounding_asks limit i s.pc to s.rounds s
   done_asks (Ends v st) s f = ending_asks limit i s.pc v st s.waiting s
   done_asks (Leaves l st) s f = tt
   done_asks (Forks q st) s f = tt

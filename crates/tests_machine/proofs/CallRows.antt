@@ -13,7 +13,7 @@ one instr s = step 10 (code_of (instr ∷ []) []) s
 
 -- the frame that the first body waits with
 abbrev waits : (to floor : ℕ) → Frame
-waits to floor = record { at = 0; to = to; floor = floor; base = 3; nest = 0; kept = []; top = 5 }
+waits to floor = record { at = 0; to = to; floor = floor; base = 3; nest = 0; kept = []; rounds = []; top = 5 }
 
 -- two of three operands go to the callee, whose frame is new cells at the end
 call_moves : one (i.Call 1) (fresh (pos 3 ∷ pos 2 ∷ pos 1 ∷ [])) ≡ Goes (record (fresh (pos 3 ∷ pos 2 ∷ pos 1 ∷ [])) { pc = 20; floor = 1; base = 5; waiting = waits 1 0 ∷ []; calls = 1; turns = 1; cells = five ++ zeros 3 })
@@ -34,7 +34,7 @@ window_too_deep : one (i.CallAt 2 1) (record (fresh (pos 1 ∷ [])) { calls = 10
 window_too_deep = refl
 
 -- a window inside the cells that are there takes none
-window_inside : one (i.CallAt 2 0) (record (fresh []) { base = 1 }) ≡ Goes (record (fresh []) { pc = 30; base = 1; waiting = record { at = 0; to = 1; floor = 0; base = 1; nest = 0; kept = []; top = 5 } ∷ []; calls = 1; turns = 1 })
+window_inside : one (i.CallAt 2 0) (record (fresh []) { base = 1 }) ≡ Goes (record (fresh []) { pc = 30; base = 1; waiting = record { at = 0; to = 1; floor = 0; base = 1; nest = 0; kept = []; rounds = []; top = 5 } ∷ []; calls = 1; turns = 1 })
 window_inside = refl
 
 -- the same that comes back to instruction 8, and takes a truth value: where that is false it raises, after the turn is begun

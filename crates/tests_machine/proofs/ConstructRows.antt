@@ -58,7 +58,7 @@ reduced = refl
 
 -- what was kept is combined, one after another, by calls that come back here
 combines : one (i.Combine 1) (record (fresh (pos 5 ∷ [])) { kept = pos 6 ∷ pos 7 ∷ [] })
-    ≡ Goes (record (fresh (pos 6 ∷ pos 5 ∷ [])) { pc = 20; base = 5; kept = []; calls = 1; turns = 1; cells = five ++ zeros 3; waiting = record { at = 0; to = 0; floor = 0; base = 3; nest = 0; kept = pos 7 ∷ []; top = 5 } ∷ [] })
+    ≡ Goes (record (fresh (pos 6 ∷ pos 5 ∷ [])) { pc = 20; base = 5; kept = []; calls = 1; turns = 1; cells = five ++ zeros 3; waiting = record { at = 0; to = 0; floor = 0; base = 3; nest = 0; kept = pos 7 ∷ []; rounds = []; top = 5 } ∷ [] })
 combines = refl
 
 combined : one (i.Combine 1) (fresh (pos 5 ∷ [])) ≡ Goes (record (fresh (pos 5 ∷ [])) { pc = 1 })

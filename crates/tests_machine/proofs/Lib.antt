@@ -6,3 +6,4 @@ pub mod CallRows
 pub mod ConstructRows
 pub mod LineRows
 pub mod RaiseRows
+pub mod RoundRows

@@ -67,7 +67,7 @@ taking_cut = refl
 
 -- where none holds the instruction the body ends, and its call raises; in the lowest body the path is left
 abbrev caller : Frame
-caller = record { at = 9; to = 10; floor = 0; base = 1; nest = 1; kept = pos 6 ∷ []; top = 3 }
+caller = record { at = 9; to = 10; floor = 0; base = 1; nest = 1; kept = pos 6 ∷ []; rounds = []; top = 3 }
 
 unwound : one [] i.Halt (record raising { waiting = caller ∷ []; calls = 2 })
     ≡ Goes (record raising { pc = 9; stack = pos 1 ∷ []; floor = 0; nest = 1; nested = 2; base = 1; kept = pos 6 ∷ []; waiting = []; calls = 1; cells = take 3 five })

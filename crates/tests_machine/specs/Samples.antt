@@ -37,6 +37,7 @@ fresh st = record {
   floor = 0;
   nest = 0;
   kept = [];
+  rounds = [];
   base = 3;
   outward = 1 ∷ [];
   waiting = [];

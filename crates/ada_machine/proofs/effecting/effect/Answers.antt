@@ -118,3 +118,15 @@ returns-in-Part-clause-looks g c = quiet_looks c.args.code.now (state_of c.args.
 
 pub returns-in-Combine-clause-looks : goal.returns-in-Combine-clause-looks
 returns-in-Combine-clause-looks g c = same_looks c.args.code.now (state_of c.args.m.now (g.C.Cells.cells c.args.view.now)) (instr.Combine c.in-Combine.number) c.combine.result _ _ _ c.requires.calm (c.requires.at ∙ ap Some c.in-Combine.is) (combine_looks c.args.code.now c.args.m.now (g.C.Cells.cells c.args.view.now) c.requires.ready c.requires.calm c.in-Combine.number (c.requires.at ∙ ap Some c.in-Combine.is)) c.combine.ensures.looks
+
+pub returns-in-Repeat-clause-steps : goal.returns-in-Repeat-clause-steps
+returns-in-Repeat-clause-steps g c = c.repeat.ensures.steps (g.C.Cells.cells c.args.view.now) c.requires.ready
+
+pub returns-in-Repeat-clause-looks : goal.returns-in-Repeat-clause-looks
+returns-in-Repeat-clause-looks g c = quiet_looks c.args.code.now (state_of c.args.m.now (g.C.Cells.cells c.args.view.now)) (instr.Repeat c.in-Repeat.count) c.repeat.result _ _ c.requires.calm (c.requires.at ∙ ap Some c.in-Repeat.is) tt c.repeat.ensures.looks
+
+pub returns-in-Again-clause-steps : goal.returns-in-Again-clause-steps
+returns-in-Again-clause-steps g c = c.again.ensures.steps (g.C.Cells.cells c.args.view.now) c.requires.ready
+
+pub returns-in-Again-clause-looks : goal.returns-in-Again-clause-looks
+returns-in-Again-clause-looks g c = quiet_looks c.args.code.now (state_of c.args.m.now (g.C.Cells.cells c.args.view.now)) (instr.Again c.in-Again.to) c.again.result _ _ c.requires.calm (c.requires.at ∙ ap Some c.in-Again.is) tt c.again.ensures.looks
