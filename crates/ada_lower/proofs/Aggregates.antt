@@ -12,7 +12,7 @@ use Rattle.stack_code.specs.declared.code.Code.{Code}
 use Rattle.ada_base.specs.Cells.{Mine}
 use Rattle.stack_code.specs.Deeds.{GoesOn}
 use Rattle.ada_lower.specs.Driven.{Dyn, Fixed, Step, on, At, On, state_of, driven}
-use Rattle.ada_lower.specs.Sights.{Emit, Named, Sight, Stands, Where, looped, none, one, own, taking, when_, with_parameter, ◌⨟◌}
+use Rattle.ada_lower.specs.Sights.{Emit, Named, Sight, Stands, Where, iterated_sight, looped, none, one, own, taking, when_, with_parameter, ◌⨟◌}
 use Rattle.ada_lower.specs.Emission
 use Rattle.ada_lower.specs.Emission.{emit, selected, load, binary_instr, unary_instr, compare_instr, Shape, shapes, shapes_cells}
 use Rattle.ada_lower.specs.Fits.{Free, Keeps, Ghost, Ends, place_in, Spread, Knows, Stands as StandsFor, Holds, Fit}
@@ -40,14 +40,6 @@ use Rattle.ada_lower.proofs.Plain.{Steady, both, copies, copies_are, does_again}
 use Rattle.ada_meaning.specs.Meaning
 use Rattle.stack_code.specs.declared.instr.Instr.TheVariants as i
 use Rattle.ada_lower.proofs.Operands.{laid_length, laid_more, knows_alike}
-
--- what is in scope in each turn
-abbrev pub given_sight : Option Iterated → Sight → Sight
-given_sight it s = record s { scope = Emission.turned_scope s.scope it }
-
-pub given_free : (it : Option Iterated) (s : Sight) → (given_sight it s).scope.free ≡ s.scope.free + 3
-given_free None s = refl
-given_free (Some i') s = refl
 
 module _ (limit : ℕ) (cuts : ℕ → ℕ → List ℕ) (program : Program) (c : Code) (f : Fixed) (x : Ends) (calls : ℕ → ℕ → Stored (Unit {0}) → List Passed → Stored Returned) (globals : ℕ → Entity → Option Named) (mains : Entity → Bool) (epar : Sight → Expr → Type 0) where
   abbrev pub ops : Operations {1}
@@ -80,7 +72,7 @@ module _ (limit : ℕ) (cuts : ℕ → ℕ → List ℕ) (program : Program) (c 
       → Doing limit c f x g j q (stored.bind (Meaning.cells ops limit program calls value env) then) (λ d. on f from st d) goal
 
   -- the cells of a component among those of a value
-  within_more : (g : Ghost) (t first : ℕ) (cur cs : List ℤ) → first + length cs ≤ length cur → (b : ℕ) → (keeping (f.base + (t + first)) cs (keeping (f.base + t) cur g)).what b ≡ (keeping (f.base + t) (Values.laid cur first cs) g).what b
+  pub within_more : (g : Ghost) (t first : ℕ) (cur cs : List ℤ) → first + length cs ≤ length cur → (b : ℕ) → (keeping (f.base + (t + first)) cs (keeping (f.base + t) cur g)).what b ≡ (keeping (f.base + t) (Values.laid cur first cs) g).what b
   within_more g t first cur cs le b =
       let e : f.base + (t + first) ≡ f.base + t + first = omega arith in
       ap (λ a. (keeping a cs (keeping (f.base + t) cur g)).what b) e ∙ laid_more (f.base + t) 0 0 cur first cs g.what b le
@@ -88,7 +80,7 @@ module _ (limit : ℕ) (cuts : ℕ → ℕ → List ℕ) (program : Program) (c 
   within_back : (g : Ghost) (t first : ℕ) (cur cs : List ℤ) → first + length cs ≤ length cur → {u : stored.State} {d : Dyn} → Fit (keeping (f.base + (t + first)) cs (keeping (f.base + t) cur g)) u d → Fit (keeping (f.base + t) (Values.laid cur first cs) g) u d
   within_back g t first cur cs le w = fit_alike (keeping (f.base + t) (Values.laid cur first cs) g).what (within_more g t first cur cs le) w
 
-  room_in : {g j : Ghost} {s : Sight} {env : Env} (t n first m : ℕ) (cur : List ℤ) → length cur ≡ n → first + m ≤ n → Room g j s env t n → Room (keeping (f.base + t) cur g) j s env (t + first) m
+  pub room_in : {g j : Ghost} {s : Sight} {env : Env} (t n first m : ℕ) (cur : List ℤ) → length cur ≡ n → first + m ≤ n → Room g j s env t n → Room (keeping (f.base + t) cur g) j s env (t + first) m
   room_in {g} {j} {s} {env} t n first m cur len le r = record {
     below = let z = r.below in omega (arith, z, le);
     own = λ k lt. owned k lt;
@@ -324,12 +316,12 @@ module _ (limit : ℕ) (cuts : ℕ → ℕ → List ℕ) (program : Program) (c 
       ))
       (go cs len))
 
-  abbrev pub turn_env : Option Iterated → ℕ → Env → Env
-  turn_env it k env = Meaning.iterated_env it k env
+  abbrev pub turn_env : Iterated → ℕ → Env → Env
+  turn_env it k env = Meaning.iterated_env (Some it) k env
 
   -- what is asked of a component's code in each turn
-  abbrev pub EachAt : Option Iterated → Value → Env → Sight → ℕ → List ℤ → Emit → Type 1
-  EachAt it value env s t st code = (B : Type 0) (g j : Ghost) (q : B → Type 0) (goal : B → Dyn → Step) (k first : ℕ) → Room g j (given_sight it s) (turn_env it k env) (t + first) (Emission.width program value) → g.what (f.base + (s.scope.free + 1 + 1)) ≡ Keeps (pos (f.base + (t + first))) → (from to : ℕ) (then : List ℤ → Stored B)
+  abbrev pub EachAt : Iterated → Value → Env → Sight → ℕ → List ℤ → Emit → Type 1
+  EachAt it value env s t st code = (B : Type 0) (g j : Ghost) (q : B → Type 0) (goal : B → Dyn → Step) (k first : ℕ) → Room g j (iterated_sight s it.parameter) (turn_env it k env) (t + first) (Emission.width program value) → g.what (f.base + (s.scope.free + 1 + 1)) ≡ Keeps (pos (f.base + (t + first))) → (from to : ℕ) (then : List ℤ → Stored B)
       → Stands c code from to → Then g j q goal (t + first) (Emission.width program value) to st then → Doing limit c f x g j q (stored.bind (Meaning.cells ops limit program calls value (turn_env it k env)) then) (λ d. on f from st d) goal
 
   -- where three cells are free
@@ -346,10 +338,10 @@ module _ (limit : ℕ) (cuts : ℕ → ℕ → List ℕ) (program : Program) (c 
         turn_kept limit cuts c f x s.scope.free a u v (keeping (f.base + t) cur g) (f.base + (t + first)) cs (let z : t + n ≤ s.scope.free = r.below in omega (arith, z, inn)) b
         ∙ turn_alike limit cuts c f x s.scope.free a u v (keeping (f.base + (t + first)) cs (keeping (f.base + t) cur g)) (keeping (f.base + t) (Values.laid cur first cs) g) b (within_more g t first cur cs (omega (arith, inn, len)) b)
 
-    turn_room : (it : Option Iterated) (k first m : ℕ) (v : ℤ) (cur : List ℤ) → length cur ≡ n → first + m ≤ n
-        → Room (turns_at limit cuts c f x s.scope.free (f.base + (t + first)) ((Emission.turned_low it) +ℤ pos k) v (keeping (f.base + t) cur g)) j (given_sight it s) (turn_env it k env) (t + first) m
+    turn_room : (it : Iterated) (k first m : ℕ) (v : ℤ) (cur : List ℤ) → length cur ≡ n → first + m ≤ n
+        → Room (turns_at limit cuts c f x s.scope.free (f.base + (t + first)) (it.first +ℤ pos k) v (keeping (f.base + t) cur g)) j (iterated_sight s it.parameter) (turn_env it k env) (t + first) m
     turn_room it k first m v cur len inn = record {
-      below = let z : t + n ≤ s.scope.free = r.below in let e : (given_sight it s).scope.free ≡ s.scope.free + 3 = given_free it s in omega (arith, z, inn, e);
+      below = let z : t + n ≤ s.scope.free = r.below in omega (arith, z, inn);
       own = λ o lt. subst (λ w. IsOwn w) (sym (turn_other limit cuts c f x s.scope.free a u v (keeping (f.base + t) cur g) (f.base + (t + first) + o) (let z : t + n ≤ s.scope.free = r.below in omega (arith, z, inn, lt)))) ((room_in t n first m cur len inn r).own o lt);
       knows = known cur len;
       weak = λ y d w. turns_weak cur len a u v y d w;
@@ -361,27 +353,23 @@ module _ (limit : ℕ) (cuts : ℕ → ℕ → List ℕ) (program : Program) (c 
         a = f.base + (t + first)
 
         u : ℤ
-        u = (Emission.turned_low it) +ℤ pos k
+        u = it.first +ℤ pos k
 
-        given_known : {g : Ghost} (it : Option Iterated) → Knows limit cuts g f (taking 3 s) env → Holds g f (own s.scope.free) (Emission.turned_low it +ℤ pos k) → Knows limit cuts g f (given_sight it s) (turn_env it k env)
-        given_known None w h = w
-        given_known (Some i') w h = knows_given i'.parameter (own s.scope.free) (i'.first +ℤ pos k) w h
+        known : (cs : List ℤ) → length cs ≡ n → Knows limit cuts (turns_at limit cuts c f x s.scope.free a u v (keeping (f.base + t) cs g)) f (iterated_sight s it.parameter) (turn_env it k env)
+        known cs l = knows_given it.parameter (own s.scope.free) (it.first +ℤ pos k) (knows_turns limit cuts c f x s a u v some (r.kept cs l)) (f.base + s.scope.free, refl, inl (turn_parameter limit cuts c f x s.scope.free a u v (keeping (f.base + t) cs g)))
 
-        known : (cs : List ℤ) → length cs ≡ n → Knows limit cuts (turns_at limit cuts c f x s.scope.free a u v (keeping (f.base + t) cs g)) f (given_sight it s) (turn_env it k env)
-        known cs l = given_known it (knows_turns limit cuts c f x s a u v some (r.kept cs l)) (f.base + s.scope.free, refl, inl (turn_parameter limit cuts c f x s.scope.free a u v (keeping (f.base + t) cs g)))
-
-  abbrev pub turn_values : Option Iterated → Value → Env → ℕ → Stored (List ℤ)
+  abbrev pub turn_values : Iterated → Value → Env → ℕ → Stored (List ℤ)
   turn_values it value env k = stored.bind (Meaning.turned ops) (λ _. Meaning.cells ops limit program calls value (turn_env it k env))
 
   -- a turn
-  turn_does : {B : Type 0} {g j : Ghost} {env : Env} {q : B → Type 0} {goal : B → Dyn → Step} (it : Option Iterated) (value : Value) (s : Sight) (t n : ℕ) (st : List ℤ) (code : Emit) → EachAt it value env s t st code → Room g j s env t n → s.scope.free + 1 + 1 < s.cells
+  turn_does : {B : Type 0} {g j : Ghost} {env : Env} {q : B → Type 0} {goal : B → Dyn → Step} (it : Iterated) (value : Value) (s : Sight) (t n : ℕ) (st : List ℤ) (code : Emit) → EachAt it value env s t st code → Room g j s env t n → s.scope.free + 1 + 1 < s.cells
       → (head mid : ℕ) (v : ℤ) → At c head i.Turn x.entry → Stands c code (head + 1) mid → (k first : ℕ) (cur : List ℤ) (more : List ℤ → Stored B) → length cur ≡ n → first + Emission.width program value ≤ n
-      → ((final : List ℤ) → length final ≡ n → Doing limit c f x (turns_at limit cuts c f x s.scope.free (f.base + (t + first)) ((Emission.turned_low it) +ℤ pos k) v (keeping (f.base + t) final g)) j q (more final) (λ d. on f mid st d) goal)
-      → Doing limit c f x (turns_at limit cuts c f x s.scope.free (f.base + (t + first)) ((Emission.turned_low it) +ℤ pos k) v (keeping (f.base + t) cur g)) j q (stored.bind (turn_values it value env k) (λ cs. more (Values.laid cur first cs))) (λ d. on f head st d) goal
+      → ((final : List ℤ) → length final ≡ n → Doing limit c f x (turns_at limit cuts c f x s.scope.free (f.base + (t + first)) (it.first +ℤ pos k) v (keeping (f.base + t) final g)) j q (more final) (λ d. on f mid st d) goal)
+      → Doing limit c f x (turns_at limit cuts c f x s.scope.free (f.base + (t + first)) (it.first +ℤ pos k) v (keeping (f.base + t) cur g)) j q (stored.bind (turn_values it value env k) (λ cs. more (Values.laid cur first cs))) (λ d. on f head st d) goal
   turn_does {B} {g} {j} {env} {q} {goal} it value s t n st code each room some head mid v jt lc k first cur more len here go =
       let m : ℕ = Emission.width program value in
       let a : ℕ = f.base + (t + first) in
-      let u : ℤ = (Emission.turned_low it) +ℤ pos k in
+      let u : ℤ = it.first +ℤ pos k in
       does_assoc limit c f x (Meaning.turned ops) _ (λ cs. more (Values.laid cur first cs))
       (does_seq limit c f x (λ y d w. turns_weak t n some room cur len a u v y d w) (λ ts al. al) (does_turn limit c f x cuts st room.knows.most jt) (λ _ _.
       each B (turns_at limit cuts c f x s.scope.free a u v (keeping (f.base + t) cur g)) j q goal k first (turn_room t n some room it k first m v cur len here) (turn_address limit cuts c f x s.scope.free a u v (keeping (f.base + t) cur g)) (head + 1) mid (λ cs. more (Values.laid cur first cs)) lc (λ cs cl.
@@ -391,19 +379,19 @@ module _ (limit : ℕ) (cuts : ℕ → ℕ → List ℕ) (program : Program) (c 
       (go final (laid_length cur first cs ∙ len)))))
 
   -- the turns of a run, from one on; behind each, code comes to where the address is moved on
-  turning_does : {B : Type 0} {g j : Ghost} {env : Env} {q : B → Type 0} {goal : B → Dyn → Step} (it : Option Iterated) (value : Value) (s : Sight) (t n : ℕ) (st : List ℤ) (code : Emit) → EachAt it value env s t st code → Room g j s env t n → s.scope.free + 1 + 1 < s.cells
+  turning_does : {B : Type 0} {g j : Ghost} {env : Env} {q : B → Type 0} {goal : B → Dyn → Step} (it : Iterated) (value : Value) (s : Sight) (t n : ℕ) (st : List ℤ) (code : Emit) → EachAt it value env s t st code → Room g j s env t n → s.scope.free + 1 + 1 < s.cells
       → (stride head mid step : ℕ) (v : ℤ) {e1 e2 e3 e4 : Option ℕ} → ((d : Dyn) → To limit c (on f mid st d) (on f step st d)) → At c head i.Turn x.entry → Stands c code (head + 1) mid → At c step (i.LoadL (s.scope.free + 1 + 1)) e1 → At c (step + 1) (i.Field stride) e2 → At c (step + 1 + 1) (i.StoreL (s.scope.free + 1 + 1)) e3 → At c (step + 1 + 1 + 1) (i.Next s.scope.free (s.scope.free + 1) head) e4
-      → (more k first : ℕ) (cur : List ℤ) (then : List ℤ → Stored B) → v ≡ ((Emission.turned_low it) +ℤ pos k) +ℤ pos more → length cur ≡ n → ((o : ℕ) → o < suc more → first + o * stride + Emission.width program value ≤ n) → Then g j q goal t n (step + 1 + 1 + 1 + 1) st then
-      → Doing limit c f x (turns_at limit cuts c f x s.scope.free (f.base + (t + first)) ((Emission.turned_low it) +ℤ pos k) v (keeping (f.base + t) cur g)) j q (stored.bind (Meaning.run_values ops k (suc more) first stride (turn_values it value env) cur) then) (λ d. on f head st d) goal
+      → (more k first : ℕ) (cur : List ℤ) (then : List ℤ → Stored B) → v ≡ (it.first +ℤ pos k) +ℤ pos more → length cur ≡ n → ((o : ℕ) → o < suc more → first + o * stride + Emission.width program value ≤ n) → Then g j q goal t n (step + 1 + 1 + 1 + 1) st then
+      → Doing limit c f x (turns_at limit cuts c f x s.scope.free (f.base + (t + first)) (it.first +ℤ pos k) v (keeping (f.base + t) cur g)) j q (stored.bind (Meaning.run_values ops k (suc more) first stride (turn_values it value env) cur) then) (λ d. on f head st d) goal
   turning_does {B} {g} {j} {env} {q} {goal} it value s t n st code each room some stride head mid step v arrives jt lc j1 j2 j3 j4 zero k first cur then is len inn go =
       let a : ℕ = f.base + (t + first) in
       let here : first + Emission.width program value ≤ n = (let z : first + 0 * stride + Emission.width program value ≤ n = inn 0 (omega arith) in omega (arith, z, zero-mul stride)) in
       does_assoc limit c f x _ _ then
       (turn_does it value s t n st code each room some head mid v jt lc k first cur (λ final. stored.bind (Meaning.run_values ops (k + 1) 0 (first + stride) stride (turn_values it value env) final) then) len here (λ final flen.
       does_returned limit c f x then final
-      (does_first limit c f x (fewer_turns limit cuts c f x s.scope.free (keeping (f.base + t) final g) (frees t n some room final flen) a ((Emission.turned_low it) +ℤ pos k) v) (λ t' d' w'.
-      let (d2, w2, goes) = turn_last limit cuts c f x st (keeping (f.base + t) final g) s.scope.free stride a step head k (Emission.turned_low it) v j1 j2 j3 j4 (omega (arith, ints, is)) w' in
-      (d2, fit_turns limit cuts c f x s.scope.free (keeping (f.base + t) final g) (frees t n some room final flen) (a + stride) ((Emission.turned_low it) +ℤ pos k) v w2, comes_on limit c (arrives d') goes))
+      (does_first limit c f x (fewer_turns limit cuts c f x s.scope.free (keeping (f.base + t) final g) (frees t n some room final flen) a (it.first +ℤ pos k) v) (λ t' d' w'.
+      let (d2, w2, goes) = turn_last limit cuts c f x st (keeping (f.base + t) final g) s.scope.free stride a step head k it.first v j1 j2 j3 j4 (omega (arith, ints, is)) w' in
+      (d2, fit_turns limit cuts c f x s.scope.free (keeping (f.base + t) final g) (frees t n some room final flen) (a + stride) (it.first +ℤ pos k) v w2, comes_on limit c (arrives d') goes))
       (go final flen))))
   turning_does {B} {g} {j} {env} {q} {goal} it value s t n st code each room some stride head mid step v arrives jt lc j1 j2 j3 j4 (suc more) k first cur then is len inn go =
       let a : ℕ = f.base + (t + first) in
@@ -411,25 +399,25 @@ module _ (limit : ℕ) (cuts : ℕ → ℕ → List ℕ) (program : Program) (c 
       let place : a + stride ≡ a' = omega arith in
       let one_more : suc k ≡ k + 1 = omega arith in
       let here : first + Emission.width program value ≤ n = (let z : first + 0 * stride + Emission.width program value ≤ n = inn 0 (omega arith) in omega (arith, z, zero-mul stride)) in
-      let is' : v ≡ ((Emission.turned_low it) +ℤ pos (k + 1)) +ℤ pos more = omega (arith, ints, is) in
+      let is' : v ≡ (it.first +ℤ pos (k + 1)) +ℤ pos more = omega (arith, ints, is) in
       does_assoc limit c f x _ _ then
       (turn_does it value s t n st code each room some head mid v jt lc k first cur (λ final. stored.bind (Meaning.run_values ops (k + 1) (suc more) (first + stride) stride (turn_values it value env) final) then) len here (λ final flen.
-      does_first limit c f x (fewer_turn limit cuts c f x s.scope.free a a' ((Emission.turned_low it) +ℤ pos k) ((Emission.turned_low it) +ℤ pos (k + 1)) v v (keeping (f.base + t) final g)) (λ t' d' w'.
-      let (d2, w2, goes) = turn_more limit cuts c f x st (keeping (f.base + t) final g) s.scope.free stride a step head k more (Emission.turned_low it) v j1 j2 j3 j4 is w' in
-      (d2, subst (λ y. Fit (turns_at limit cuts c f x s.scope.free a' ((Emission.turned_low it) +ℤ pos y) v (keeping (f.base + t) final g)) t' d2) one_more (subst (λ y. Fit (turns_at limit cuts c f x s.scope.free y ((Emission.turned_low it) +ℤ pos (suc k)) v (keeping (f.base + t) final g)) t' d2) place w2), comes_on limit c (arrives d') goes))
+      does_first limit c f x (fewer_turn limit cuts c f x s.scope.free a a' (it.first +ℤ pos k) (it.first +ℤ pos (k + 1)) v v (keeping (f.base + t) final g)) (λ t' d' w'.
+      let (d2, w2, goes) = turn_more limit cuts c f x st (keeping (f.base + t) final g) s.scope.free stride a step head k more it.first v j1 j2 j3 j4 is w' in
+      (d2, subst (λ y. Fit (turns_at limit cuts c f x s.scope.free a' (it.first +ℤ pos y) v (keeping (f.base + t) final g)) t' d2) one_more (subst (λ y. Fit (turns_at limit cuts c f x s.scope.free y (it.first +ℤ pos (suc k)) v (keeping (f.base + t) final g)) t' d2) place w2), comes_on limit c (arrives d') goes))
       (turning_does it value s t n st code each room some stride head mid step v arrives jt lc j1 j2 j3 j4 more (k + 1) (first + stride) final then is' flen (λ o lt. let z = inn (suc o) (omega (arith, lt)) in omega (arith, z, suc-mul o stride)) go)))
 
   -- the three cells of the turns are set
-  entering_does : {B : Type 0} {g j : Ghost} {env : Env} {q : B → Type 0} {goal : B → Dyn → Step} {m : Stored B} (it : Option Iterated) (s : Sight) (h t n : ℕ) (st : List ℤ) → Room g j s env t n → s.scope.entry ≡ x.entry → s.scope.free + 1 + 1 < s.cells
-      → (count first from mid : ℕ) (cur : List ℤ) → length cur ≡ n → Stands c (Emission.entering s.scope h t (Emission.turned_low it) count first) from mid
-      → Doing limit c f x (turns_at limit cuts c f x s.scope.free (f.base + (t + first)) (Emission.turned_low it) ((Emission.turned_low it) +ℤ pos count -ℤ pos 1) (keeping (f.base + t) cur g)) j q m (λ d. on f mid st d) goal
+  entering_does : {B : Type 0} {g j : Ghost} {env : Env} {q : B → Type 0} {goal : B → Dyn → Step} {m : Stored B} (it : Iterated) (s : Sight) (h t n : ℕ) (st : List ℤ) → Room g j s env t n → s.scope.entry ≡ x.entry → s.scope.free + 1 + 1 < s.cells
+      → (count first from mid : ℕ) (cur : List ℤ) → length cur ≡ n → Stands c (Emission.entering s.scope h t it.first count first) from mid
+      → Doing limit c f x (turns_at limit cuts c f x s.scope.free (f.base + (t + first)) it.first (it.first +ℤ pos count -ℤ pos 1) (keeping (f.base + t) cur g)) j q m (λ d. on f mid st d) goal
       → Doing limit c f x (keeping (f.base + t) cur g) j q m (λ d. on f from st d) goal
   entering_does {B} {g} {j} {env} {q} {goal} {m} it s h t n st room en some count first from mid cur len (jp, (jk, (jp2, (jk2, (jl, (jk3, z)))))) go =
       let N : ℕ = s.scope.free in
       let G : Ghost = keeping (f.base + t) cur g in
       let a : ℕ = f.base + (t + first) in
-      let u : ℤ = (Emission.turned_low it) in
-      let v : ℤ = (Emission.turned_low it) +ℤ pos count -ℤ pos 1 in
+      let u : ℤ = it.first in
+      let v : ℤ = it.first +ℤ pos count -ℤ pos 1 in
       let free : (k : ℕ) → N ≤ k → k < N + 3 → G.what (f.base + k) ≡ Free = frees t n some room cur len in
       let free1 : (set_what (f.base + N) (Keeps u) G).what (f.base + (N + 1)) ≡ Free = what_other G (f.base + N) (f.base + (N + 1)) (Keeps u) (λ e. omega (arith, e)) ∙ free (N + 1) (omega arith) (omega arith) in
       let free2 : (set_what (f.base + (N + 1)) (Keeps v) (set_what (f.base + N) (Keeps u) G)).what (f.base + (N + 1 + 1)) ≡ Free =
@@ -444,20 +432,20 @@ module _ (limit : ℕ) (cuts : ℕ → ℕ → List ℕ) (program : Program) (c 
       (subst (λ p. Doing limit c f x (turns_at limit cuts c f x N a u v G) j q m (λ d. on f p st d) goal) z go)))))))
 
   -- the turns of a run that has components, from the first one on
-  run_does : {B : Type 0} {g j : Ghost} {env : Env} {q : B → Type 0} {goal : B → Dyn → Step} (it : Option Iterated) (value : Value) (s : Sight) (t n : ℕ) (st : List ℤ) (code : Emit) → EachAt it value env s t st code → Room g j s env t n → s.scope.free + 1 + 1 < s.cells
+  run_does : {B : Type 0} {g j : Ghost} {env : Env} {q : B → Type 0} {goal : B → Dyn → Step} (it : Iterated) (value : Value) (s : Sight) (t n : ℕ) (st : List ℤ) (code : Emit) → EachAt it value env s t st code → Room g j s env t n → s.scope.free + 1 + 1 < s.cells
       → (stride head mid step : ℕ) {e1 e2 e3 e4 : Option ℕ} → ((d : Dyn) → To limit c (on f mid st d) (on f step st d)) → At c head i.Turn x.entry → Stands c code (head + 1) mid → At c step (i.LoadL (s.scope.free + 1 + 1)) e1 → At c (step + 1) (i.Field stride) e2 → At c (step + 1 + 1) (i.StoreL (s.scope.free + 1 + 1)) e3 → At c (step + 1 + 1 + 1) (i.Next s.scope.free (s.scope.free + 1) head) e4
       → (count first : ℕ) (cur : List ℤ) (then : List ℤ → Stored B) → length cur ≡ n → ((o : ℕ) → o < suc count → first + o * stride + Emission.width program value ≤ n) → Then g j q goal t n (step + 1 + 1 + 1 + 1) st then
-      → Doing limit c f x (turns_at limit cuts c f x s.scope.free (f.base + (t + first)) (Emission.turned_low it) ((Emission.turned_low it) +ℤ pos (suc count) -ℤ pos 1) (keeping (f.base + t) cur g)) j q (stored.bind (Meaning.run_values ops 0 (suc count) first stride (turn_values it value env) cur) then) (λ d. on f head st d) goal
+      → Doing limit c f x (turns_at limit cuts c f x s.scope.free (f.base + (t + first)) it.first (it.first +ℤ pos (suc count) -ℤ pos 1) (keeping (f.base + t) cur g)) j q (stored.bind (Meaning.run_values ops 0 (suc count) first stride (turn_values it value env) cur) then) (λ d. on f head st d) goal
   run_does {B} {g} {j} {env} {q} {goal} it value s t n st code each room some stride head mid step arrives jt lc j1 j2 j3 j4 count first cur then len inn go =
-      let v : ℤ = (Emission.turned_low it) +ℤ pos (suc count) -ℤ pos 1 in
-      let none_yet : (Emission.turned_low it) +ℤ pos 0 ≡ (Emission.turned_low it) = omega (arith, ints) in
+      let v : ℤ = it.first +ℤ pos (suc count) -ℤ pos 1 in
+      let none_yet : it.first +ℤ pos 0 ≡ it.first = omega (arith, ints) in
       subst (λ y. Doing limit c f x (turns_at limit cuts c f x s.scope.free (f.base + (t + first)) y v (keeping (f.base + t) cur g)) j q (stored.bind (Meaning.run_values ops 0 (suc count) first stride (turn_values it value env) cur) then) (λ d. on f head st d) goal) none_yet
       (turning_does it value s t n st code each room some stride head mid step v arrives jt lc j1 j2 j3 j4 count 0 first cur then (let z : pos (suc count) ≡ pos count +ℤ pos 1 = omega (arith, ints) in omega (arith, ints, z)) len inn go)
 
   -- a run alone
-  turning_enters : {B : Type 0} {g j : Ghost} {env : Env} {q : B → Type 0} {goal : B → Dyn → Step} (it : Option Iterated) (value : Value) (s : Sight) (h t n : ℕ) (st : List ℤ) (code : Emit) → EachAt it value env s t st code → Room g j s env t n → s.scope.entry ≡ x.entry → s.scope.free + 1 + 1 < s.cells
+  turning_enters : {B : Type 0} {g j : Ghost} {env : Env} {q : B → Type 0} {goal : B → Dyn → Step} (it : Iterated) (value : Value) (s : Sight) (h t n : ℕ) (st : List ℤ) (code : Emit) → EachAt it value env s t st code → Room g j s env t n → s.scope.entry ≡ x.entry → s.scope.free + 1 + 1 < s.cells
       → (count first stride from to : ℕ) (cur : List ℤ) (then : List ℤ → Stored B) → length cur ≡ n → ((o : ℕ) → o < suc count → first + o * stride + Emission.width program value ≤ n)
-      → Stands c (Emission.turning s.scope h t (Emission.turned_low it) code (suc count) first stride) from to → Then g j q goal t n to st then
+      → Stands c (Emission.turning s.scope h t it.first code (suc count) first stride) from to → Then g j q goal t n to st then
       → Doing limit c f x (keeping (f.base + t) cur g) j q (stored.bind (Meaning.run_values ops 0 (suc count) first stride (turn_values it value env) cur) then) (λ d. on f from st d) goal
   turning_enters {B} {g} {j} {env} {q} {goal} it value s h t n st code each room en some count first stride from to cur then len inn (jp, (jk, (jp2, (jk2, (jl, (jk3, lo)))))) go =
       let N : ℕ = s.scope.free in
@@ -516,10 +504,10 @@ module _ (limit : ℕ) (cuts : ℕ → ℕ → List ℕ) (program : Program) (c 
       comes_on limit c (other_run y k (λ e. omega (arith, e, lt)) st d) (past_steps s h t low head rs (m + 1) k y.next to (omega (arith, lt)) y.rest st d)
 
   -- what follows the end of a run: those that are left, from a number on
-  following : {B : Type 0} {g j : Ghost} {env : Env} {q : B → Type 0} {goal : B → Dyn → Step} (it : Option Iterated) (value : Value) (s : Sight) (h t n : ℕ) (st : List ℤ) (code : Emit) → ((m : ℕ) → EachAt it value env s t (pos m ∷ st) code) → Room g j s env t n → s.scope.entry ≡ x.entry → s.scope.free + 1 + 1 < s.cells
+  following : {B : Type 0} {g j : Ghost} {env : Env} {q : B → Type 0} {goal : B → Dyn → Step} (it : Iterated) (value : Value) (s : Sight) (h t n : ℕ) (st : List ℤ) (code : Emit) → ((m : ℕ) → EachAt it value env s t (pos m ∷ st) code) → Room g j s env t n → s.scope.entry ≡ x.entry → s.scope.free + 1 + 1 < s.cells
       → (head mid to : ℕ) → At c head i.Turn x.entry → Stands c code (head + 1) mid
       → (rs : List Run) (m k a b p : ℕ) → ((i' : ℕ) → m ≤ i' → (d : Dyn) → To limit c (on f mid (pos i' ∷ st) d) (on f p (pos i' ∷ st) d)) → ((d : Dyn) → To limit c (on f b (pos k ∷ st) d) (on f to (pos k ∷ st) d))
-      → Stands c (Emission.entering_next s.scope h t (Emission.turned_low it) head m rs) a b → Stands c (Emission.run_steps s.scope h t (Emission.turned_low it) head m rs) p to
+      → Stands c (Emission.entering_next s.scope h t it.first head m rs) a b → Stands c (Emission.run_steps s.scope h t it.first head m rs) p to
       → (cur : List ℤ) (then : List ℤ → Stored B) → length cur ≡ n → FittedRuns program globals mains n (Emission.width program value) rs → ((i' : ℕ) → Then g j q goal t n to (pos i' ∷ st) then)
       → Doing limit c f x (keeping (f.base + t) cur g) j q (stored.bind (Meaning.runs_values ops rs (turn_values it value env) cur) then) (λ d. on f a (pos k ∷ st) d) goal
   following {g = g} {j = j} {q = q} {goal = goal} it value s h t n st code each room en some head mid to jt lc [] m k a b p arrives ends l ls cur then len ws go =
@@ -530,7 +518,7 @@ module _ (limit : ℕ) (cuts : ℕ → ℕ → List ℕ) (program : Program) (c 
       (λ cs clen. following it value s h t n st code each room en some head mid to jt lc rs (m + 1) m (p + 1 + 1 + 1 + 1 + 1 + 1 + 1 + 1) y.next y.next later (past_steps s h t low head rs (m + 1) m y.next to (omega arith) y.rest st) y.enters y.rest cs then clen ws go))
     where
       low : ℤ
-      low = Emission.turned_low it
+      low = it.first
 
       y : Steps s h t low head m r rs p to
       y = steps_stand s h t low head m r rs p to ls
@@ -558,9 +546,9 @@ module _ (limit : ℕ) (cuts : ℕ → ℕ → List ℕ) (program : Program) (c 
           (run_does it value s t n (pos m ∷ st) code (each m) room some r.stride head mid (p + 1 + 1 + 1 + 1) (λ d. comes_on limit c (arrives m (le_refl m) d) (is_run y st d)) jt lc y.load y.field y.store y.count count r.first cur after len inn next))))
 
   -- those from a number on, of which none is entered yet
-  runs_begin : {B : Type 0} {g j : Ghost} {env : Env} {q : B → Type 0} {goal : B → Dyn → Step} (it : Option Iterated) (value : Value) (s : Sight) (h t n : ℕ) (st : List ℤ) (code : Emit) → ((m : ℕ) → EachAt it value env s t (pos m ∷ st) code) → Room g j s env t n → s.scope.entry ≡ x.entry → s.scope.free + 1 + 1 < s.cells
+  runs_begin : {B : Type 0} {g j : Ghost} {env : Env} {q : B → Type 0} {goal : B → Dyn → Step} (it : Iterated) (value : Value) (s : Sight) (h t n : ℕ) (st : List ℤ) (code : Emit) → ((m : ℕ) → EachAt it value env s t (pos m ∷ st) code) → Room g j s env t n → s.scope.entry ≡ x.entry → s.scope.free + 1 + 1 < s.cells
       → (rs : List Run) (m from to : ℕ) (cur : List ℤ) (then : List ℤ → Stored B) → length cur ≡ n → FittedRuns program globals mains n (Emission.width program value) rs
-      → Stands c (Emission.run_turnings s.scope h t (Emission.turned_low it) code m rs) from to → Then g j q goal t n to st then
+      → Stands c (Emission.run_turnings s.scope h t it.first code m rs) from to → Then g j q goal t n to st then
       → Doing limit c f x (keeping (f.base + t) cur g) j q (stored.bind (Meaning.runs_values ops rs (turn_values it value env) cur) then) (λ d. on f from st d) goal
   runs_begin {g = g} {j = j} {q = q} {goal = goal} it value s h t n st code each room en some [] m from to cur then len ws l go =
       does_returned limit c f x then cur (subst (λ p. Doing limit c f x (keeping (f.base + t) cur g) j q (then cur) (λ d. on f p st d) goal) l (go cur len))
@@ -568,7 +556,7 @@ module _ (limit : ℕ) (cuts : ℕ → ℕ → List ℕ) (program : Program) (c 
       does_assoc limit c f x _ _ then (one_run r.count wr l (λ l. runs_begin it value s h t n st code each room en some rs (m + 1) from to cur then len ws l go))
     where
       low : ℤ
-      low = Emission.turned_low it
+      low = it.first
 
       after : List ℤ → Stored B
       after cs = stored.bind (Meaning.runs_values ops rs (turn_values it value env) cs) then
@@ -599,9 +587,9 @@ module _ (limit : ℕ) (cuts : ℕ → ℕ → List ℕ) (program : Program) (c 
           does_before limit c f x (λ d. comes_goes limit c f (pos i' ∷ st) (end + 1) st d jp refl) (subst (λ z. Doing limit c f x (keeping (f.base + t) cs g) j q (then cs) (λ d. on f z st d) goal) z (go cs clen)))))))
 
   -- the runs of an association whose values take turns
-  pub all_turnings : {B : Type 0} {g j : Ghost} {env : Env} {q : B → Type 0} {goal : B → Dyn → Step} (it : Option Iterated) (value : Value) (s : Sight) (h t n : ℕ) (st : List ℤ) (code : Emit) → ((st : List ℤ) → EachAt it value env s t st code) → Room g j s env t n → s.scope.entry ≡ x.entry → s.scope.free + 1 + 1 < s.cells
+  pub all_turnings : {B : Type 0} {g j : Ghost} {env : Env} {q : B → Type 0} {goal : B → Dyn → Step} (it : Iterated) (value : Value) (s : Sight) (h t n : ℕ) (st : List ℤ) (code : Emit) → ((st : List ℤ) → EachAt it value env s t st code) → Room g j s env t n → s.scope.entry ≡ x.entry → s.scope.free + 1 + 1 < s.cells
       → (rs : List Run) (from to : ℕ) (cur : List ℤ) (then : List ℤ → Stored B) → length cur ≡ n → FittedRuns program globals mains n (Emission.width program value) rs
-      → Stands c (Emission.turnings s.scope h t (Emission.turned_low it) code rs) from to → Then g j q goal t n to st then
+      → Stands c (Emission.turnings s.scope h t it.first code rs) from to → Then g j q goal t n to st then
       → Doing limit c f x (keeping (f.base + t) cur g) j q (stored.bind (Meaning.runs_values ops rs (turn_values it value env) cur) then) (λ d. on f from st d) goal
   all_turnings {g = g} {j = j} {q = q} {goal = goal} it value s h t n st code each room en some [] from to cur then len ws l go =
       does_returned limit c f x then cur (subst (λ p. Doing limit c f x (keeping (f.base + t) cur g) j q (then cur) (λ d. on f p st d) goal) l (go cur len))
@@ -615,11 +603,11 @@ module _ (limit : ℕ) (cuts : ℕ → ℕ → List ℕ) (program : Program) (c 
       ended cs clen = does_returned limit c f x then cs (go cs clen)
 
       one_run : (count first stride : ℕ) → ((o : ℕ) → o < count → first + o * stride + Emission.width program value ≤ n)
-          → Stands c (cond (nat_eq count 0) none (Emission.turning s.scope h t (Emission.turned_low it) code count first stride)) from to
+          → Stands c (cond (nat_eq count 0) none (Emission.turning s.scope h t it.first code count first stride)) from to
           → Doing limit c f x (keeping (f.base + t) cur g) j q (stored.bind (Meaning.run_values ops 0 count first stride (turn_values it value env) cur) after) (λ d. on f from st d) goal
       one_run zero first stride wr l = does_returned limit c f x after cur (subst (λ p. Doing limit c f x (keeping (f.base + t) cur g) j q (after cur) (λ d. on f p st d) goal) l (ended cur len))
       one_run (suc count) first stride wr l =
           turning_enters it value s h t n st code (each st) room en some count first stride from to cur after len wr
-          (subst (λ b. Stands c (cond b none (Emission.turning s.scope h t (Emission.turned_low it) code (suc count) first stride)) from to) (ne_eqb (suc count) 0 (λ e. omega (arith, e))) l) ended
+          (subst (λ b. Stands c (cond b none (Emission.turning s.scope h t it.first code (suc count) first stride)) from to) (ne_eqb (suc count) 0 (λ e. omega (arith, e))) l) ended
   all_turnings it value s h t n st code each room en some (r ∷ p ∷ rs) from to cur then len ws l go =
       runs_begin it value s h t n st code (λ m. each (pos m ∷ st)) room en some (r ∷ p ∷ rs) 0 from to cur then len ws l go

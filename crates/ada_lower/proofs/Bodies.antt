@@ -1,4 +1,5 @@
 -- Calls of every depth do what they do.
+use Rattle.ada_lower.proofs.Rounds.{with_rounds}
 use Rattle.ada_lower.proofs.Inner.{InnerDo}
 use Rattle.ada_lower.proofs.ForkLaws.{ForksDo}
 use Rattle.std.proofs.Common.{◌≡◌, ◌⊎◌, ℕ, zero, suc, ◌+◌, ◌-◌, ◌<◌, ◌≤◌, ℤ, pos, List, [], ◌∷◌, ◌++◌, length, nat_eq, nat_lt, Option, Some, None, Ok, Err, Bool, true, false, cond, refl, sym, ap, ◌∙◌, subst, le_refl, arith, inl, inr, ⊎_elim, true≢false, ltb-true, ltb-false, lt-ltb}
@@ -294,6 +295,7 @@ module _ (limit : ℕ) (cuts : ℕ → ℕ → List ℕ) (program : Program) (c 
       let suits : Suits limit c f' y s = record {
         entry = none;
         flat = refl;
+        rounds = refl;
         kept = refl;
         texts = same_texts;
         threads = λ n here. absurd (subst (λ ns. Amid n ns) out here);
@@ -321,7 +323,7 @@ module _ (limit : ℕ) (cuts : ℕ → ℕ → List ℕ) (program : Program) (c 
 
   -- ---- calls
 
-  module _ (same_texts : texts ≡ c.texts) (stood : AllStand program globals mains texts text frames epar par c) (asked : Option Program) (pars : (f : Fixed) → f.asked ≡ asked → (depth : ℕ) (all : (f' : Fixed) → Alike f' f → CallsDo limit cuts program globals mains c f' (Meaning.call ops limit program depth)) → ForksDo limit cuts program globals mains epar par c f (Meaning.call ops limit program depth) (all f (alike f))) where
+  module _ (same_texts : texts ≡ c.texts) (stood : AllStand program globals mains texts text frames epar par c) (asked : Option Program) (pars : (f : Fixed) → f.asked ≡ asked → (depth : ℕ) (all : (f' : Fixed) → Alike f' f → CallsDo limit cuts program globals mains c f' (Meaning.call ops limit program depth)) → ForksDo limit cuts program globals mains epar par c f (Meaning.call ops limit program depth) (λ rs. all (with_rounds rs f) (alike f))) where
     -- what a call comes to behind its turn: whether fewer than 1,000 calls are active, and whether what is checked holds
     abbrev begun_call : (q n to : ℕ) (f : Fixed) (st : List ℤ) → CodeSub → (few ok : Bool) → Dyn → Step
     begun_call q n to f st is few ok d = driven limit c
@@ -416,7 +418,7 @@ module _ (limit : ℕ) (cuts : ℕ → ℕ → List ℕ) (program : Program) (c 
         (all_free (f.base + n) count B.what ps have (free_call g f s env k sub n q back kept after u frame whole room count whole free))
         (λ B' k'.
         let k'' : Knows limit cuts B' f' t (Meaning.outset env.nested) = knows_placed hs outside k' in
-        body_does fk x q back n after g.top (Meaning.call ops limit program depth) u.unit t env.nested b.is.entry b.to ps (f.base + n) (spread_all f' ks ps suited (spots_back 0 hs t (b.backs cells)) k'') (record { called = calls f' refl refl; forked = (pars f' same_asked depth (λ f'' e. calls f'' e.0 e.1)).forked }) (pars f' same_asked depth (λ f'' e. calls f'' e.0 e.1)).parallel k'' refl refl (λ m. refl) refl same_texts (b.fitted cells enough) (b.stands cells enough))))))))
+        body_does fk x q back n after g.top (Meaning.call ops limit program depth) u.unit t env.nested b.is.entry b.to ps (f.base + n) (spread_all f' ks ps suited (spots_back 0 hs t (b.backs cells)) k'') (record { called = λ rs. calls (with_rounds rs f') refl refl; forked = (pars f' same_asked depth (λ f'' e. calls f'' e.0 e.1)).forked }) (pars f' same_asked depth (λ f'' e. calls f'' e.0 e.1)).parallel k'' refl refl (λ m. refl) refl same_texts (b.fitted cells enough) (b.stands cells enough))))))))
 
     pub call_do : (depth : ℕ) (f : Fixed) → f.asked ≡ asked → f.calls + depth ≡ 1000 → CallsDo limit cuts program globals mains c f (Meaning.call ops limit program depth)
     call_do zero f same_asked many = record {

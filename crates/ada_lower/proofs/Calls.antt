@@ -33,10 +33,10 @@ use Rattle.typed_tree.specs.Syntax.{Program}
 -- what waits for a call at an instruction, which goes on at another, with these operands and that top; and the frame of the
 -- call, from a cell on
 abbrev pub waiter : Fixed → (at to top : ℕ) → Frame
-waiter f q to top = record { at = q; to = to; floor = length f.below; base = f.base; nest = f.nest; kept = f.kept; top = top }
+waiter f q to top = record { at = q; to = to; floor = length f.below; base = f.base; nest = f.nest; kept = f.kept; rounds = f.rounds; top = top }
 
 abbrev pub inner : Fixed → (at to cell : ℕ) → List ℤ → ℕ → Fixed
-inner f q to n st top = record { below = st ++ f.below; nest = 0; kept = []; base = f.base + n; outward = f.outward; waiting = waiter f q to top ∷ f.waiting; calls = f.calls + 1; nested = f.nested; asked = f.asked }
+inner f q to n st top = record { below = st ++ f.below; nest = 0; kept = []; rounds = []; base = f.base + n; outward = f.outward; waiting = waiter f q to top ∷ f.waiting; calls = f.calls + 1; nested = f.nested; asked = f.asked }
 
 -- with cells up to there
 abbrev pub grown : ℕ → Dyn → Dyn

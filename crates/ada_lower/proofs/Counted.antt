@@ -8,7 +8,7 @@ use Rattle.ada_base.specs.declared.operation.Comparison.{Comparison}
 use Rattle.ada_base.specs.declared.operation.Comparison.TheVariants as comparison
 use Rattle.ada_base.specs.declared.reason.Reason.{Reason}
 use Rattle.behaviours.specs.Paths.{VariableOf, ConstantOf}
-use Rattle.ada_meaning.specs.Turns.{several, is_plain_expr, is_plain, is_plain_composite, are_plain, takes_turns}
+use Rattle.lower_emission.specs.Repeats.{several, is_plain_expr, is_plain, is_plain_composite, are_plain, is_repeated}
 use Rattle.ada_meaning.specs.Values.{components}
 use Rattle.ada_meaning.specs.Meaning.{object_layout}
 use Rattle.ada_meaning.proofs.Cells.{some_same}
@@ -39,9 +39,9 @@ use Rattle.lower_emission.specs.declared.types.Level.{Level}
 use Rattle.lower_emission.specs.declared.types.Level.TheVariants.{Own, Around, Main}
 use Rattle.lower_emission.specs.declared.types.Leaving.{Leaving}
 use Rattle.lower_emission.specs.declared.types.Leaving.TheVariants.{ByReturn, ByValue, ByEnd, ByLeave}
-use Rattle.lower_emission.specs.Emits.{Emit, Nothing, One, Seq, Choose, When, Looped, Guarded, Aside, listed}
+use Rattle.lower_emission.specs.Emits.{Emit, Nothing, One, Seq, Choose, When, Looped, Guarded, Aside, From, listed}
 use Rattle.lower_emission.specs.Scope.{Scope, taking, nested, thread_scope, with_exit, with_entry, root_of, constant_root_of, array_root_of, none, one, load_at, address_at, store_at, address_of}
-use Rattle.lower_emission.specs.Emission.{load_by, load_named, load_where, address, is_whole, part_of, unary_instr, binary_instr, compare_instr, negated_code, counting, bounds_code, folding, combined, doubled, filling, fillings, turned_scope, turned_low, turning, entering_next, run_steps, run_turnings, turn_height, turnings, ends_code, passing, composite_width, width, cells_of}
+use Rattle.lower_emission.specs.Emission.{load_by, load_named, load_where, address, is_whole, part_of, unary_instr, binary_instr, compare_instr, negated_code, counting, bounds_code, folding, combined, doubled, filling, fillings, iterated_scope, turning, entering_next, run_steps, run_turnings, turn_height, turnings, components_of, locating, locating_in, repeating, ends_code, passing, composite_width, width, cells_of, own_cell, indexed_by}
 unfoldable use Rattle.lower_emission.specs.Emission.{emit, selected, passed, put_into, composed, associated, component, filtered, iterated, chunk_code, course_code, threaded}
 use Rattle.lower_emission.specs.Statements.{no_handler, is_end, assigned, chosen, has_reason, handled_by, returning, returning_value, away, exiting, handled_target, image_instr, send_instr, piece_texts, object_here, exits_of, arm_exits, exit_code, exits_code, is_own, left_code, field_defaults, default_of, defaults_within, subtype_or_none, defaulted, declared, arms_code, chunk_by, arm_scope}
 unfoldable use Rattle.lower_emission.specs.Statements.{back_code, piece_values, stmt, all, cases, handling, arm_codes}
@@ -185,6 +185,10 @@ module _ (site : ℕ) where
   few_part : (s : Scope) (h : ℕ) (n : Option Named) (whole : Bool) {moved : Emit} {m : ℕ} → Few moved m → Few (part_of s h n whole moved) m
   few_part s h n whole f = choice whole (some (few_named s h n)) (after (few_address s h n) (before f (flat (λ q. refl))))
 
+  few_indexed : (s : Scope) (h : ℕ) (o : Option ℕ) (low high : ℤ) (stride : ℕ) {index : Emit} {m : ℕ} → Few index m → Few (indexed_by s h o low high stride index) m
+  few_indexed s h None low high stride f = before f (flat (λ q. refl))
+  few_indexed s h (Some n) low high stride f = some (flat (λ q. refl))
+
   few_unary : (s : Scope) (h : ℕ) (g : Sign) (class : Class) → Few (one s h (unary_instr g class)) 0
   few_unary s h sign.Minus class = flat (λ q. refl)
   few_unary s h sign.Abs class = flat (λ q. refl)
@@ -273,6 +277,23 @@ module _ (site : ℕ) where
   few_turnings s h t low f (r ∷ []) = choice (nat_eq r.count 0) (some (flat (λ q. refl))) (few_turning s h t low r.count r.first r.stride f)
   few_turnings s h t low f (r ∷ p ∷ rs) = few_runs s h t low f 0 (r ∷ p ∷ rs)
 
+  -- ---- parts that are repeated, where their code stands once
+
+  begun : {exit : ℕ → Emit} {m : ℕ} → ((x : ℕ) → Few (exit x) m) → Few (From exit) m
+  begun f = record { few = λ q. (f q).few q }
+
+  few_locating : (s : Scope) (h t m : ℕ) (r : Run) → Few (locating s h t m r) 0
+  few_locating s h t m r = choice (nat_eq r.count 0) (flat (λ q. refl)) (flat (λ q. refl))
+
+  few_locating_in : (s : Scope) (h t m : ℕ) (runs : List Run) → Few (locating_in s h t m runs) 0
+  few_locating_in s h t m [] = flat (λ q. refl)
+  few_locating_in s h t m (r ∷ []) = few_locating s h t m r
+  few_locating_in s h t m (r ∷ p ∷ rs) = after (flat (λ q. refl)) (after (flat (λ q. refl)) (after (flat (λ q. refl)) (either (few_locating s h t m r) (few_locating_in s h t (m + r.count) (p ∷ rs)))))
+
+  few_repeating : (s : Scope) (h t : ℕ) {part : Emit} {n : ℕ} → Few part n → (runs : List Run) → Few (repeating s h t part runs) n
+  few_repeating s h t f runs = choice (nat_eq (components_of runs) 0) (some (flat (λ q. refl)))
+      (after (flat (λ q. refl)) (after (flat (λ q. refl)) (after (flat (λ q. refl)) (begun (λ x. after (few_locating_in s h t 0 runs) (before f (flat (λ q. refl))))))))
+
   -- ---- what is given once
 
   one_filling : (value : ℕ → Emit) (n count first stride : ℕ) → count ≤ 1 → ((k : ℕ) → Few (value k) n) → Few (filling value count first stride) n
@@ -286,7 +307,7 @@ module _ (site : ℕ) where
       before (choice (plain && (nat_lt 1 r.count && nat_eq r.stride size)) (before (f r.first) (few_doubled s h (t + r.first) size r.count 1 r.count)) (one_filling value n r.count r.first r.stride (ltb-false 1 r.count (or_parts (nat_lt 1 r.count) false e).0) f)) (flat (λ q. refl))
   few_once s h t size plain value f (r ∷ o ∷ rs) e = absurd (true≢false (or_parts (nat_lt 1 r.count) true e).1)
 
-  plain_or : (runs : List Run) (value : Value) → takes_turns runs None value ≡ false → (is_plain value ≡ true) ⊎ (several runs ≡ false)
+  plain_or : (runs : List Run) (value : Value) → is_repeated runs value ≡ false → (is_plain value ≡ true) ⊎ (several runs ≡ false)
   plain_or runs value e = ⊎_elim (λ many. inr many) (λ plain. inl (not-false (is_plain value) plain)) (and_cases (several runs) (not (is_plain value)) e)
 
   -- ---- expressions, values, iterations
@@ -339,7 +360,7 @@ module _ (site : ℕ) where
       plain_associated s h t NoAssociation w = flat (λ q. refl)
       plain_associated s h t (Association runs None mentions value rest) w =
           let (plain, others) = and_parts (is_plain value) (are_plain rest) w in
-          after (choice (takes_turns runs None value) (few_turnings s h t (pos 0) (plain_component (taking 3 s) (turn_height runs h) (s.free + 1 + 1) value plain) runs) (few_fillings s h t (width program value) (is_plain value) _ (λ n. plain_into s h (t + n) value plain) runs))
+          after (choice (is_repeated runs value) (few_repeating s h t (plain_component (taking 2 s) h (s.free + 1) value plain) runs) (few_fillings s h t (width program value) (is_plain value) _ (λ n. plain_into s h (t + n) value plain) runs))
           (plain_associated s h t rest others)
       plain_associated s h t (Association runs (Some x) mentions value rest) w = absurd (true≢false (sym w))
 
@@ -347,15 +368,14 @@ module _ (site : ℕ) where
       plain_component s h at (Number check e) w = after (flat (λ q. refl)) (after (plain_emit s (h + 1) e w) (flat (λ q. refl)))
       plain_component s h at (Cells c) w = after (plain_composed (taking (composite_width program c) s) h s.free c w) (flat (λ q. refl))
 
-    -- a value that takes turns stands in one loop, and another is computed once or has no fork
-    few_given : (s : Scope) (h t : ℕ) (i : Option Iterated) (runs : List Run) (value : Value) (turns : Bool) → takes_turns runs i value ≡ turns
-        → Few (component program (turned_scope s i) (turn_height runs h) (s.free + 1 + 1) value) (in_value site value) → ((n : ℕ) → Few (put_into program s h n value) (in_value site value))
-        → Few (cond turns (turnings s h t (turned_low i) (component program (turned_scope s i) (turn_height runs h) (s.free + 1 + 1) value) runs) (fillings s h t (width program value) (is_plain value) (λ n. put_into program s h (t + n) value) runs)) (in_value site value)
-    few_given s h t i runs value true e f g = few_turnings s h t (turned_low i) f runs
-    few_given s h t None runs value false e f g =
+    -- a value that is repeated stands in one part, and another is computed once or has no fork
+    few_given : (s : Scope) (h t : ℕ) (runs : List Run) (value : Value) (repeated : Bool) → is_repeated runs value ≡ repeated
+        → Few (component program (taking 2 s) h (s.free + 1) value) (in_value site value) → ((n : ℕ) → Few (put_into program s h n value) (in_value site value))
+        → Few (cond repeated (repeating s h t (component program (taking 2 s) h (s.free + 1) value) runs) (fillings s h t (width program value) (is_plain value) (λ n. put_into program s h (t + n) value) runs)) (in_value site value)
+    few_given s h t runs value true e f g = few_repeating s h t f runs
+    few_given s h t runs value false e f g =
         ⊎_elim (λ plain. some (few_fillings s h t (width program value) (is_plain value) _ (λ n. plain_into s h (t + n) value plain) runs))
         (λ many. few_once s h t (width program value) (is_plain value) _ (λ n. g (t + n)) runs many) (plain_or runs value e)
-    few_given s h t (Some x) runs value false e f g = absurd (true≢false e)
 
     mutual
       unfolding emit
@@ -390,7 +410,7 @@ module _ (site : ℕ) where
       few_selected : (o : Option ℕ) (s : Scope) (h : ℕ) (x : Selections) → SitedSelections program o x → Few (selected program s h x) (in_selections site x)
       few_selected _ s h Whole w = flat (λ q. refl)
       few_selected _ s h (Field number offset rest) w = after (flat (λ q. refl)) (few_selected _ s h rest w)
-      few_selected _ s h (Index at e low high stride rest) w = join (few_emit _ s h e w.0) (after (flat (λ q. refl)) (few_selected _ s h rest w.1))
+      few_selected _ s h (Index at e low high stride rest) w = join (few_indexed s h (own_cell s e) low high stride (few_emit _ s h e w.0)) (few_selected _ s h rest w.1)
 
       few_passed : (o : Option ℕ) (s : Scope) (h sub n : ℕ) (x : Actuals) → SitedActuals program o x → Few (passed program s h sub n x) (in_actuals site x)
       few_passed _ s h sub n NoActual w = flat (λ q. refl)
@@ -415,10 +435,12 @@ module _ (site : ℕ) where
 
       few_associated : (o : Option ℕ) (s : Scope) (h t : ℕ) (x : Associations) → SitedAssociations program o x → Few (associated program s h t x) (in_associations site x)
       few_associated _ s h t NoAssociation w = flat (λ q. refl)
-      few_associated _ s h t (Association runs i mentions value rest) w =
+      few_associated _ s h t (Association runs None mentions value rest) w =
           join
-          (also (in_exprs site mentions) (few_given s h t i runs value (takes_turns runs i value) refl (few_component _ (turned_scope s i) (turn_height runs h) (s.free + 1 + 1) value w.0) (λ n. few_into _ s h n value w.0)))
+          (also (in_exprs site mentions) (few_given s h t runs value (is_repeated runs value) refl (few_component _ (taking 2 s) h (s.free + 1) value w.0) (λ n. few_into _ s h n value w.0)))
           (few_associated _ s h t rest w.1)
+      few_associated _ s h t (Association runs (Some x) mentions value rest) w =
+          join (also (in_exprs site mentions) (few_turnings s h t x.first (few_component _ (iterated_scope s x.parameter) (turn_height runs h) (s.free + 1 + 1) value w.0) runs)) (few_associated _ s h t rest w.1)
 
       few_component : (o : Option ℕ) (s : Scope) (h at : ℕ) (x : Value) → SitedValue program o x → Few (component program s h at x) (in_value site x)
       few_component _ s h at (Number check e) w = after (flat (λ q. refl)) (before (few_emit _ s (h + 1) e w) (flat (λ q. refl)))

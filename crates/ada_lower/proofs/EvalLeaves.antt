@@ -1,5 +1,5 @@
 -- Expressions are left by raises only.
-use Rattle.std.proofs.Common.{◌≡◌, ℕ, zero, suc, ◌+◌, ℤ, List, [], ◌∷◌, ◌++◌, Option, Some, None, Result, Ok, Err, Bool, true, false, cond, subst}
+use Rattle.std.proofs.Common.{◌≡◌, ℕ, zero, suc, ◌+◌, ℤ, List, [], ◌∷◌, ◌++◌, Option, Some, None, is_some, Result, Ok, Err, Bool, true, false, cond, subst}
 use Rattle.ada_base.specs.Input.{Held}
 use Rattle.ada_base.specs.declared.operation.Op.{Op}
 use Rattle.ada_base.specs.declared.reason.Reason.{Reason}
@@ -19,7 +19,6 @@ use Rattle.typed_tree.specs.Syntax.{Expr, Static, Variable, Constant, Parameter,
 use Rattle.ada_meaning.specs.Operations.{CheckKind, RangeCheck, IndexCheck, OverflowCheck, ZeroCheck, Operations, operate, reduce}
 use Rattle.ada_meaning.specs.Stored as stored
 use Rattle.ada_meaning.specs.Stored.{Stored, Cause, Left, OutOfTurns, NoRoom, CutOff, Misnoted, Address}
-use Rattle.ada_meaning.specs.Turns.{takes_turns}
 use Rattle.ada_meaning.specs.Meaning
 use Rattle.ada_meaning.specs.Meaning.{Env, ObjectPart, Passed, Returned, inside}
 use Rattle.ada_lower.proofs.ForkLeaves.{only_ret, only_leaves, only_bind, only_look, only_turn, only_handles}
@@ -280,7 +279,7 @@ module _ (may : Leave → Type 0) where
 
           c_associated : (as' : Associations) (env : Env) (so_far : List ℤ) → Closed may (Meaning.associated ops limit program calls as' env so_far)
           c_associated NoAssociation env so_far = c_ret so_far
-          c_associated (Association runs iterated mentions value rest) env so_far = c_bind (c_runs runs _ so_far (λ k. c_bind (c_value_turn (takes_turns runs iterated value)) (λ _. c_cells value _))) (λ cs. c_associated rest env cs)
+          c_associated (Association runs iterated mentions value rest) env so_far = c_bind (c_runs runs _ so_far (λ k. c_bind (c_value_turn (is_some iterated)) (λ _. c_cells value _))) (λ cs. c_associated rest env cs)
 
           pub c_course : (it : Iteration) (env : Env) → Closed may (Meaning.course ops limit program calls it env)
           c_course (Range k reverse low high check filter) env = c_bind (c_eval low env) (λ l. c_bind (c_eval high env) (λ h. c_bind (c_bounds check l h) (λ _. c_ret _)))

@@ -123,7 +123,7 @@ all_stand (suc n) unit e = absurd (none-some unit e)
 
 -- so calls of it do what they do in the stored run
 pub calls_do : (limit : ℕ) (cuts : ℕ → ℕ → List ℕ) (depth : ℕ) (f : Fixed) → f.asked ≡ None → f.calls + depth ≡ 1000 → CallsDo limit cuts program none_there none_main code f (Meaning.call (stored.noted_operations limit cuts) limit program depth)
-calls_do limit cuts depth f not_asked many = call_do limit cuts program code none_there none_main no_threads [] text four_each no_fork refl all_stand None (λ f fa depth all. record { forked = (λ e from to g env x s h st k en w l. absurd w); parallel = (λ t from to g env x s k u w l. absurd w) }) depth f not_asked many
+calls_do limit cuts depth f not_asked many = call_do limit cuts program code none_there none_main no_threads [] text four_each no_fork refl all_stand None (λ f fa depth all. record { forked = (λ rs e from to g env x s h st k en w l. absurd w); parallel = (λ t from to g env x s k u w l. absurd w) }) depth f not_asked many
 
 main_stands : Stands code (main_code program none_there none_main [] text four_each (main_scope program none_there none_main [] text four_each 3).scope) 18 27
 unfolding Rattle.ada_lower.specs.Emission.emit Rattle.ada_lower.specs.Emission.stmt Rattle.ada_lower.specs.Emission.back_code Rattle.ada_lower.specs.Emission.piece_values
@@ -140,4 +140,4 @@ closed (suc n) sub e = absurd (none-some sub e)
 -- and where the stored run of the program gives a value, the machine ends with its output
 pub comes : (limit : ℕ) (cuts : ℕ → ℕ → List ℕ) (slots : ℕ) (input before : List ℕ) (notes : Schedule) → let r = (Meaning.main (stored.noted_operations limit cuts) limit program).does (stored.noted_outset slots input before notes) in r.end ≡ Ok tt
     → (d : Dyn) × Finally limit code (On (record { state = begun 18 0 [] 0 0 0 None (replicate 3 (Mine (pos 0))); world = (first_dyn notes cuts 3 input before).world })) (record { how = Done None; dyn = d }) × (d.world.output ≡ r.state.output) × (d.turns ≡ r.state.turns)
-comes limit cuts slots input before notes e = let (d, a, b, g, w) = program_gives None limit cuts program code none_there none_main no_threads [] text four_each no_fork slots 3 refl (call_only limit cuts program closed 1000) (λ f fa depth all. record { forked = (λ e from to g env x s h st k en w l. absurd w); parallel = (λ t from to g env x s k u w l. absurd w) }) all_stand 18 27 main_stands main_fitted input before notes tt e in (d, a, b, g)
+comes limit cuts slots input before notes e = let (d, a, b, g, w) = program_gives None limit cuts program code none_there none_main no_threads [] text four_each no_fork slots 3 refl (call_only limit cuts program closed 1000) (λ f fa depth all. record { forked = (λ rs e from to g env x s h st k en w l. absurd w); parallel = (λ t from to g env x s k u w l. absurd w) }) all_stand 18 27 main_stands main_fitted input before notes tt e in (d, a, b, g)

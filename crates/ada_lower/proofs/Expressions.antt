@@ -9,7 +9,7 @@ use Rattle.typed_tree.specs.declared.expressions.Run.{Run}
 use Rattle.typed_tree.specs.Syntax.{Expr, Static, Variable, Constant, Parameter, Target, Group, Unary, Binary, AndThen, OrElse, Relation, Membership, If, Call, Convert, Reduction, Range, Components, Optional, Absent, Present, Selections, Whole, Field, Index, Actuals, NoActual, In, InOut, Out, CompositeInOut, CompositeOut, Number, Cells, Program, Value, Composite, WholeVariable, WholeConstant, WholeTarget, CompositeIf, Aggregate, Associations, NoAssociation, Association}
 use Rattle.ada_meaning.specs.Values
 use Rattle.ada_meaning.specs.Values.{between, truth, bit, to_nat, count, compares}
-use Rattle.ada_meaning.specs.Operations.{IndexCheck, RangeCheck, Operations, operate, reduce}
+use Rattle.ada_meaning.specs.Operations.{RangeCheck, Operations, operate, reduce}
 use Rattle.ada_meaning.specs.Stored as stored
 use Rattle.ada_meaning.specs.Stored.{Stored}
 use Rattle.ada_meaning.specs.Meaning.{Env, ObjectPart, Passed, Returned, variable_root, constant_root}
@@ -29,14 +29,15 @@ use Rattle.ada_lower.proofs.Parts.{Runs, allows_fewer, does_first, does_keep, do
 use Rattle.ada_lower.proofs.Declared.{keeping, knows_kept}
 use Rattle.ada_lower.proofs.Blocks.{fit_unkept}
 use Rattle.ada_lower.proofs.Calls.{called_plainly, given}
-use Rattle.ada_lower.proofs.Inner.{InnerDo}
+use Rattle.ada_lower.proofs.Inner.{InnerDo, inner_rounds}
 pub use Rattle.ada_lower.proofs.Courses.{at_entry}
 use Rattle.ada_lower.proofs.Items.{named_entity, array_refers, items_folds}
 use Rattle.ada_lower.proofs.Courses.{comes_kept, course_does, fit_uncount, count_none, range_folds, folds_none, turn_folds, tests}
 use Rattle.ada_lower.proofs.Sent.{Sent, HaveCells, sent_in, suits_in, all_passed, pieces, aheads, pieces_in, aheads_in, have_cells, AreSuited, also_then}
 use Rattle.ada_lower.proofs.Scattered.{AreFree, scattering, fit_unscattered, fewer_scattered, both_kept}
 use Rattle.ada_lower.proofs.Passing.{Passing, passing_none, passing_more, placing}
-use Rattle.ada_lower.proofs.Names.{root_refers, constant_root_refers, index_below, does_by, does_index, does_load, comes_address, comes_number}
+use Rattle.ada_lower.proofs.Indexing.{index_does}
+use Rattle.ada_lower.proofs.Names.{root_refers, constant_root_refers, index_below, does_by, does_load, comes_address, comes_number}
 use Rattle.std.proofs.lemmas.Bool.{ne_eqb}
 use Rattle.ada_lower.proofs.Copies.{does_copy}
 use Rattle.ada_lower.proofs.Plain.{s_value}
@@ -46,7 +47,9 @@ pub use Rattle.ada_lower.proofs.Operands.{does_hold, address_stands, load_stands
 use Rattle.ada_lower.proofs.Operands.{ends_at, push_does, unary_does, compare_deed, choice_does, reads_at, comes_within, comes_negated, rows, ends_ret}
 use Rattle.ada_lower.proofs.Aggregates as aggregates
 pub use Rattle.ada_lower.proofs.Aggregates.{spread_part}
-use Rattle.ada_lower.proofs.Aggregates.{each_plain, all_runs, all_turnings, component_does, zeros_length, fewer_kept, fill_goes, either_do, given_free, given_sight, turn_env, turn_values}
+use Rattle.ada_lower.proofs.Aggregates.{each_plain, all_runs, all_turnings, component_does, zeros_length, fewer_kept, fill_goes, either_do, turn_env, turn_values}
+use Rattle.ada_lower.proofs.Repeated.{Anywhere, all_repeated}
+use Rattle.ada_lower.proofs.Rounds.{with_rounds}
 
 module _ (limit : ℕ) (cuts : ℕ → ℕ → List ℕ) (program : Program) (c : Code) (f : Fixed) (x : Ends) (calls : ℕ → ℕ → Stored (Unit {0}) → List Passed → Stored Returned) (globals : ℕ → Entity → Option Named) (mains : Entity → Bool) (epar : Sight → Expr → Type 0) (calls_do : InnerDo limit cuts program globals mains epar c f calls) where
   abbrev pub ops : Operations {1}
@@ -184,7 +187,7 @@ module _ (limit : ℕ) (cuts : ℕ → ℕ → List ℕ) (program : Program) (c 
       does_before limit c f x (λ d. comes_goes limit c f (v ∷ st) q st d j6 refl)
       (does_first limit c f x (λ b y p e. inl (alike b ∙ e)) (λ z d w. (d, fit_alike (scattering n (pieces ps) g).what alike w, comes_here limit c (on f q st d)))
       (also_then limit c f x {h = scattering n (aheads ps) g} {j = g} {k = λ r. stored.ret r.value} (λ z d w. fit_unscattered n count (aheads ps) g (aheads_in count ps have) free w)
-      (called_plainly calls_do.called x t sub s.scope.free q st ps (record { unit = u.unit; is = u.is; outer = u.outer; main = u.main }) kt (omega (arith, many)) room suited free (at_entry en j7))
+      (called_plainly (calls_do.called f.rounds) x t sub s.scope.free q st ps (record { unit = u.unit; is = u.is; outer = u.outer; main = u.main }) kt (omega (arith, many)) room suited free (at_entry en j7))
       (λ r z d fit _. (
         g,
         fit_unscattered n count (aheads ps) g (aheads_in count ps have) free fit,
@@ -206,118 +209,119 @@ module _ (limit : ℕ) (cuts : ℕ → ℕ → List ℕ) (program : Program) (c 
 
   -- the code of an association without a parameter
   abbrev given_code : Bool → Value → Sight → (h t : ℕ) → List Run → Emit
-  given_code turns value s h t runs =
-      cond turns (Emission.turnings s.scope h t (pos 0) (Emission.component program (taking 3 s).scope (Emission.turn_height runs h) (s.scope.free + 1 + 1) value) runs)
+  given_code repeated value s h t runs =
+      cond repeated (Emission.repeating s.scope h t (Emission.component program (taking 2 s).scope h (s.scope.free + 1) value) runs)
       (Emission.fillings s.scope h t (Emission.width program value) (Emission.is_plain value) (λ n. Emission.put_into program s.scope h (t + n) value) runs)
 
-  given_entry : (it : Option Iterated) (s : Sight) → (given_sight it s).scope.entry ≡ s.scope.entry
-  given_entry None s = refl
-  given_entry (Some i') s = refl
-
-  -- values that take turns
-  turned_into : (it : Option Iterated) (value : Value) → ComponentDone value → (B : Type 0) (g j : Ghost) (env : Env) (q : B → Type 0) (goal : B → Dyn → Step) (s : Sight) (h t n : ℕ) (st : List ℤ) → Room g j s env t n → s.scope.entry ≡ x.entry → s.scope.free + 1 + 1 < s.cells
-      → (runs : List Run) (from to : ℕ) (cur : List ℤ) (then : List ℤ → Stored B) → length cur ≡ n → FittedRuns program globals mains n (Emission.width program value) runs → FittedComponent program globals mains epar (given_sight it s) value
-      → Stands c (Emission.turnings s.scope h t (Emission.turned_low it) (Emission.component program (given_sight it s).scope (Emission.turn_height runs h) (s.scope.free + 1 + 1) value) runs) from to → Then g j q goal t n to st then
+  -- values of iterated associations, which take turns
+  turned_into : (it : Iterated) (value : Value) → ComponentDone value → (B : Type 0) (g j : Ghost) (env : Env) (q : B → Type 0) (goal : B → Dyn → Step) (s : Sight) (h t n : ℕ) (st : List ℤ) → Room g j s env t n → s.scope.entry ≡ x.entry → s.scope.free + 1 + 1 < s.cells
+      → (runs : List Run) (from to : ℕ) (cur : List ℤ) (then : List ℤ → Stored B) → length cur ≡ n → FittedRuns program globals mains n (Emission.width program value) runs → FittedComponent program globals mains epar (iterated_sight s it.parameter) value
+      → Stands c (Emission.turnings s.scope h t (it.first) (Emission.component program (iterated_sight s it.parameter).scope (Emission.turn_height runs h) (s.scope.free + 1 + 1) value) runs) from to → Then g j q goal t n to st then
       → Doing limit c f x (keeping (f.base + t) cur g) j q (stored.bind (Meaning.runs_values ops runs (turn_values limit cuts program c f x calls globals mains epar it value env) cur) then) (λ d. on f from st d) goal
   unfolding Rattle.ada_lower.specs.Emission.emit
   turned_into it value does B g j env q goal s h t n st room en some runs from to cur then len w we l go =
-      all_turnings limit cuts program c f x calls globals mains epar it value s h t n st (Emission.component program (given_sight it s).scope (Emission.turn_height runs h) (s.scope.free + 1 + 1) value)
-      (λ st B g j q goal k first room kept from to then l go. component_does limit cuts program c f x calls globals mains epar value does B g j (turn_env limit cuts program c f x calls globals mains epar it k env) q goal (given_sight it s) (Emission.turn_height runs h) (s.scope.free + 1 + 1) (t + first) st room
-      (given_entry it s ∙ en) (let e : (given_sight it s).scope.free ≡ s.scope.free + 3 = given_free it s in omega (arith, e)) kept from to then we l go)
+      all_turnings limit cuts program c f x calls globals mains epar it value s h t n st (Emission.component program (iterated_sight s it.parameter).scope (Emission.turn_height runs h) (s.scope.free + 1 + 1) value)
+      (λ st B g j q goal k first room kept from to then l go. component_does limit cuts program c f x calls globals mains epar value does B g j (turn_env limit cuts program c f x calls globals mains epar it k env) q goal (iterated_sight s it.parameter) (Emission.turn_height runs h) (s.scope.free + 1 + 1) (t + first) st room
+      en (omega arith) kept from to then we l go)
       room en some runs from to cur then len w l go
 
-  -- the values of an association without a parameter, which take turns or don't
-  given_into : (turns : Bool) (value : Value) → ComponentDone value → Into value → (B : Type 0) (g j : Ghost) (env : Env) (q : B → Type 0) (goal : B → Dyn → Step) (s : Sight) (h t n : ℕ) (st : List ℤ) → Room g j s env t n → s.scope.entry ≡ x.entry
-      → (runs : List Run) (from to : ℕ) (cur : List ℤ) (then : List ℤ → Stored B) → length cur ≡ n → FittedRuns program globals mains n (Emission.width program value) runs → FittedGiven program globals mains epar turns s value
-      → Stands c (given_code turns value s h t runs) from to → Then g j q goal t n to st then
-      → Doing limit c f x (keeping (f.base + t) cur g) j q (stored.bind (Meaning.runs_values ops runs (λ k. stored.bind (Meaning.value_turn ops turns) (λ _. Meaning.cells ops limit program calls value env)) cur) then) (λ d. on f from st d) goal
+  -- the values of an association without a parameter, in a part that is repeated or not
+  given_into : (repeated : Bool) (value : Value) → Anywhere limit cuts program c f x calls globals mains epar value → Into value → (B : Type 0) (g j : Ghost) (env : Env) (q : B → Type 0) (goal : B → Dyn → Step) (s : Sight) (h t n : ℕ) (st : List ℤ) → Room g j s env t n → s.scope.entry ≡ x.entry
+      → (runs : List Run) (from to : ℕ) (cur : List ℤ) (then : List ℤ → Stored B) → length cur ≡ n → FittedRuns program globals mains n (Emission.width program value) runs → FittedGiven program globals mains epar repeated s value
+      → Stands c (given_code repeated value s h t runs) from to → Then g j q goal t n to st then
+      → Doing limit c f x (keeping (f.base + t) cur g) j q (stored.bind (Meaning.runs_values ops runs (λ k. stored.bind (stored.ret (tt {0})) (λ _. Meaning.cells ops limit program calls value env)) cur) then) (λ d. on f from st d) goal
   unfolding Rattle.ada_lower.specs.Emission.emit
-  given_into true value does into B g j env q goal s h t n st room en runs from to cur then len w (some, we) l go = turned_into None value does B g j env q goal s h t n st room en some runs from to cur then len w we l go
+  given_into true value does into B g j env q goal s h t n st room en runs from to cur then len w (some, we) l go =
+      all_repeated limit cuts program c f x calls globals mains epar t n some room value does h st en we runs from to cur then len w l go
   given_into false value does into B g j env q goal s h t n st room en runs from to cur then len w we l go =
       let comp : ℕ → Emit = (λ n. Emission.put_into program s.scope h (t + n) value) in
       let val : Stored (List ℤ) = stored.bind (stored.ret (tt {0})) (λ _. Meaning.cells ops limit program calls value env) in
       all_runs limit cuts program c f x calls globals mains epar comp val s h t n (Emission.width program value) st (Emission.is_plain value) (λ p. s_value limit cuts program calls value p env) (each_plain limit cuts program c f x calls globals mains epar value into env s h t (Emission.width program value) st en we) room runs from to cur then len w l go
 
+module _ (limit : ℕ) (cuts : ℕ → ℕ → List ℕ) (program : Program) (c : Code) (x : Ends) (calls : ℕ → ℕ → Stored (Unit {0}) → List Passed → Stored Returned) (globals : ℕ → Entity → Option Named) (mains : Entity → Bool) (epar : Sight → Expr → Type 0) where
+  abbrev oper : Operations {1}
+  oper = stored.noted_operations limit cuts
+
   mutual
     unfolding Rattle.ada_lower.specs.Emission.emit
 
-    valued : (B : Type 0) → (e : Expr) (from to : ℕ) {g : Ghost} {env : Env} (s : Sight) (h : ℕ) (st : List ℤ) → Knows limit cuts g f s env → s.scope.entry ≡ x.entry → Fitted program globals mains epar s e → Stands c (emit program s.scope h e) from to → Gives g (evals e env) from to st
-    valued B (Static at value literal mentions) from to s h st k en w (j, e) = push_does limit cuts program c f x calls globals mains epar calls_do value st j e refl
-    valued B (Group e) from to s h st k en w l = valued B e from to s h st k en w l
-    valued B (Unary at sg class e) from to s h st k en w l =
+    valued : (f : Fixed) (calls_do : InnerDo limit cuts program globals mains epar c f calls) → (B : Type 0) → (e : Expr) (from to : ℕ) {g : Ghost} {env : Env} (s : Sight) (h : ℕ) (st : List ℤ) → Knows limit cuts g f s env → s.scope.entry ≡ x.entry → Fitted program globals mains epar s e → Stands c (emit program s.scope h e) from to → Gives limit cuts program c f x calls globals mains epar calls_do g (evals limit cuts program c f x calls globals mains epar calls_do e env) from to st
+    valued f calls_do B (Static at value literal mentions) from to s h st k en w (j, e) = push_does limit cuts program c f x calls globals mains epar calls_do value st j e refl
+    valued f calls_do B (Group e) from to s h st k en w l = valued f calls_do B e from to s h st k en w l
+    valued f calls_do B (Unary at sg class e) from to s h st k en w l =
         let (m, l1, (j, z)) = stands_seq c from to (emit program s.scope h e) (one s.scope (h + 1) (unary_instr sg class)) l in
-        ends_at limit cuts program c f x calls globals mains epar calls_do _ _ from (m + 1) to st z (does_bind limit c f x (valued B e from m s h st k en w l1) (λ v _. unary_does limit cuts program c f x calls globals mains epar calls_do sg at class v st (at_entry en j)))
-    valued B (Binary at op class e e') from to s h st k en w l =
+        ends_at limit cuts program c f x calls globals mains epar calls_do _ _ from (m + 1) to st z (does_bind limit c f x (valued f calls_do B e from m s h st k en w l1) (λ v _. unary_does limit cuts program c f x calls globals mains epar calls_do sg at class v st (at_entry en j)))
+    valued f calls_do B (Binary at op class e e') from to s h st k en w l =
         let (m1, l1, l2) = stands_seq c from to (emit program s.scope h e) (emit program s.scope (h + 1) e' ⨟ one s.scope (h + 1 + 1) (binary_instr op class)) l in
         let (m2, l3, (j, z)) = stands_seq c m1 to (emit program s.scope (h + 1) e') (one s.scope (h + 1 + 1) (binary_instr op class)) l2 in
         ends_at limit cuts program c f x calls globals mains epar calls_do _ _ from (m2 + 1) to st z
-        (does_bind limit c f x (valued B e from m1 s h st k en w.0 l1) (λ u _.
-        does_bind limit c f x (valued B e' m1 m2 s (h + 1) (u ∷ st) k en w.1 l3) (λ v _.
+        (does_bind limit c f x (valued f calls_do B e from m1 s h st k en w.0 l1) (λ u _.
+        does_bind limit c f x (valued f calls_do B e' m1 m2 s (h + 1) (u ∷ st) k en w.1 l3) (λ v _.
         does_operate limit c f x op at class u v st (at_entry en j))))
-    valued B (AndThen e e') from to s h st k en w l =
+    valued f calls_do B (AndThen e e') from to s h st k en w l =
         let (m1, l1, l2) = stands_seq c from to (emit program s.scope h e) (Rattle.ada_lower.specs.Sights.choose s.scope h (h + 1) (emit program s.scope h e') (one s.scope h (i.Push (pos 0)))) l in
-        does_bind limit c f x (valued B e from m1 s h st k en w.0 l1) (λ u _.
-        choice_does limit cuts program c f x calls globals mains epar calls_do m1 to (emit program s.scope h e') (one s.scope h (i.Push (pos 0))) s h u st en l2 (λ from to l. valued B e' from to s h st k en w.1 l) (λ from to (j, z). push_does limit cuts program c f x calls globals mains epar calls_do (pos 0) st j z refl))
-    valued B (OrElse e e') from to s h st k en w l =
+        does_bind limit c f x (valued f calls_do B e from m1 s h st k en w.0 l1) (λ u _.
+        choice_does limit cuts program c f x calls globals mains epar calls_do m1 to (emit program s.scope h e') (one s.scope h (i.Push (pos 0))) s h u st en l2 (λ from to l. valued f calls_do B e' from to s h st k en w.1 l) (λ from to (j, z). push_does limit cuts program c f x calls globals mains epar calls_do (pos 0) st j z refl))
+    valued f calls_do B (OrElse e e') from to s h st k en w l =
         let (m1, l1, l2) = stands_seq c from to (emit program s.scope h e) (Rattle.ada_lower.specs.Sights.choose s.scope h (h + 1) (one s.scope h (i.Push (pos 1))) (emit program s.scope h e')) l in
-        does_bind limit c f x (valued B e from m1 s h st k en w.0 l1) (λ u _.
-        choice_does limit cuts program c f x calls globals mains epar calls_do m1 to (one s.scope h (i.Push (pos 1))) (emit program s.scope h e') s h u st en l2 (λ from to (j, z). push_does limit cuts program c f x calls globals mains epar calls_do (pos 1) st j z refl) (λ from to l. valued B e' from to s h st k en w.1 l))
-    valued B (Relation class r e e') from to s h st k en w l =
+        does_bind limit c f x (valued f calls_do B e from m1 s h st k en w.0 l1) (λ u _.
+        choice_does limit cuts program c f x calls globals mains epar calls_do m1 to (one s.scope h (i.Push (pos 1))) (emit program s.scope h e') s h u st en l2 (λ from to (j, z). push_does limit cuts program c f x calls globals mains epar calls_do (pos 1) st j z refl) (λ from to l. valued f calls_do B e' from to s h st k en w.1 l))
+    valued f calls_do B (Relation class r e e') from to s h st k en w l =
         let (m1, l1, l2) = stands_seq c from to (emit program s.scope h e) (emit program s.scope (h + 1) e' ⨟ one s.scope (h + 1 + 1) (compare_instr r)) l in
         let (m2, l3, (j, z)) = stands_seq c m1 to (emit program s.scope (h + 1) e') (one s.scope (h + 1 + 1) (compare_instr r)) l2 in
         ends_at limit cuts program c f x calls globals mains epar calls_do _ _ from (m2 + 1) to st z
-        (does_bind limit c f x (valued B e from m1 s h st k en w.0 l1) (λ u _.
-        does_bind limit c f x (valued B e' m1 m2 s (h + 1) (u ∷ st) k en w.1 l3) (λ v _.
+        (does_bind limit c f x (valued f calls_do B e from m1 s h st k en w.0 l1) (λ u _.
+        does_bind limit c f x (valued f calls_do B e' m1 m2 s (h + 1) (u ∷ st) k en w.1 l3) (λ v _.
         does_before limit c f x (λ d. comes_goes limit c f (v ∷ u ∷ st) (m2 + 1) (bit (compares r u v) ∷ st) d j (compare_deed limit cuts program c f x calls globals mains epar calls_do m2 r u v (st ++ f.below))) (does_ret limit c f x (bit (compares r u v)) tt))))
-    valued B (If condition value otherwise) from to s h st k en w l =
+    valued f calls_do B (If condition value otherwise) from to s h st k en w l =
         let (m1, l1, l2) = stands_seq c from to (emit program s.scope h condition) (Rattle.ada_lower.specs.Sights.choose s.scope h (h + 1) (emit program s.scope h value) (emit program s.scope h otherwise)) l in
-        does_bind limit c f x (valued B condition from m1 s h st k en w.0 l1) (λ u _.
-        choice_does limit cuts program c f x calls globals mains epar calls_do m1 to (emit program s.scope h value) (emit program s.scope h otherwise) s h u st en l2 (λ from to l. valued B value from to s h st k en w.1 l) (λ from to l. valued B otherwise from to s h st k en w.2 l))
-    valued B (Convert check e) from to s h st k en w l =
+        does_bind limit c f x (valued f calls_do B condition from m1 s h st k en w.0 l1) (λ u _.
+        choice_does limit cuts program c f x calls globals mains epar calls_do m1 to (emit program s.scope h value) (emit program s.scope h otherwise) s h u st en l2 (λ from to l. valued f calls_do B value from to s h st k en w.1 l) (λ from to l. valued f calls_do B otherwise from to s h st k en w.2 l))
+    valued f calls_do B (Convert check e) from to s h st k en w l =
         let (m, l1, (j, z)) = stands_seq c from to (emit program s.scope h e) (Emission.checked s.scope (h + 1) check.scalar) l in
         ends_at limit cuts program c f x calls globals mains epar calls_do _ _ from (m + 1) to st z
-        (does_bind limit c f x (valued B e from m s h st k en w l1) (λ v _.
+        (does_bind limit c f x (valued f calls_do B e from m s h st k en w l1) (λ v _.
         does_bind limit c f x (does_check limit c f x RangeCheck check.at check.scalar.low check.scalar.high v (Values.is_in check.scalar v) st refl (at_entry en j)) (λ _ _.
         does_ret limit c f x v tt)))
-    valued B (Parameter at p) from to {g} {env} s h st k en (w, e) l =
+    valued f calls_do B (Parameter at p) from to {g} {env} s h st k en (w, e) l =
         let (j, z) = subst (λ o. Stands c (Emission.load_where s.scope h o) from to) e l in
         ends_at limit cuts program c f x calls globals mains epar calls_do g (stored.ret (env.parameter p)) from (from + 1) to st z (does_by limit c f x (λ t d fit. comes_number limit c f w (env.parameter p) st d fit (k.parameter p w e) j) (does_ret limit c f x (env.parameter p) tt))
-    valued B (Target at scalar) from to {g} {env} s h st k en (n, e, some) l =
+    valued f calls_do B (Target at scalar) from to {g} {env} s h st k en (n, e, some) l =
         does_load limit c f x s h n (VariableOf env.target.object) env.target.offset st en some (k.target n e) (load_stands limit cuts program c f x calls globals mains epar calls_do s h s.scope.target n from to e l)
-    valued B (Variable at r Whole scalar) from to {g} {env} s h st k en ((n, e, some), w) l =
+    valued f calls_do B (Variable at r Whole scalar) from to {g} {env} s h st k en ((n, e, some), w) l =
         does_returned limit c f x (λ p. stored.reads (VariableOf p.object) p.offset) (variable_root r env)
         (does_load limit c f x s h n (VariableOf (variable_root r env).object) (variable_root r env).offset st en some (root_refers r n k e) (load_stands limit cuts program c f x calls globals mains epar calls_do s h (root_of s.scope r) n from to e l))
-    valued B (Variable at r selections scalar) from to {g} {env} s h st k en ((n, e, reach), w) l =
+    valued f calls_do B (Variable at r selections scalar) from to {g} {env} s h st k en ((n, e, reach), w) l =
         let o : ObjectPart = variable_root r env in
         let u : Refers g f n (VariableOf o.object) o.offset = root_refers r n k e in
         let (m1, l1, l2) = stands_seq c from to (Emission.address s.scope h (root_of s.scope r)) (selected program s.scope (h + 1) selections ⨟ one s.scope (h + 1) i.Load) l in
         let (m2, l3, (j, z)) = stands_seq c m1 to (selected program s.scope (h + 1) selections) (one s.scope (h + 1) i.Load) l2 in
         let (j1, z1) = address_stands limit cuts program c f x calls globals mains epar calls_do s h (root_of s.scope r) n from m1 e l1 in
         does_bind limit c f x
-        (named_does limit cuts program c f x calls globals mains epar calls_do from m1 n (VariableOf o.object) o.offset st u j1 z1 (picked B selections m1 m2 s (h + 1) st o u.address o.offset n.cells n.cells 1 k en w reach (le_refl o.offset) (le_refl (o.offset + n.cells)) l3))
+        (named_does limit cuts program c f x calls globals mains epar calls_do from m1 n (VariableOf o.object) o.offset st u j1 z1 (picked f calls_do B selections m1 m2 s (h + 1) st o u.address o.offset n.cells n.cells 1 k en w reach (le_refl o.offset) (le_refl (o.offset + n.cells)) l3))
         (λ p is. reads_at limit cuts program c f x calls globals mains epar calls_do (λ y. VariableOf y) p o.object o.offset u.address n.cells st is.0 is.1 is.2 u.spread (at_entry en j) z)
-    valued B (Constant at r Whole scalar) from to {g} {env} s h st k en ((n, e, some), w) l =
+    valued f calls_do B (Constant at r Whole scalar) from to {g} {env} s h st k en ((n, e, some), w) l =
         does_returned limit c f x (λ p. stored.reads (ConstantOf p.object) p.offset) (constant_root r env)
         (does_load limit c f x s h n (ConstantOf (constant_root r env).object) (constant_root r env).offset st en some (constant_root_refers r n k e) (load_stands limit cuts program c f x calls globals mains epar calls_do s h (constant_root_of s.scope r) n from to e l))
-    valued B (Constant at r selections scalar) from to {g} {env} s h st k en ((n, e, reach), w) l =
+    valued f calls_do B (Constant at r selections scalar) from to {g} {env} s h st k en ((n, e, reach), w) l =
         let o : ObjectPart = constant_root r env in
         let u : Refers g f n (ConstantOf o.object) o.offset = constant_root_refers r n k e in
         let (m1, l1, l2) = stands_seq c from to (Emission.address s.scope h (constant_root_of s.scope r)) (selected program s.scope (h + 1) selections ⨟ one s.scope (h + 1) i.Load) l in
         let (m2, l3, (j, z)) = stands_seq c m1 to (selected program s.scope (h + 1) selections) (one s.scope (h + 1) i.Load) l2 in
         let (j1, z1) = address_stands limit cuts program c f x calls globals mains epar calls_do s h (constant_root_of s.scope r) n from m1 e l1 in
         does_bind limit c f x
-        (named_does limit cuts program c f x calls globals mains epar calls_do from m1 n (ConstantOf o.object) o.offset st u j1 z1 (picked B selections m1 m2 s (h + 1) st o u.address o.offset n.cells n.cells 1 k en w reach (le_refl o.offset) (le_refl (o.offset + n.cells)) l3))
+        (named_does limit cuts program c f x calls globals mains epar calls_do from m1 n (ConstantOf o.object) o.offset st u j1 z1 (picked f calls_do B selections m1 m2 s (h + 1) st o u.address o.offset n.cells n.cells 1 k en w reach (le_refl o.offset) (le_refl (o.offset + n.cells)) l3))
         (λ p is. reads_at limit cuts program c f x calls globals mains epar calls_do (λ y. ConstantOf y) p o.object o.offset u.address n.cells st is.0 is.1 is.2 u.spread (at_entry en j) z)
-    valued B (Membership class negated e low high) from to {g} {env} s h st k en (room, we, wl, wh) l =
+    valued f calls_do B (Membership class negated e low high) from to {g} {env} s h st k en (room, we, wl, wh) l =
         let (m1, l1, (j1, r1)) = stands_seq c from to (emit program s.scope h e) (Emission.keep s.scope (h + 1) s.scope.free ⨟ emit program (taking 1 s).scope h low ⨟ Emission.keep s.scope (h + 1) (s.scope.free + 1) ⨟ emit program (taking 2 s).scope h high ⨟ Emission.within s.scope h s.scope.free ⨟ Emission.negated_code s.scope h negated) l in
         let (m2, l2, (j2, r2)) = stands_seq c (m1 + 1) to (emit program (taking 1 s).scope h low) (Emission.keep s.scope (h + 1) (s.scope.free + 1) ⨟ emit program (taking 2 s).scope h high ⨟ Emission.within s.scope h s.scope.free ⨟ Emission.negated_code s.scope h negated) r1 in
         let (m3, l3, r3) = stands_seq c (m2 + 1) to (emit program (taking 2 s).scope h high) (Emission.within s.scope h s.scope.free ⨟ Emission.negated_code s.scope h negated) r2 in
         let (m4, l4, l5) = stands_seq c m3 to (Emission.within s.scope h s.scope.free) (Emission.negated_code s.scope h negated) r3 in
-        does_bind limit c f x (valued B e from m1 s h st k en we l1) (λ u _.
+        does_bind limit c f x (valued f calls_do B e from m1 s h st k en we l1) (λ u _.
         does_hold limit c f x m1 u st (omega (arith, room)) k (at_entry en j1) (λ k1.
-        does_bind limit c f x (valued B low (m1 + 1) m2 (taking 1 s) h st k1 en wl l2) (λ v _.
+        does_bind limit c f x (valued f calls_do B low (m1 + 1) m2 (taking 1 s) h st k1 en wl l2) (λ v _.
         does_hold limit c f x m2 v st room k1 (at_entry en j2) (λ k2.
-        does_bind limit c f x (valued B high (m2 + 1) m3 (taking 2 s) h st (knows_two limit cuts program c f x calls globals mains epar calls_do s k2) en wh l3) (λ z _.
+        does_bind limit c f x (valued f calls_do B high (m2 + 1) m3 (taking 2 s) h st (knows_two limit cuts program c f x calls globals mains epar calls_do s k2) en wh l3) (λ z _.
         does_by limit c f x (λ t d fit.
         let g1 : Ghost = set_what (f.base + s.scope.free) (Keeps u) g in
         let n : (f.base + (s.scope.free + 1) ≡ f.base + s.scope.free → ⊥) = (λ e. omega (arith, e)) in
@@ -325,7 +329,7 @@ module _ (limit : ℕ) (cuts : ℕ → ℕ → List ℕ) (program : Program) (c 
         let ev : value_in (slice_get d.cells (f.base + (s.scope.free + 1))) ≡ Some v = number_seen _ v t _ (inl (what_same g1 (f.base + (s.scope.free + 1)) (Keeps v))) (fit.cells (f.base + (s.scope.free + 1))) in
         comes_on limit c (comes_within limit cuts program c f x calls globals mains epar calls_do s h s.scope.free m3 m4 u v z st d eu ev l4) (comes_negated limit cuts program c f x calls globals mains epar calls_do s h m4 to negated (between v u z) st d l5))
         (does_ret limit c f x {to = λ v d. on f to (v ∷ st) d} (bit (cond negated (not (between v u z)) (between v u z))) tt))))))
-    valued B (Call at callee sub actuals) from to {g} {env} s h st k en (u, (kind, gives), whole, room, w) l =
+    valued f calls_do B (Call at callee sub actuals) from to {g} {env} s h st k en (u, (kind, gives), whole, room, w) l =
         let n : ℕ = s.scope.free in
         let t : Sight = passing program sub s in
         let hs : List Shape = shapes program u.unit.formals in
@@ -333,10 +337,10 @@ module _ (limit : ℕ) (cuts : ℕ → ℕ → List ℕ) (program : Program) (c 
         let (m, l1, (j, z)) = stands_seq c from to (Emission.passed program t.scope h sub n actuals) (one s.scope h (i.CallAt (sub + 1) n)) l in
         let kt : Knows limit cuts g f t env = record { most = k.most; nested = k.nested; plan = k.plan; kept = k.kept; top = k.top; beyond = k.beyond; global = k.global; outside = k.outside; one = k.one; old = k.old; hidden = k.hidden; object = k.object; parameter = k.parameter; item = k.item; constant_item = k.constant_item; target = k.target; handled = k.handled; free = λ i le lt. k.free i (omega (arith, le)) lt } in
         let free : (i : ℕ) → i < count → g.what (f.base + n + i) ≡ Free = (λ i lt. (let e : f.base + n + i ≡ f.base + (n + i) = omega arith in ap g.what e) ∙ k.free (n + i) (omega arith) (omega (arith, lt, whole, room))) in
-        passed_does actuals from m (actuals_done B actuals) t h sub n count (spots 0 hs) st [] _ (passing_none n hs (omega (arith, whole)) room free kt) en w l1 (λ ps suited.
+        passed_does limit cuts program c f x calls globals mains epar calls_do actuals from m (actuals_done f calls_do B actuals) t h sub n count (spots 0 hs) st [] _ (passing_none n hs (omega (arith, whole)) room free kt) en w l1 (λ ps suited.
         let have : HaveCells count ps = have_cells hs ps suited in
         also_then limit c f x {h = scattering (f.base + n) (aheads ps) g} {j = g} {k = λ r. stored.ret r.value} (λ t d w. fit_unscattered (f.base + n) count (aheads ps) g (aheads_in count ps have) free w)
-        (called_plainly calls_do.called x t sub n m st ps (record { unit = u.unit; is = u.is; outer = u.outer; main = u.main }) kt whole room suited free (at_entry en j))
+        (called_plainly (calls_do.called f.rounds) x t sub n m st ps (record { unit = u.unit; is = u.is; outer = u.outer; main = u.main }) kt whole room suited free (at_entry en j))
         (λ r t d fit _. (
           g,
           fit_unscattered (f.base + n) count (aheads ps) g (aheads_in count ps have) free fit,
@@ -344,8 +348,8 @@ module _ (limit : ℕ) (cuts : ℕ → ℕ → List ℕ) (program : Program) (c 
           subst (λ p. Runs limit c f x g any (stored.ret r.value) (λ d. on f (m + 1) (given p r.value ++ st) d) (λ v d. on f to (v ∷ st) d)) (sym gives)
               (ends_ret limit cuts program c f x calls globals mains epar calls_do r.value (m + 1) to st z),
         )))
-    valued B (Reduction at attribute by initial (Some site) chunk iteration value) from to {g} {env} s h st k en w l = calls_do.forked (Reduction at attribute by initial (Some site) chunk iteration value) from to g env x s h st k en w l
-    valued B (Reduction at attribute by initial None chunk (Components p constant a r selections zero stride dimensions filter) value) from to {g} {env} s h st k en (wi, room, (n, e, reach), ws, wf, wv, wb) l =
+    valued f calls_do B (Reduction at attribute by initial (Some site) chunk iteration value) from to {g} {env} s h st k en w l = calls_do.forked f.rounds (Reduction at attribute by initial (Some site) chunk iteration value) from to g env x s h st k en w l
+    valued f calls_do B (Reduction at attribute by initial None chunk (Components p constant a r selections zero stride dimensions filter) value) from to {g} {env} s h st k en (wi, room, (n, e, reach), ws, wf, wv, wb) l =
         let many : Emit = none in
         let rest : Emit = Emission.keep s.scope (h + 1 + 1) s.scope.free ⨟ many in
         let o : ObjectPart = Meaning.array_root constant r env in
@@ -356,15 +360,15 @@ module _ (limit : ℕ) (cuts : ℕ → ℕ → List ℕ) (program : Program) (c 
         let (m1, l1, l2) = stands_seq c m0 to (Emission.address s.scope (h + 1) (Emission.array_root_of constant s.scope r)) (selected program s.scope (h + 1 + 1) selections ⨟ rest) (stands_assoc3 c m0 to (Emission.address s.scope (h + 1) (Emission.array_root_of constant s.scope r)) (selected program s.scope (h + 1 + 1) selections) (Emission.keep s.scope (h + 1 + 1) s.scope.free) many l') in
         let (m2, l3, l4) = stands_seq c m1 to (selected program s.scope (h + 1 + 1) selections) rest l2 in
         let (j1, z1) = address_stands limit cuts program c f x calls globals mains epar calls_do s (h + 1) (Emission.array_root_of constant s.scope r) n m0 m1 e l1 in
-        does_bind limit c f x (valued B initial from m0 s h st k en wi l0) (λ start _.
+        does_bind limit c f x (valued f calls_do B initial from m0 s h st k en wi l0) (λ start _.
         does_assoc limit c f x _ _ _
         (does_bind limit c f x (named_does limit cuts program c f x calls globals mains epar calls_do m0 m1 n (named_entity constant o.object) o.offset (start ∷ st) v j1 z1
-        (picked B selections m1 m2 s (h + 1 + 1) (start ∷ st) o v.address o.offset n.cells n.cells (zero * stride) k en ws reach (le_refl o.offset) (le_refl (o.offset + n.cells)) l3)) (λ q at_.
+        (picked f calls_do B selections m1 m2 s (h + 1 + 1) (start ∷ st) o v.address o.offset n.cells n.cells (zero * stride) k en ws reach (le_refl o.offset) (le_refl (o.offset + n.cells)) l3)) (λ q at_.
         does_returned limit c f x _ _
         (does_keep limit c f x m2 s.scope.free (pos (v.address + (q.offset - o.offset))) (start ∷ st) (own_free (g.what (f.base + s.scope.free)) free1) (at_entry en l4.0)
         (subst (λ z. Doing limit c f x (set_what (f.base + s.scope.free) (Keeps (pos (v.address + (q.offset - o.offset)))) g) g any (Rattle.behaviours.specs.Doings.through stored.doings 0 0 start (λ i b. stored.ret b)) (λ d. on f z (start ∷ st) d) (λ b d. on f to (b ∷ st) d)) l4.1
         (folds_none limit cuts c f x (λ z d w. fit_unset (f.base + s.scope.free) (pos (v.address + (q.offset - o.offset))) free1 w) start 0 to st (λ i b. stored.ret b) refl))))))
-    valued B (Reduction at attribute by initial None chunk (Components p constant a r selections (suc number) stride dimensions filter) value) from to {g} {env} s h st k en (wi, room, (n, e, reach), ws, wf, wv, wb) l =
+    valued f calls_do B (Reduction at attribute by initial None chunk (Components p constant a r selections (suc number) stride dimensions filter) value) from to {g} {env} s h st k en (wi, room, (n, e, reach), ws, wf, wv, wb) l =
         let t : Sight = item_sight s None constant p stride 0 in
         let turn : Emit = one s.scope (h + 1) i.Turn ⨟ Emission.filtered program t.scope (h + 1) filter (emit program t.scope (h + 1) value ⨟ Emission.folding t.scope h by) in
         let turns : Emit = one s.scope (h + 1) (i.Push (pos 1)) ⨟ Emission.keep s.scope (h + 1 + 1) (s.scope.free + 1) ⨟ one s.scope (h + 1) (i.Push (pos (suc number))) ⨟ Emission.keep s.scope (h + 1 + 1) (s.scope.free + 1 + 1)
@@ -378,124 +382,123 @@ module _ (limit : ℕ) (cuts : ℕ → ℕ → List ℕ) (program : Program) (c 
         let (m1, l1, l2) = stands_seq c m0 to (Emission.address s.scope (h + 1) (Emission.array_root_of constant s.scope r)) (selected program s.scope (h + 1 + 1) selections ⨟ rest) (stands_assoc3 c m0 to (Emission.address s.scope (h + 1) (Emission.array_root_of constant s.scope r)) (selected program s.scope (h + 1 + 1) selections) (Emission.keep s.scope (h + 1 + 1) s.scope.free) many l') in
         let (m2, l3, l4) = stands_seq c m1 to (selected program s.scope (h + 1 + 1) selections) rest l2 in
         let (j1, z1) = address_stands limit cuts program c f x calls globals mains epar calls_do s (h + 1) (Emission.array_root_of constant s.scope r) n m0 m1 e l1 in
-        does_bind limit c f x (valued B initial from m0 s h st k en wi l0) (λ start _.
+        does_bind limit c f x (valued f calls_do B initial from m0 s h st k en wi l0) (λ start _.
         does_assoc limit c f x _ _ _
         (does_bind limit c f x (named_does limit cuts program c f x calls globals mains epar calls_do m0 m1 n (named_entity constant o.object) o.offset (start ∷ st) v j1 z1
-        (picked B selections m1 m2 s (h + 1 + 1) (start ∷ st) o v.address o.offset n.cells n.cells (suc number * stride) k en ws reach (le_refl o.offset) (le_refl (o.offset + n.cells)) l3)) (λ q at_.
+        (picked f calls_do B selections m1 m2 s (h + 1 + 1) (start ∷ st) o v.address o.offset n.cells n.cells (suc number * stride) k en ws reach (le_refl o.offset) (le_refl (o.offset + n.cells)) l3)) (λ q at_.
         does_returned limit c f x _ _
         (items_folds limit cuts c f x s (h + 1) p constant stride number (named_entity constant o.object) o.offset n.cells v.address (q.offset - o.offset) m2 to st turn q _ k en room v.spread
         (let b = at_.1 in omega (arith, b)) (let b = at_.1 in let b' = at_.2 in omega (arith, b, b')) (ap (λ z. named_entity constant z) at_.0) (subst (λ b. Stands c (Emission.keep s.scope (h + 1 + 1) s.scope.free ⨟ cond b none turns) m2 to) some l4)
-        (λ j from to b g' k' at''. fold_does B by env.nested attribute filter value from to t h b st (item_nested constant p (Meaning.moved q (j * stride)) env) k' (item_entry constant s p stride en) wf wb (λ from to l. valued B value from to t (h + 1) (b ∷ st) k' (item_entry constant s p stride en) wv l) (turn_at constant s p stride (h + 1) from to (Emission.filtered program t.scope (h + 1) filter (emit program t.scope (h + 1) value ⨟ Emission.folding t.scope h by)) at'')) start))))
-    valued B (Reduction at attribute by initial None chunk (Range p reverse low high check filter) value) from to {g} {env} s h st k en (wi, room, wl, wh, wf, wv, wb) l =
+        (λ j from to b g' k' at''. fold_does f calls_do B by env.nested attribute filter value from to t h b st (item_nested limit cuts program c f x calls globals mains epar calls_do constant p (Meaning.moved q (j * stride)) env) k' (item_entry limit cuts program c f x calls globals mains epar calls_do constant s p stride en) wf wb (λ from to l. valued f calls_do B value from to t (h + 1) (b ∷ st) k' (item_entry limit cuts program c f x calls globals mains epar calls_do constant s p stride en) wv l) (turn_at limit cuts program c f x calls globals mains epar calls_do constant s p stride (h + 1) from to (Emission.filtered program t.scope (h + 1) filter (emit program t.scope (h + 1) value ⨟ Emission.folding t.scope h by)) at'')) start))))
+    valued f calls_do B (Reduction at attribute by initial None chunk (Range p reverse low high check filter) value) from to {g} {env} s h st k en (wi, room, wl, wh, wf, wv, wb) l =
         let t : Sight = range_sight s None p reverse 0 in
         let turn : Emit = one s.scope (h + 1) i.Turn ⨟ Emission.filtered program t.scope (h + 1) filter (emit program t.scope (h + 1) value ⨟ Emission.folding t.scope h by) in
         let loop : Emit = Rattle.ada_lower.specs.Sights.looped s.scope (h + 1) true (λ exit. turn) (λ head. one s.scope (h + 1) (Emission.counting reverse s.scope.free head)) in
         let (m1, l1, l2) = stands_seq c from to (emit program s.scope h initial) (Emission.iterated program s.scope (h + 1) None (Range p reverse low high check filter) (λ t. emit program t (h + 1) value ⨟ Emission.folding t h by)) l in
-        does_bind limit c f x (valued B initial from m1 s h st k en wi l1) (λ start _.
-        course_does limit cuts c f x s (h + 1) p reverse (emit program s.scope (h + 1) low) (emit program (taking 1 s).scope (h + 1) high) (evals low env) (evals high env) check loop m1 to (start ∷ st) _ k en room
-        (λ from to l. valued B low from to s (h + 1) (start ∷ st) k en wl l)
-        (λ from to g' k' l. valued B high from to (taking 1 s) (h + 1) (start ∷ st) k' en wh l) l2
+        does_bind limit c f x (valued f calls_do B initial from m1 s h st k en wi l1) (λ start _.
+        course_does limit cuts c f x s (h + 1) p reverse (emit program s.scope (h + 1) low) (emit program (taking 1 s).scope (h + 1) high) (evals limit cuts program c f x calls globals mains epar calls_do low env) (evals limit cuts program c f x calls globals mains epar calls_do high env) check loop m1 to (start ∷ st) _ k en room
+        (λ from to l. valued f calls_do B low from to s (h + 1) (start ∷ st) k en wl l)
+        (λ from to g' k' l. valued f calls_do B high from to (taking 1 s) (h + 1) (start ∷ st) k' en wh l) l2
         (λ l u e. folds_none limit cuts c f x (λ z d w. fit_uncount limit cuts c f s l u room k z d w) start (Values.count l u) to st _ (count_none limit cuts c f l u e))
         (λ l u q e at'. range_folds limit cuts c f x s (h + 1) p reverse q to l u st turn _ k en room e at'
-        (λ j from to a g' k' at''. fold_does B by env.nested attribute filter value from to t h a st refl k' en wf wb (λ from to l. valued B value from to t (h + 1) (a ∷ st) k' en wv l) at'') start))
+        (λ j from to a g' k' at''. fold_does f calls_do B by env.nested attribute filter value from to t h a st refl k' en wf wb (λ from to l. valued f calls_do B value from to t (h + 1) (a ∷ st) k' en wv l) at'') start))
 
     -- a turn of a reduction
-    fold_does : (B : Type 0) → (by : Reducer) (nested token : ℕ) (filter : Optional) (value : Expr) (from to : ℕ) {g : Ghost} {env : Env} (s : Sight) (h : ℕ) (a : ℤ) (st : List ℤ) → nested ≡ env.nested → Knows limit cuts g f s env → s.scope.entry ≡ x.entry → FittedOptional program globals mains epar s filter → FittedFold program globals mains s by → ((from to : ℕ) → Stands c (emit program s.scope (h + 1) value) from to → Gives g (evals value env) from to (a ∷ st))
+    fold_does : (f : Fixed) (calls_do : InnerDo limit cuts program globals mains epar c f calls) → (B : Type 0) → (by : Reducer) (nested token : ℕ) (filter : Optional) (value : Expr) (from to : ℕ) {g : Ghost} {env : Env} (s : Sight) (h : ℕ) (a : ℤ) (st : List ℤ) → nested ≡ env.nested → Knows limit cuts g f s env → s.scope.entry ≡ x.entry → FittedOptional program globals mains epar s filter → FittedFold program globals mains s by → ((from to : ℕ) → Stands c (emit program s.scope (h + 1) value) from to → Gives limit cuts program c f x calls globals mains epar calls_do g (evals limit cuts program c f x calls globals mains epar calls_do value env) from to (a ∷ st))
         → Stands c (one s.scope (h + 1) i.Turn ⨟ Emission.filtered program s.scope (h + 1) filter (emit program s.scope (h + 1) value ⨟ Emission.folding s.scope h by)) from to
-        → Runs limit c f x g any (stored.bind (Meaning.iterate_value ops (Meaning.holds ops limit program calls filter env) (evals value env)) (λ v. folded stored.doings (λ a b. reduce stored.doings stored.checks by token (Meaning.fold_call ops limit program calls by nested) a b) a v)) (λ d. on f from (a ∷ st) d) (λ b d. on f to (b ∷ st) d)
-    fold_does B by nested token Absent value from to {g} {env} s h a st ne k en wf wb vd (turn, l) =
+        → Runs limit c f x g any (stored.bind (Meaning.iterate_value oper (Meaning.holds oper limit program calls filter env) (evals limit cuts program c f x calls globals mains epar calls_do value env)) (λ v. folded stored.doings (λ a b. reduce stored.doings stored.checks by token (Meaning.fold_call oper limit program calls by nested) a b) a v)) (λ d. on f from (a ∷ st) d) (λ b d. on f to (b ∷ st) d)
+    fold_does f calls_do B by nested token Absent value from to {g} {env} s h a st ne k en wf wb vd (turn, l) =
         let (m, l1, l2) = stands_seq c (from + 1) to (emit program s.scope (h + 1) value) (Emission.folding s.scope h by) l in
-        turn_folds limit cuts c f x from (from + 1) m to a st (stored.ret true) (evals value env) (λ a b. reduce stored.doings stored.checks by token (Meaning.fold_call ops limit program calls by nested) a b) k.most (at_entry en turn)
+        turn_folds limit cuts c f x from (from + 1) m to a st (stored.ret true) (evals limit cuts program c f x calls globals mains epar calls_do value env) (λ a b. reduce stored.doings stored.checks by token (Meaning.fold_call oper limit program calls by nested) a b) k.most (at_entry en turn)
         (does_ret limit c f x {to = λ b d. cond b (on f (from + 1) (a ∷ st) d) (on f to (a ∷ st) d)} true tt)
         (vd (from + 1) m l1)
-        (λ v. reduced_does by nested token m to s h a v st ne k en wb l2)
-    fold_does B by nested token (Present e) value from to {g} {env} s h a st ne k en wf wb vd (turn, l) =
+        (λ v. reduced_does limit cuts program c f x calls globals mains epar calls_do by nested token m to s h a v st ne k en wb l2)
+    fold_does f calls_do B by nested token (Present e) value from to {g} {env} s h a st ne k en wf wb vd (turn, l) =
         let (m0, l0, l') = stands_seq c (from + 1) to (emit program s.scope (h + 1) e) (Rattle.ada_lower.specs.Sights.when_ s.scope (h + 1) (emit program s.scope (h + 1) value ⨟ Emission.folding s.scope h by)) l in
         let (test, l'') = stands_when c m0 to s (h + 1) (emit program s.scope (h + 1) value ⨟ Emission.folding s.scope h by) l' in
         let (m, l1, l2) = stands_seq c (m0 + 1) to (emit program s.scope (h + 1) value) (Emission.folding s.scope h by) l'' in
-        turn_folds limit cuts c f x from (m0 + 1) m to a st (Meaning.holds ops limit program calls (Present e) env) (evals value env) (λ a b. reduce stored.doings stored.checks by token (Meaning.fold_call ops limit program calls by nested) a b) k.most (at_entry en turn)
-        (does_bind limit c f x (valued B e (from + 1) m0 s (h + 1) (a ∷ st) k en wf l0) (λ v _. tests limit cuts c f x v m0 to (a ∷ st) (at_entry en test)))
+        turn_folds limit cuts c f x from (m0 + 1) m to a st (Meaning.holds oper limit program calls (Present e) env) (evals limit cuts program c f x calls globals mains epar calls_do value env) (λ a b. reduce stored.doings stored.checks by token (Meaning.fold_call oper limit program calls by nested) a b) k.most (at_entry en turn)
+        (does_bind limit c f x (valued f calls_do B e (from + 1) m0 s (h + 1) (a ∷ st) k en wf l0) (λ v _. tests limit cuts c f x v m0 to (a ∷ st) (at_entry en test)))
         (vd (m0 + 1) m l1)
-        (λ v. reduced_does by nested token m to s h a v st ne k en wb l2)
+        (λ v. reduced_does limit cuts program c f x calls globals mains epar calls_do by nested token m to s h a v st ne k en wb l2)
 
-    actuals_done : (B : Type 0) → (as' : Actuals) → ActualsDone as'
-    actuals_done B NoActual = tt
-    actuals_done B (In formal (Number check e) rest) = (λ B from to g env s h st k en w l. valued B e from to {g = g} {env = env} s h st k en w l, actuals_done B rest)
-    actuals_done B (In formal (Cells value) rest) = (λ B g j env q goal s h t n st room en from to then w l go. composed_into value B g j env q goal s h t n st room en from to then w l go, actuals_done B rest)
-    actuals_done B (InOut formal at r selections inner outer rest) = tt
-    actuals_done B (Out formal at r selections inner outer rest) = tt
-    actuals_done B (CompositeInOut formal at r selections subtype rest) = tt
-    actuals_done B (CompositeOut formal at r selections subtype rest) = tt
+    actuals_done : (f : Fixed) (calls_do : InnerDo limit cuts program globals mains epar c f calls) → (B : Type 0) → (as' : Actuals) → ActualsDone limit cuts program c f x calls globals mains epar calls_do as'
+    actuals_done f calls_do B NoActual = tt
+    actuals_done f calls_do B (In formal (Number check e) rest) = (λ B from to g env s h st k en w l. valued f calls_do B e from to {g = g} {env = env} s h st k en w l, actuals_done f calls_do B rest)
+    actuals_done f calls_do B (In formal (Cells value) rest) = (λ B g j env q goal s h t n st room en from to then w l go. composed_into f calls_do value B g j env q goal s h t n st room en from to then w l go, actuals_done f calls_do B rest)
+    actuals_done f calls_do B (InOut formal at r selections inner outer rest) = tt
+    actuals_done f calls_do B (Out formal at r selections inner outer rest) = tt
+    actuals_done f calls_do B (CompositeInOut formal at r selections subtype rest) = tt
+    actuals_done f calls_do B (CompositeOut formal at r selections subtype rest) = tt
 
-    component_done : (B : Type 0) → (value : Value) → ComponentDone value
-    component_done B (Number check e) = (λ B from to g env s h st k en w l. valued B e from to {g = g} {env = env} s h st k en w l)
-    component_done B (Cells value) = (λ B g j env q goal s h t n st room en from to then w l go. composed_into value B g j env q goal s h t n st room en from to then w l go)
+    component_done : (f : Fixed) (calls_do : InnerDo limit cuts program globals mains epar c f calls) → (B : Type 0) → (value : Value) → ComponentDone limit cuts program c f x calls globals mains epar calls_do value
+    component_done f calls_do B (Number check e) = (λ B from to g env s h st k en w l. valued f calls_do B e from to {g = g} {env = env} s h st k en w l)
+    component_done f calls_do B (Cells value) = (λ B g j env q goal s h t n st room en from to then w l go. composed_into f calls_do value B g j env q goal s h t n st room en from to then w l go)
 
-    picked : (B : Type 0) → (t : Selections) (from to : ℕ) {g : Ghost} {env : Env} (s : Sight) (h : ℕ) (st : List ℤ) (p : ObjectPart) (a first total n m : ℕ) → Knows limit cuts g f s env → s.scope.entry ≡ x.entry → FittedSelections program globals mains epar s t → Reaches n t m
+    picked : (f : Fixed) (calls_do : InnerDo limit cuts program globals mains epar c f calls) → (B : Type 0) → (t : Selections) (from to : ℕ) {g : Ghost} {env : Env} (s : Sight) (h : ℕ) (st : List ℤ) (p : ObjectPart) (a first total n m : ℕ) → Knows limit cuts g f s env → s.scope.entry ≡ x.entry → FittedSelections program globals mains epar s t → Reaches n t m
         → first ≤ p.offset → p.offset + n ≤ first + total → Stands c (selected program s.scope h t) from to
-        → Runs limit c f x g (λ r. (r.object ≡ p.object) × (first ≤ r.offset) × (r.offset + m ≤ first + total)) (Meaning.select ops limit program calls t env p)
+        → Runs limit c f x g (λ r. (r.object ≡ p.object) × (first ≤ r.offset) × (r.offset + m ≤ first + total)) (Meaning.select oper limit program calls t env p)
         (λ d. on f from (pos (a + (p.offset - first)) ∷ st) d) (λ r d. on f to (pos (a + (r.offset - first)) ∷ st) d)
-    picked B Whole from to {g} {env} s h st p a first total n m k en w r le room l =
+    picked f calls_do B Whole from to {g} {env} s h st p a first total n m k en w r le room l =
         subst (λ q. Runs limit c f x g (λ r. (r.object ≡ p.object) × (first ≤ r.offset) × (r.offset + m ≤ first + total)) (stored.ret p) (λ d. on f from (pos (a + (p.offset - first)) ∷ st) d) (λ r d. on f q (pos (a + (r.offset - first)) ∷ st) d)) (sym l)
         (does_ret limit c f x {to = λ r d. on f from (pos (a + (r.offset - first)) ∷ st) d} p (refl, le, omega (arith, r, room)))
-    picked B (Field number offset rest) from to {g} {env} s h st p a first total n m k en w (i', r, reach) le room (j, l) =
+    picked f calls_do B (Field number offset rest) from to {g} {env} s h st p a first total n m k en w (i', r, reach) le room (j, l) =
         let z : a + (p.offset - first) + offset ≡ a + (p.offset + offset - first) = omega (arith, le) in
         does_before limit c f x (λ d. comes_goes limit c f (pos (a + (p.offset - first)) ∷ st) (from + 1) (pos (a + (p.offset + offset - first)) ∷ st) d j (ap (λ v. GoesOn (from + 1) (pos v ∷ (st ++ f.below))) z))
-        (picked B rest (from + 1) to s h st (Meaning.moved p offset) a first total i' m k en w reach (omega (arith, le)) (omega (arith, room, r)) l)
-    picked B (Index at e low high stride rest) from to {g} {env} s h st p a first total n m k en w (r, reach) le room l =
-        let (m1, l1, (j, l2)) = stands_seq c from to (emit program s.scope h e) (one s.scope (h + 1) (i.Index low high stride) ⨟ selected program s.scope h rest) l in
-        does_bind limit c f x (valued B e from m1 s h (pos (a + (p.offset - first)) ∷ st) k en w.0 l1) (λ v _.
-        does_bind limit c f x (does_index limit c f x IndexCheck at low high v stride (a + (p.offset - first)) st (at_entry en j)) (λ _ is.
+        (picked f calls_do B rest (from + 1) to s h st (Meaning.moved p offset) a first total i' m k en w reach (omega (arith, le)) (omega (arith, room, r)) l)
+    picked f calls_do B (Index at e low high stride rest) from to {g} {env} s h st p a first total n m k en w (r, reach) le room l =
+        let (m1, l1, l2) = stands_seq c from to (Emission.indexed_by s.scope h (Emission.own_cell s.scope e) low high stride (emit program s.scope h e)) (selected program s.scope h rest) l in
+        index_does limit cuts program c f x calls globals mains epar e from m1 s h at low high stride (a + (p.offset - first)) st _ k en w.0 (λ m l. valued f calls_do B e from m s h (pos (a + (p.offset - first)) ∷ st) k en w.0 l) l1 (λ v is.
         let t : ℕ = to_nat (v -ℤ low) in
         let lt : t < count low high = (index_below low v high is).0 in
         let z : a + (p.offset - first) + t * stride ≡ a + (p.offset + t * stride - first) = omega (arith, le) in
         let b : t * stride + stride ≤ count low high * stride = rows limit cuts program c f x calls globals mains epar calls_do t (count low high) stride lt in
-        does_before limit c f x (λ d. subst (λ q. To limit c (on f (m1 + 1) (pos (a + (p.offset - first) + t * stride) ∷ st) d) (on f (m1 + 1) (pos q ∷ st) d)) z (comes_here limit c _))
-        (picked B rest (m1 + 1) to s h st (Meaning.moved p (t * stride)) a first total stride m k en w.1 reach (omega (arith, le)) (omega (arith, room, r, b)) l2)))
+        does_before limit c f x (λ d. subst (λ q. To limit c (on f m1 (pos (a + (p.offset - first) + t * stride) ∷ st) d) (on f m1 (pos q ∷ st) d)) z (comes_here limit c _))
+        (picked f calls_do B rest m1 to s h st (Meaning.moved p (t * stride)) a first total stride m k en w.1 reach (omega (arith, le)) (omega (arith, room, r, b)) l2))
 
-    pub value_into : (value : Value) → Into value
-    value_into (Number check e) B g j env q goal s h t n st room en from to then (one', w) l go =
+    valued_into : (f : Fixed) (calls_do : InnerDo limit cuts program globals mains epar c f calls) → (value : Value) → Into limit cuts program c f x calls globals mains epar calls_do value
+    valued_into f calls_do (Number check e) B g j env q goal s h t n st room en from to then (one', w) l go =
         let (m, l1, (j1, (j2, z))) = stands_seq c from to (emit program s.scope h e) (Emission.checked s.scope (h + 1) check.scalar ⨟ Emission.keep s.scope (h + 1) t) l in
         let z0 : f.base + t + 0 ≡ f.base + t = omega arith in
         let own : IsOwn (g.what (f.base + t)) = subst (λ a. IsOwn (g.what a)) z0 (room.own 0 (omega (arith, one'))) in
         does_assoc limit c f x _ _ then
-        (does_seq limit c f x room.weak (λ ts al. al) (valued B e from m s h st room.knows en w l1) (λ v _.
+        (does_seq limit c f x room.weak (λ ts al. al) (valued f calls_do B e from m s h st room.knows en w l1) (λ v _.
         does_assoc limit c f x _ _ then
         (does_seq limit c f x room.weak (λ ts al. al) (does_check limit c f x RangeCheck check.at check.scalar.low check.scalar.high v (Values.is_in check.scalar v) st refl (at_entry en j1)) (λ _ _.
         does_returned limit c f x then (v ∷ [])
         (does_keep limit c f x (m + 1) t v st own (at_entry en j2)
         (subst (λ p. Doing limit c f x (keeping (f.base + t) (v ∷ []) g) j q (then (v ∷ [])) (λ d. on f p st d) goal) z (go (v ∷ []) (sym one'))))))))
-    value_into (Cells value) B g j env q goal s h t n st room en from to then w l go = composed_into value B g j env q goal s h t n st room en from to then w l go
+    valued_into f calls_do (Cells value) B g j env q goal s h t n st room en from to then w l go = composed_into f calls_do value B g j env q goal s h t n st room en from to then w l go
 
-    associations_into : (as' : Associations) (B : Type 0) (g j : Ghost) (env : Env) (q : B → Type 0) (goal : B → Dyn → Step) (s : Sight) (h t n : ℕ) (st : List ℤ) → Room g j s env t n → s.scope.entry ≡ x.entry → (from to : ℕ) (cur : List ℤ) (then : List ℤ → Stored B) → length cur ≡ n
-        → FittedAssociations program globals mains epar s n as' → Stands c (Emission.associated program s.scope h t as') from to → Then g j q goal t n to st then
-        → Doing limit c f x (keeping (f.base + t) cur g) j q (stored.bind (Meaning.associated ops limit program calls as' env cur) then) (λ d. on f from st d) goal
-    associations_into NoAssociation B g j env q goal s h t n st room en from to cur then len w l go =
+    associations_into : (f : Fixed) (calls_do : InnerDo limit cuts program globals mains epar c f calls) → (as' : Associations) (B : Type 0) (g j : Ghost) (env : Env) (q : B → Type 0) (goal : B → Dyn → Step) (s : Sight) (h t n : ℕ) (st : List ℤ) → Room limit cuts program c f x calls globals mains epar calls_do g j s env t n → s.scope.entry ≡ x.entry → (from to : ℕ) (cur : List ℤ) (then : List ℤ → Stored B) → length cur ≡ n
+        → FittedAssociations program globals mains epar s n as' → Stands c (Emission.associated program s.scope h t as') from to → Then limit cuts program c f x calls globals mains epar calls_do g j q goal t n to st then
+        → Doing limit c f x (keeping (f.base + t) cur g) j q (stored.bind (Meaning.associated oper limit program calls as' env cur) then) (λ d. on f from st d) goal
+    associations_into f calls_do NoAssociation B g j env q goal s h t n st room en from to cur then len w l go =
         does_returned limit c f x then cur (subst (λ p. Doing limit c f x (keeping (f.base + t) cur g) j q (then cur) (λ d. on f p st d) goal) l (go cur len))
     -- what gives no component isn't evaluated
-    associations_into (Association [] None mentions value rest) B g j env q goal s h t n st room en from to cur then len w l go =
+    associations_into f calls_do (Association [] None mentions value rest) B g j env q goal s h t n st room en from to cur then len w l go =
         let comp : ℕ → Emit = (λ n. Emission.put_into program s.scope h (t + n) value) in
         let (m, l1, l2) = stands_seq c from to (Emission.fillings s.scope h t (Emission.width program value) (Emission.is_plain value) comp []) (Emission.associated program s.scope h t rest) l in
         does_assoc limit c f x _ _ then
-        (does_returned limit c f x (λ cs. stored.bind (Meaning.associated ops limit program calls rest env cs) then) cur
-        (subst (λ p. Doing limit c f x (keeping (f.base + t) cur g) j q (stored.bind (Meaning.associated ops limit program calls rest env cur) then) (λ d. on f p st d) goal) l1
-        (associations_into rest B g j env q goal s h t n st room en m to cur then len w l2 go)))
-    associations_into (Association (r ∷ rs) None mentions value rest) B g j env q goal s h t n st room en from to cur then len (w, we, wr) l go =
-        let turns : Bool = Emission.takes_turns (r ∷ rs) None value in
-        let (m, l1, l2) = stands_seq c from to (given_code turns value s h t (r ∷ rs)) (Emission.associated program s.scope h t rest) l in
+        (does_returned limit c f x (λ cs. stored.bind (Meaning.associated oper limit program calls rest env cs) then) cur
+        (subst (λ p. Doing limit c f x (keeping (f.base + t) cur g) j q (stored.bind (Meaning.associated oper limit program calls rest env cur) then) (λ d. on f p st d) goal) l1
+        (associations_into f calls_do rest B g j env q goal s h t n st room en m to cur then len w l2 go)))
+    associations_into f calls_do (Association (r ∷ rs) None mentions value rest) B g j env q goal s h t n st room en from to cur then len (w, we, wr) l go =
+        let repeated : Bool = Emission.is_repeated (r ∷ rs) value in
+        let (m, l1, l2) = stands_seq c from to (given_code limit cuts program c f x calls globals mains epar calls_do repeated value s h t (r ∷ rs)) (Emission.associated program s.scope h t rest) l in
         does_assoc limit c f x _ _ then
-        (given_into turns value (component_done B value) (value_into value) B g j env q goal s h t n st room en (r ∷ rs) from m cur _ len w we l1 (λ cs clen.
-        associations_into rest B g j env q goal s h t n st room en m to cs then clen wr l2 go))
-    associations_into (Association runs (Some i') mentions value rest) B g j env q goal s h t n st room en from to cur then len (some, w, we, wr) l go =
+        (given_into limit cuts program c f x calls globals mains epar calls_do repeated value (λ rs. component_done (with_rounds rs f) (inner_rounds rs calls_do) B value) (valued_into f calls_do value) B g j env q goal s h t n st room en (r ∷ rs) from m cur _ len w we l1 (λ cs clen.
+        associations_into f calls_do rest B g j env q goal s h t n st room en m to cs then clen wr l2 go))
+    associations_into f calls_do (Association runs (Some i') mentions value rest) B g j env q goal s h t n st room en from to cur then len (some, w, we, wr) l go =
         let (m, l1, l2) = stands_seq c from to (Emission.turnings s.scope h t i'.first (Emission.component program (iterated_sight s i'.parameter).scope (Emission.turn_height runs h) (s.scope.free + 1 + 1) value) runs) (Emission.associated program s.scope h t rest) l in
         does_assoc limit c f x _ _ then
-        (turned_into (Some i') value (component_done B value) B g j env q goal s h t n st room en some runs from m cur _ len w we l1 (λ cs clen.
-        associations_into rest B g j env q goal s h t n st room en m to cs then clen wr l2 go))
+        (turned_into limit cuts program c f x calls globals mains epar calls_do i' value (component_done f calls_do B value) B g j env q goal s h t n st room en some runs from m cur _ len w we l1 (λ cs clen.
+        associations_into f calls_do rest B g j env q goal s h t n st room en m to cs then clen wr l2 go))
 
-    composed_into : (co : Composite) (B : Type 0) (g j : Ghost) (env : Env) (q : B → Type 0) (goal : B → Dyn → Step) (s : Sight) (h t n : ℕ) (st : List ℤ) → Room g j s env t n → s.scope.entry ≡ x.entry → (from to : ℕ) (then : List ℤ → Stored B)
-        → FittedComposite program globals mains epar s n co → Stands c (Emission.composed program s.scope h t co) from to → Then g j q goal t n to st then
-        → Doing limit c f x g j q (stored.bind (Meaning.composite ops limit program calls co env) then) (λ d. on f from st d) goal
-    composed_into (WholeVariable at r selections subtype) B g j env q goal s h t n st room en from to then (size, (m, e, reach), ws) (jl, l) go =
+    composed_into : (f : Fixed) (calls_do : InnerDo limit cuts program globals mains epar c f calls) → (co : Composite) (B : Type 0) (g j : Ghost) (env : Env) (q : B → Type 0) (goal : B → Dyn → Step) (s : Sight) (h t n : ℕ) (st : List ℤ) → Room limit cuts program c f x calls globals mains epar calls_do g j s env t n → s.scope.entry ≡ x.entry → (from to : ℕ) (then : List ℤ → Stored B)
+        → FittedComposite program globals mains epar s n co → Stands c (Emission.composed program s.scope h t co) from to → Then limit cuts program c f x calls globals mains epar calls_do g j q goal t n to st then
+        → Doing limit c f x g j q (stored.bind (Meaning.composite oper limit program calls co env) then) (λ d. on f from st d) goal
+    composed_into f calls_do (WholeVariable at r selections subtype) B g j env q goal s h t n st room en from to then (size, (m, e, reach), ws) (jl, l) go =
         let o : ObjectPart = variable_root r env in
         let u : Refers g f m (VariableOf o.object) o.offset = root_refers r m room.knows e in
         let (m1, l1, l2) = stands_seq c (from + 1) to (Emission.address s.scope (h + 1) (root_of s.scope r)) (selected program s.scope (h + 1 + 1) selections ⨟ one s.scope (h + 1 + 1) (i.Copy (Emission.cells_of program subtype))) l in
@@ -505,12 +508,12 @@ module _ (limit : ℕ) (cuts : ℕ → ℕ → List ℕ) (program : Program) (c 
         (does_before limit c f x (λ d. comes_goes limit c f st (from + 1) (pos (f.base + t) ∷ st) d jl refl)
         (does_seq limit c f x room.weak (λ ts al. al)
         (named_does limit cuts program c f x calls globals mains epar calls_do (from + 1) m1 m (VariableOf o.object) o.offset (pos (f.base + t) ∷ st) u j1 z1
-        (picked B selections m1 m2 s (h + 1 + 1) (pos (f.base + t) ∷ st) o u.address o.offset m.cells m.cells n room.knows en ws reach (le_refl o.offset) (le_refl (o.offset + m.cells)) l3))
+        (picked f calls_do B selections m1 m2 s (h + 1 + 1) (pos (f.base + t) ∷ st) o u.address o.offset m.cells m.cells n room.knows en ws reach (le_refl o.offset) (le_refl (o.offset + m.cells)) l3))
         (λ p is.
         let part : Spread g (VariableOf p.object) p.offset n (u.address + (p.offset - o.offset)) = spread_part limit cuts program c f x calls globals mains epar u.spread (ap (λ y. VariableOf y) is.0) is.1 is.2 in
         does_copy limit cuts c f x (VariableOf p.object) p.offset (u.address + (p.offset - o.offset)) (f.base + t) n m2 (Values.layout program.subtypes subtype) n st then size (le_refl n) part room.own (at_entry en (subst (λ z. At c m2 (i.Copy z) s.scope.entry) size jc)) (λ vs len.
         subst (λ p. Doing limit c f x (keeping (f.base + t) vs g) j q (then vs) (λ d. on f p st d) goal) z (go vs len)))))
-    composed_into (WholeConstant at r selections subtype) B g j env q goal s h t n st room en from to then (size, (m, e, reach), ws) (jl, l) go =
+    composed_into f calls_do (WholeConstant at r selections subtype) B g j env q goal s h t n st room en from to then (size, (m, e, reach), ws) (jl, l) go =
         let o : ObjectPart = constant_root r env in
         let u : Refers g f m (ConstantOf o.object) o.offset = constant_root_refers r m room.knows e in
         let (m1, l1, l2) = stands_seq c (from + 1) to (Emission.address s.scope (h + 1) (constant_root_of s.scope r)) (selected program s.scope (h + 1 + 1) selections ⨟ one s.scope (h + 1 + 1) (i.Copy (Emission.cells_of program subtype))) l in
@@ -520,12 +523,12 @@ module _ (limit : ℕ) (cuts : ℕ → ℕ → List ℕ) (program : Program) (c 
         (does_before limit c f x (λ d. comes_goes limit c f st (from + 1) (pos (f.base + t) ∷ st) d jl refl)
         (does_seq limit c f x room.weak (λ ts al. al)
         (named_does limit cuts program c f x calls globals mains epar calls_do (from + 1) m1 m (ConstantOf o.object) o.offset (pos (f.base + t) ∷ st) u j1 z1
-        (picked B selections m1 m2 s (h + 1 + 1) (pos (f.base + t) ∷ st) o u.address o.offset m.cells m.cells n room.knows en ws reach (le_refl o.offset) (le_refl (o.offset + m.cells)) l3))
+        (picked f calls_do B selections m1 m2 s (h + 1 + 1) (pos (f.base + t) ∷ st) o u.address o.offset m.cells m.cells n room.knows en ws reach (le_refl o.offset) (le_refl (o.offset + m.cells)) l3))
         (λ p is.
         let part : Spread g (ConstantOf p.object) p.offset n (u.address + (p.offset - o.offset)) = spread_part limit cuts program c f x calls globals mains epar u.spread (ap (λ y. ConstantOf y) is.0) is.1 is.2 in
         does_copy limit cuts c f x (ConstantOf p.object) p.offset (u.address + (p.offset - o.offset)) (f.base + t) n m2 (Values.layout program.subtypes subtype) n st then size (le_refl n) part room.own (at_entry en (subst (λ z. At c m2 (i.Copy z) s.scope.entry) size jc)) (λ vs len.
         subst (λ p. Doing limit c f x (keeping (f.base + t) vs g) j q (then vs) (λ d. on f p st d) goal) z (go vs len)))))
-    composed_into (WholeTarget at subtype) B g j env q goal s h t n st room en from to then (size, m, e, some) (jl, l) go =
+    composed_into f calls_do (WholeTarget at subtype) B g j env q goal s h t n st room en from to then (size, m, e, some) (jl, l) go =
         let o : ObjectPart = env.target in
         let u : Refers g f m (VariableOf o.object) o.offset = room.knows.target m e in
         let (m1, l1, (jc, z)) = stands_seq c (from + 1) to (Emission.address s.scope (h + 1) s.scope.target) (one s.scope (h + 1 + 1) (i.Copy (Emission.cells_of program subtype))) l in
@@ -534,42 +537,46 @@ module _ (limit : ℕ) (cuts : ℕ → ℕ → List ℕ) (program : Program) (c 
         (does_by limit c f x (λ t' d fit. subst (λ p. To limit c (on f (from + 1) (pos (f.base + t) ∷ st) d) (on f p (pos u.address ∷ pos (f.base + t) ∷ st) d)) (sym z1) (comes_address limit c f m u.address (pos (f.base + t) ∷ st) d fit u.leads j1))
         (does_copy limit cuts c f x (VariableOf o.object) o.offset u.address (f.base + t) m.cells m1 (Values.layout program.subtypes subtype) n st then size some u.spread room.own (at_entry en (subst (λ z. At c m1 (i.Copy z) s.scope.entry) size jc)) (λ vs len.
         subst (λ p. Doing limit c f x (keeping (f.base + t) vs g) j q (then vs) (λ d. on f p st d) goal) z (go vs len))))
-    composed_into (CompositeIf condition value otherwise) B g j env q goal s h t n st room en from to then w l go =
+    composed_into f calls_do (CompositeIf condition value otherwise) B g j env q goal s h t n st room en from to then w l go =
         let (m1, l1, l2) = stands_seq c from to (emit program s.scope h condition) (Rattle.ada_lower.specs.Sights.choose s.scope h h (Emission.composed program s.scope h t value) (Emission.composed program s.scope h t otherwise)) l in
         let z = stands_choose c m1 to s h h (Emission.composed program s.scope h t value) (Emission.composed program s.scope h t otherwise) l2 in
         does_assoc limit c f x _ _ then
-        (does_seq limit c f x room.weak (λ ts al. al) (valued B condition from m1 s h st room.knows en w.0 l1) (λ v _.
-        either_do limit cuts program c f x calls globals mains epar (Meaning.composite ops limit program calls value env) (Meaning.composite ops limit program calls otherwise env) then m1 (z.mid + 1) v st (truth v) refl (at_entry en z.test)
-        (composed_into value B g j env q goal s h t n st room en (m1 + 1) z.mid then w.1 z.first (λ cs len. does_before limit c f x (λ d. comes_goes limit c f st to st d (at_entry en z.jump) refl) (go cs len)))
-        (composed_into otherwise B g j env q goal s h t n st room en (z.mid + 1) to then w.2 z.second go)))
-    composed_into (Aggregate at size associations) B g j env q goal s h t n st room en from to then (same, w) (jl, (jf, l)) go =
+        (does_seq limit c f x room.weak (λ ts al. al) (valued f calls_do B condition from m1 s h st room.knows en w.0 l1) (λ v _.
+        either_do limit cuts program c f x calls globals mains epar (Meaning.composite oper limit program calls value env) (Meaning.composite oper limit program calls otherwise env) then m1 (z.mid + 1) v st (truth v) refl (at_entry en z.test)
+        (composed_into f calls_do value B g j env q goal s h t n st room en (m1 + 1) z.mid then w.1 z.first (λ cs len. does_before limit c f x (λ d. comes_goes limit c f st to st d (at_entry en z.jump) refl) (go cs len)))
+        (composed_into f calls_do otherwise B g j env q goal s h t n st room en (z.mid + 1) to then w.2 z.second go)))
+    composed_into f calls_do (Aggregate at size associations) B g j env q goal s h t n st room en from to then (same, w) (jl, (jf, l)) go =
         does_before limit c f x (λ d. comes_goes limit c f st (from + 1) (pos (f.base + t) ∷ st) d jl refl)
         (does_first limit c f x (fewer_kept limit cuts program c f x calls globals mains epar (f.base + t) (Values.zeros size) g) (λ t' d fit. fill_goes limit cuts program c f x calls globals mains epar size (f.base + t) st (λ k lt. room.own k (omega (arith, lt, same))) jf fit)
-        (associations_into associations B g j env q goal s h t n st room en (from + 1 + 1) to (Values.zeros size) then (zeros_length limit cuts program c f x calls globals mains epar size ∙ same) w l go))
+        (associations_into f calls_do associations B g j env q goal s h t n st room en (from + 1 + 1) to (Values.zeros size) then (zeros_length limit cuts program c f x calls globals mains epar size ∙ same) w l go))
 
-  pub value_does : (e : Expr) (from to : ℕ) {g : Ghost} {env : Env} (s : Sight) (h : ℕ) (st : List ℤ) → Knows limit cuts g f s env → s.scope.entry ≡ x.entry → Fitted program globals mains epar s e → Stands c (emit program s.scope h e) from to → Gives g (evals e env) from to st
-  value_does e from to {g} {env} s h st k en w l = valued (Unit {0}) e from to {g = g} {env = env} s h st k en w l
+module _ (limit : ℕ) (cuts : ℕ → ℕ → List ℕ) (program : Program) (c : Code) (f : Fixed) (x : Ends) (calls : ℕ → ℕ → Stored (Unit {0}) → List Passed → Stored Returned) (globals : ℕ → Entity → Option Named) (mains : Entity → Bool) (epar : Sight → Expr → Type 0) (calls_do : InnerDo limit cuts program globals mains epar c f calls) where
+  pub value_into : (value : Value) → Into limit cuts program c f x calls globals mains epar calls_do value
+  value_into value = valued_into limit cuts program c x calls globals mains epar f calls_do value
+
+  pub value_does : (e : Expr) (from to : ℕ) {g : Ghost} {env : Env} (s : Sight) (h : ℕ) (st : List ℤ) → Knows limit cuts g f s env → s.scope.entry ≡ x.entry → Fitted program globals mains epar s e → Stands c (emit program s.scope h e) from to → Gives limit cuts program c f x calls globals mains epar calls_do g (evals limit cuts program c f x calls globals mains epar calls_do e env) from to st
+  value_does e from to {g} {env} s h st k en w l = valued limit cuts program c x calls globals mains epar f calls_do (Unit {0}) e from to {g = g} {env = env} s h st k en w l
 
   -- a turn of a reduction, whose accumulator is on the stack
   pub turn_does : (by : Reducer) (nested token : ℕ) (filter : Optional) (value : Expr) (from to : ℕ) {g : Ghost} {env : Env} (s : Sight) (h : ℕ) (a : ℤ) (st : List ℤ) → nested ≡ env.nested → Knows limit cuts g f s env → s.scope.entry ≡ x.entry → FittedOptional program globals mains epar s filter → FittedFold program globals mains s by → Fitted program globals mains epar s value
       → Stands c (one s.scope (h + 1) i.Turn ⨟ Emission.filtered program s.scope (h + 1) filter (emit program s.scope (h + 1) value ⨟ Emission.folding s.scope h by)) from to
-      → Runs limit c f x g any (stored.bind (Meaning.iterate_value ops (Meaning.holds ops limit program calls filter env) (evals value env)) (λ v. folded stored.doings (λ a b. reduce stored.doings stored.checks by token (Meaning.fold_call ops limit program calls by nested) a b) a v)) (λ d. on f from (a ∷ st) d) (λ b d. on f to (b ∷ st) d)
+      → Runs limit c f x g any (stored.bind (Meaning.iterate_value (stored.noted_operations limit cuts) (Meaning.holds (stored.noted_operations limit cuts) limit program calls filter env) (evals limit cuts program c f x calls globals mains epar calls_do value env)) (λ v. folded stored.doings (λ a b. reduce stored.doings stored.checks by token (Meaning.fold_call (stored.noted_operations limit cuts) limit program calls by nested) a b) a v)) (λ d. on f from (a ∷ st) d) (λ b d. on f to (b ∷ st) d)
   turn_does by nested token filter value from to s h a st ne k en wf wb wv l =
-      fold_does (Unit {0}) by nested token filter value from to s h a st ne k en wf wb (λ from to l. valued (Unit {0}) value from to s (h + 1) (a ∷ st) k en wv l) l
+      fold_does limit cuts program c x calls globals mains epar f calls_do (Unit {0}) by nested token filter value from to s h a st ne k en wf wb (λ from to l. valued limit cuts program c x calls globals mains epar f calls_do (Unit {0}) value from to s (h + 1) (a ∷ st) k en wv l) l
 
   pub selected_does : (t : Selections) (from to : ℕ) {g : Ghost} {env : Env} (s : Sight) (h : ℕ) (st : List ℤ) (p : ObjectPart) (a first total n m : ℕ) → Knows limit cuts g f s env → s.scope.entry ≡ x.entry → FittedSelections program globals mains epar s t → Reaches n t m
       → first ≤ p.offset → p.offset + n ≤ first + total → Stands c (selected program s.scope h t) from to
-      → Runs limit c f x g (λ r. (r.object ≡ p.object) × (first ≤ r.offset) × (r.offset + m ≤ first + total)) (Meaning.select ops limit program calls t env p)
+      → Runs limit c f x g (λ r. (r.object ≡ p.object) × (first ≤ r.offset) × (r.offset + m ≤ first + total)) (Meaning.select (stored.noted_operations limit cuts) limit program calls t env p)
       (λ d. on f from (pos (a + (p.offset - first)) ∷ st) d) (λ r d. on f to (pos (a + (r.offset - first)) ∷ st) d)
-  selected_does t from to {g} {env} s h st p a first total n m k en w r le room l = picked (Unit {0}) t from to {g = g} {env = env} s h st p a first total n m k en w r le room l
+  selected_does t from to {g} {env} s h st p a first total n m k en w r le room l = picked limit cuts program c x calls globals mains epar f calls_do (Unit {0}) t from to {g = g} {env = env} s h st p a first total n m k en w r le room l
 
   -- the cells of an array or record
   pub composed_does : {B : Type 0} {g j : Ghost} {env : Env} {q : B → Type 0} {goal : B → Dyn → Step} (co : Composite) (s : Sight) (h t n : ℕ) (st : List ℤ) → ((s : stored.State) (d : Dyn) → Fit g s d → Fit j s d) → Knows limit cuts g f s env → s.scope.entry ≡ x.entry → t + n ≤ s.scope.free → s.scope.free ≤ s.cells
       → ((k : ℕ) → k < n → g.what (f.base + t + k) ≡ Free) → (from to : ℕ) (then : List ℤ → Stored B) → FittedComposite program globals mains epar s n co
-      → Stands c (Emission.composed program s.scope h t co) from to → Then g j q goal t n to st then
-      → Doing limit c f x g j q (stored.bind (Meaning.composite ops limit program calls co env) then) (λ d. on f from st d) goal
+      → Stands c (Emission.composed program s.scope h t co) from to → Then limit cuts program c f x calls globals mains epar calls_do g j q goal t n to st then
+      → Doing limit c f x g j q (stored.bind (Meaning.composite (stored.noted_operations limit cuts) limit program calls co env) then) (λ d. on f from st d) goal
   composed_does {B} {g} {j} {env} {q} {goal} co s h t n st weak k en below room free from to then w l go =
-      composed_into co B g j env q goal s h t n st
+      composed_into limit cuts program c x calls globals mains epar f calls_do co B g j env q goal s h t n st
       (record {
         below = below;
         own = λ i lt. own_free (g.what (f.base + t + i)) (free i lt);

@@ -125,7 +125,7 @@ module _ (limit : ℕ) (cuts : ℕ → ℕ → List ℕ) (program : Program) (c 
       (does_by limit c fk x goes
       (does_first limit c fk x (λ n y p e. inl (alike n ∙ e)) (λ z d w. (d, fit_alike (scattering o (pieces ps) g).what alike w, comes_here limit c (on fk q (bit (first && second) ∷ st) d)))
       (also_then limit c fk x {h = scattering o (aheads ps) g} {j = g} {k = λ r. stored.ret r.value} (λ z d w. fit_unscattered o count (aheads ps) g (aheads_in count ps have) free w)
-      (calls_do.called.by x t sub s.scope.free q head (bit (first && second) ∷ st) st parts (BothChecked token first second) ps (record { unit = u.unit; is = u.is; outer = u.outer; main = u.main }) kt (omega (arith, many)) room suited free (checked_call (first && second) st (at_entry en jc)))
+      ((calls_do.called f.rounds).by x t sub s.scope.free q head (bit (first && second) ∷ st) st parts (BothChecked token first second) ps (record { unit = u.unit; is = u.is; outer = u.outer; main = u.main }) kt (omega (arith, many)) room suited free (checked_call (first && second) st (at_entry en jc)))
       (λ r z d fit _. (
         g,
         fit_unscattered o count (aheads ps) g (aheads_in count ps have) free fit,

@@ -32,6 +32,7 @@ use Rattle.ada_lower.specs.Fitted.{Reaches, Fitted, FittedFold, FittedOptional, 
 use Rattle.ada_lower.specs.FittedForks.{FittedChunk, FittedReductions, Within}
 use Rattle.ada_lower.specs.Forks.{thread_ends}
 use Rattle.ada_lower.proofs.Calls.{CallsDo}
+use Rattle.ada_lower.proofs.Rounds.{with_rounds}
 use Rattle.ada_lower.proofs.Inner.{InnerDo, ExprsDo}
 use Rattle.ada_lower.proofs.Framework.{any}
 use Rattle.ada_lower.proofs.Parts.{Runs}
@@ -169,13 +170,13 @@ module _ (asked : Option Program) (lent : Bool → Sight → ℕ → CodeSite �
   folds_do (suc n) f fa calls calls_only calls_all (Reduction at attribute by initial (Some site) chunk (Range p false low high check filter) value) from to g env x s h st k en (cs, (site_at, frame, four, entry), here, kind, room4, wi, wc, wl, wh, wf, wv, wb, wk) l =
       let room : s.scope.free + 3 < s.cells = omega (arith, room4) in
       let epar : Sight → Expr → Type 0 = FittedReductions program globals mains lent c n in
-      let all_in : (f' : Fixed) → Alike f' f → InnerDo limit cuts program globals mains epar c f' calls = (λ f' e. record { called = calls_all f' e; forked = folds_do n f' (e.1 ∙ fa) calls calls_only (λ f'' e'. calls_all f'' (e'.0 ∙ e.0, e'.1 ∙ e.1)) }) in
+      let all_in : (f' : Fixed) → Alike f' f → InnerDo limit cuts program globals mains epar c f' calls = (λ f' e. record { called = λ rs. calls_all (with_rounds rs f') e; forked = λ rs. folds_do n (with_rounds rs f') (e.1 ∙ fa) calls calls_only (λ f'' e'. calls_all f'' (e'.0 ∙ e.0, e'.1 ∙ e.1)) }) in
       site_range_does limit cuts program c globals mains epar calls f calls_only all_in x g env s k en room h st chunk by attribute at cs site site_at kind four entry initial filter value
       (finishes limit cuts program c globals mains epar calls f all_in x g env s k en room h st chunk by attribute cs site site_at kind four entry initial (values_of limit cuts program c globals mains epar calls filter value) wk)
       room4 p low high check (λ start cl ch l u k told gg kk. lending.folds f fa s env site cs here chunk p low high check filter k start cl ch l u by kind told gg kk) wi wc wl wh wf wb wv from to l
   folds_do (suc n) f fa calls calls_only calls_all (Reduction at attribute by initial (Some site) chunk (Components p constant a r selections count stride dimensions filter) value) from to g env x s h st k en (cs, (site_at, frame, four, entry), here, five, kind, room, wi, wc, (e, is, reach), ws, wf, wv, wb, wk) l =
       let epar : Sight → Expr → Type 0 = FittedReductions program globals mains lent c n in
-      let all_in : (f' : Fixed) → Alike f' f → InnerDo limit cuts program globals mains epar c f' calls = (λ f' e. record { called = calls_all f' e; forked = folds_do n f' (e.1 ∙ fa) calls calls_only (λ f'' e'. calls_all f'' (e'.0 ∙ e.0, e'.1 ∙ e.1)) }) in
+      let all_in : (f' : Fixed) → Alike f' f → InnerDo limit cuts program globals mains epar c f' calls = (λ f' e. record { called = λ rs. calls_all (with_rounds rs f') e; forked = λ rs. folds_do n (with_rounds rs f') (e.1 ∙ fa) calls calls_only (λ f'' e'. calls_all f'' (e'.0 ∙ e.0, e'.1 ∙ e.1)) }) in
       site_items_does limit cuts program c globals mains epar calls f calls_only all_in x g env s k en room h st chunk by attribute at cs site site_at kind four entry initial filter value
       (finishes limit cuts program c globals mains epar calls f all_in x g env s k en room h st chunk by attribute cs site site_at kind four entry initial (values_of limit cuts program c globals mains epar calls filter value) wk)
       within five {e = e} p constant a r selections count stride dimensions (λ start cl ch q a0 k told gg kk part. lending.item_folds f fa s env site cs here chunk p constant a r selections count stride dimensions filter k start cl ch q a0 by kind told gg kk part) wi wc is reach ws wf wb wv from to l
@@ -200,4 +201,4 @@ module _ (asked : Option Program) (lent : Bool → Sight → ℕ → CodeSite �
   -- what is done within, where so many may be within one another
   pub inner_all : (n : ℕ) (f : Fixed) → f.asked ≡ asked → (calls : ℕ → ℕ → Stored (Unit {0}) → List Passed → Stored Returned) (calls_only : (n s : ℕ) (before : Stored (Unit {0})) (passed : List Passed) → Closed Raised before → Closed Raised (calls n s before passed))
       (calls_all : (f' : Fixed) → Alike f' f → CallsDo limit cuts program globals mains c f' calls) (f' : Fixed) → Alike f' f → InnerDo limit cuts program globals mains (FittedReductions program globals mains lent c n) c f' calls
-  inner_all n f fa calls calls_only calls_all f' e = record { called = calls_all f' e; forked = folds_do n f' (e.1 ∙ fa) calls calls_only (λ f'' e'. calls_all f'' (e'.0 ∙ e.0, e'.1 ∙ e.1)) }
+  inner_all n f fa calls calls_only calls_all f' e = record { called = λ rs. calls_all (with_rounds rs f') e; forked = λ rs. folds_do n (with_rounds rs f') (e.1 ∙ fa) calls calls_only (λ f'' e'. calls_all f'' (e'.0 ∙ e.0, e'.1 ∙ e.1)) }

@@ -55,6 +55,7 @@ thread_suits : (limit : ℕ) (c : Code) (f : Fixed) (top : ℕ) (u : Sight) (sit
 thread_suits limit c f top u site is en texts leaving exits = record {
   entry = en;
   flat = refl;
+  rounds = refl;
   kept = refl;
   texts = texts;
   exits = λ n to e d. absurd (let z : ◌≡◌ {A = Option ℕ} None (Some to) = sym (exits n) ∙ e in cc);

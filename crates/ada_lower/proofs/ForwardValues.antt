@@ -21,7 +21,7 @@ use Rattle.stack_code.specs.Stands.{IsTarget}
 use Rattle.lower_emission.specs.Emits.{Emit}
 use Rattle.lower_emission.specs.Scope.{Scope, own, taking, with_exit, with_parameter, with_item, nested, thread_scope, load_at, address_at, load_of, address_of, none, one, ◌⨟◌, root_of, constant_root_of}
 use Rattle.ada_lower.specs.Sights.{Level, Own, Around, Main, Where, Named}
-use Rattle.ada_lower.specs.Emission.{emit, selected, passed, put_into, composed, associated, component, filtered, iterated, chunk_code, course_code, threaded, lost, checked, load_by, load, load_named, load_where, address, is_whole, part_of, unary_instr, binary_instr, compare_instr, falsity, truth, within, negated_code, leaving_by, first_parameter, range_scope, item_scope, counting, bounds_code, ascending, stepping, folding, ranged, combined, doubled, filling, fillings, is_plain, takes_turns, iterated_scope, turning, turnings, entering, entering_next, run_steps, run_turnings, turn_height, width, composite_width, array_root_of, chunk_scope, raise_above, raise_beyond, ends_code, fork_code, turns_code, items_code, turn_range, turn_component, cells_of, formal_of, passing}
+use Rattle.ada_lower.specs.Emission.{emit, selected, passed, put_into, composed, associated, component, filtered, iterated, chunk_code, course_code, threaded, lost, checked, load_by, load, load_named, load_where, address, is_whole, part_of, unary_instr, binary_instr, compare_instr, falsity, truth, within, negated_code, leaving_by, first_parameter, range_scope, item_scope, counting, bounds_code, ascending, stepping, folding, ranged, combined, doubled, filling, fillings, is_plain, is_repeated, iterated_scope, turning, turnings, entering, entering_next, run_steps, run_turnings, turn_height, components_of, locating, locating_in, repeating, width, composite_width, array_root_of, chunk_scope, raise_above, raise_beyond, ends_code, fork_code, turns_code, items_code, turn_range, turn_component, cells_of, formal_of, passing, own_cell, indexed_by}
 use Rattle.ada_lower.proofs.Forward.{BeginsTurn, Also, Fore}
 
 -- the handler and the exits that are known where code is emitted are landmarks
@@ -119,6 +119,10 @@ module _ (l t : ℕ → Type 0) (s : Scope) (k : Known l s) where
 
   pub fore_part : (h : ℕ) (o : Option Named) (whole : Bool) (moved : Emit) → Fore l t moved → Fore l t (part_of s h o whole moved)
   fore_part h o whole moved f = fore_cond whole (load_named s h o) (address s h o ⨟ moved ⨟ one s (h + 1) i.Load) (fore_load_named h o) (fore_address h o, (f, ((λ n z. absurd z), k.0)))
+
+  pub fore_indexed : (h : ℕ) (o : Option ℕ) (low high : ℤ) (stride : ℕ) (index : Emit) → Fore l t index → Fore l t (indexed_by s h o low high stride index)
+  fore_indexed h None low high stride index f = (f, ((λ n z. absurd z), k.0))
+  fore_indexed h (Some n) low high stride index f = ((λ n z. absurd z), k.0)
 
   fore_within : (h d : ℕ) → Fore l t (within s h d)
   fore_within h d = (((λ n z. absurd z), k.0), (((λ n z. absurd z), k.0), (((λ n z. absurd z), k.0), (((λ n z. absurd z), k.0), (((λ n z. absurd z), k.0), ((λ n z. absurd z), k.0))))))
@@ -237,6 +241,20 @@ module _ (l t : ℕ → Type 0) (s : Scope) (k : Known l s) where
   fore_turnings h n low component (r ∷ []) f = fore_cond l t s k (nat_eq r.count 0) none _ tt (fore_turning l t s k h n low component r.count r.first r.stride f)
   fore_turnings h n low component (r ∷ p ∷ rs) f = fore_runs h n low component 0 (r ∷ p ∷ rs) f
 
+  -- ---- parts that are repeated
+
+  fore_locating : (h n m : ℕ) (r : Run) → Fore l t (locating s h n m r)
+  fore_locating h n m r = fore_cond l t s k (nat_eq r.count 0) none _ tt (((λ n z. absurd z), k.0), (((λ n z. absurd z), k.0), (((λ n z. absurd z), k.0), ((λ n z. absurd z), k.0))))
+
+  fore_locating_in : (h n m : ℕ) (rs : List Run) → Fore l t (locating_in s h n m rs)
+  fore_locating_in h n m [] = tt
+  fore_locating_in h n m (r ∷ []) = fore_locating h n m r
+  fore_locating_in h n m (r ∷ p ∷ rs) = (((λ n z. absurd z), k.0), (((λ n z. absurd z), k.0), (((λ n z. absurd z), k.0), (k.0, (fore_locating h n m r, fore_locating_in h n (m + r.count) (p ∷ rs))))))
+
+  pub fore_repeating : (h n : ℕ) (component : Emit) (rs : List Run) → Fore l t component → Fore l t (repeating s h n component rs)
+  fore_repeating h n component rs f = fore_cond l t s k (nat_eq (components_of rs) 0) none _ tt
+      (((λ n z. absurd z), k.0), (((λ n z. absurd z), k.0), (((λ n z. absurd z), k.0), (λ head. (fore_locating_in h n 0 rs, (f, (((λ n z. absurd z), k.0), (((λ n z. absurd z), k.0), (((λ n z. absurd z), k.0), ((λ n z. absurd z), k.0))))))))))
+
 -- what is done in turns, in a scope whose handler and exits are known
 abbrev pub ForeTurns : (ℕ → Type 0) → (ℕ → Type 0) → (Scope → Emit) → Type 1
 ForeTurns l t body = (l' : ℕ → Type 0) (u : Scope) → ((n : ℕ) → l n → l' n) → Known l' u → Fore l' t (body u)
@@ -313,7 +331,7 @@ module _ (program : Program) where
     pub fore_selected : (l t : ℕ → Type 0) (s : Scope) (h : ℕ) (x : Selections) → Known l s → Fore l t (selected program s h x)
     fore_selected l t s h Whole k = tt
     fore_selected l t s h (Field number offset rest) k = (((λ n z. absurd z), k.0), fore_selected l t s h rest k)
-    fore_selected l t s h (Index at e low high stride rest) k = (fore_emit l t s h e k, (((λ n z. absurd z), k.0), fore_selected l t s h rest k))
+    fore_selected l t s h (Index at e low high stride rest) k = (fore_indexed l t s k h (own_cell s e) low high stride (emit program s h e) (fore_emit l t s h e k), fore_selected l t s h rest k)
 
     pub fore_passed : (l t : ℕ → Type 0) (s : Scope) (h sub w : ℕ) (x : Actuals) → Known l s → Fore l t (passed program s h sub w x)
     fore_passed l t s h sub w NoActual k = tt
@@ -341,7 +359,7 @@ module _ (program : Program) where
     pub fore_associated : (l t : ℕ → Type 0) (s : Scope) (h n : ℕ) (x : Associations) → Known l s → Fore l t (associated program s h n x)
     fore_associated l t s h n NoAssociation k = tt
     fore_associated l t s h n (Association runs None mentions value rest) k = (
-      fore_cond l t s k (takes_turns runs None value) _ _ (fore_turnings l t s k h n (pos 0) _ runs (λ l' up. fore_component l' t (taking 3 s) (turn_height runs h) (s.free + 1 + 1) value ((λ e is. up e (k.0 e is)), (λ j e is. up e (k.1 j e is)))))
+      fore_cond l t s k (is_repeated runs value) _ _ (fore_repeating l t s k h n _ runs (fore_component l t (taking 2 s) h (s.free + 1) value k))
           (fore_fillings l t s k h n (width program value) (is_plain value) _ runs (λ m. fore_into l t s h (n + m) value k)),
       fore_associated l t s h n rest k,
     )

@@ -54,7 +54,7 @@ module _ (limit : ℕ) (c : Code) where
   led f q st d i = driven limit c (done limit (deed_of c q (st ++ f.below) f.base f.outward i) (state_of f q st [] None d)) d.world
 
   -- a step turned round
-  comes_back : (p : Path) (x : Step) → drive limit c p ≡ x → To x (On p)
+  pub comes_back : (p : Path) (x : Step) → drive limit c p ≡ x → To x (On p)
   comes_back p x same = λ asked. record { to = λ e r. go e r.0 r.1; safe = λ s n. subst (λ y. Along limit c asked n y) same (s (suc n)) }
     where
       go : (e : Final) (n : ℕ) → goes limit c n (On p) ≡ Some e → Finally limit c x e

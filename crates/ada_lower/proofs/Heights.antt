@@ -9,7 +9,7 @@ use Rattle.stack_code.specs.declared.code.SiteKind.{SiteKind}
 use Rattle.stack_code.specs.declared.instr.Instr.{Instr}
 use Rattle.stack_code.specs.declared.instr.Instr.TheVariants.{Jump, JFalse, Fork, Words}
 use Rattle.stack_code.specs.declared.operands.Flow.{Flow}
-use Rattle.stack_code.specs.declared.operands.Flow.TheVariants.{On, To, Branch, Back, Ends}
+use Rattle.stack_code.specs.declared.operands.Flow.TheVariants.{On, To, Branch, Back, Round, Ends}
 use Rattle.stack_code.specs.Operands.{takes, pushes, ends_of, nest_after, flow_of}
 use Rattle.stack_code.specs.Valid.{Has, HasFrame, Belongs}
 use Rattle.lower_emission.specs.declared.types.Mark.{Mark}
@@ -73,6 +73,7 @@ module _ (c : Code) where
   Ways l o (To t) b h n P = l t (Here b h n)
   Ways l o (Branch t) b h n P = l t (Here b h n) × (P ≡ behind o b h n)
   Ways l o (Back t) b h n P = l t (Here b h n)
+  Ways l o (Round t) b h n P = l t (Here b h n) × (P ≡ behind o b h n)
   Ways l o Ends b h n P = Unit {0}
 
   -- what holds an instruction is known
@@ -124,6 +125,7 @@ module _ (c : Code) where
     Leads q b h n (To t) = Stood b h n t
     Leads q b h n (Branch t) = Stood b h n t × Stood b h n (q + 1)
     Leads q b h n (Back t) = Stood b h n t
+    Leads q b h n (Round t) = Stood b h n t × Stood b h n (q + 1)
     Leads q b h n Ends = Unit {0}
 
     pub record Fit (q : ℕ) (p : Placed) : Type 0 where
@@ -243,6 +245,14 @@ module _ (c : Code) where
           is_on f = ⊥
 
           to_on : (t : ℕ) → Back t ≡ On → ⊥
+          to_on t e = subst is_on (sym e) tt
+      leads_by l o (Round t) b h n q Q k w land = ((λ e. absurd (to_on t e)), (k t (Here b h n) w.0, (leads_on o b h n q (subst (λ P. Landing P (q + 1)) w.1 land)).0))
+        where
+          is_on : Flow → Type 0
+          is_on On = Unit {0}
+          is_on f = ⊥
+
+          to_on : (t : ℕ) → Round t ≡ On → ⊥
           to_on t e = subst is_on (sym e) tt
       leads_by l o Ends b h n q Q k w land = ((λ e. absurd (subst is_on (sym e) tt)), tt)
         where

@@ -10,7 +10,7 @@ use Rattle.stack_code.specs.declared.code.Unwind.{Unwind}
 use Rattle.stack_code.specs.declared.instr.Instr.{Instr}
 use Rattle.stack_code.specs.declared.instr.Instr.TheVariants.{Jump}
 use Rattle.stack_code.specs.declared.operands.Flow.{Flow}
-use Rattle.stack_code.specs.declared.operands.Flow.TheVariants.{On, To, Branch, Back, Ends}
+use Rattle.stack_code.specs.declared.operands.Flow.TheVariants.{On, To, Branch, Back, Round, Ends}
 use Rattle.stack_code.specs.Operands.{takes, pushes, ends_of, nest_after, flow_of}
 use Rattle.stack_code.specs.Valid as valid
 use Rattle.stack_code.specs.Valid.{Each, Has, HasStack, Lands, Belongs, NamesHolder, SpotFits, Holds, Guarded, GuardsIn, HandlerFits, IsUpTo}
@@ -234,6 +234,7 @@ module _ (c : Code) (ps : List Placed) (instrs : c.instrs ≡ instrs_from ps 0 p
   leads_there q b h n (To t) w = stood b h n t w
   leads_there q b h n (Branch t) w = (stood b h n t w.0, stood b h n (q + 1) w.1)
   leads_there q b h n (Back t) w = stood b h n t w
+  leads_there q b h n (Round t) w = (stood b h n t w.0, stood b h n (q + 1) w.1)
   leads_there q b h n Ends w = tt
 
   aimed : (q t : ℕ) (b : Body) (h n : ℕ) (back : Bool) → Stood c ps b h n t → Stood c ps b h n (cond back (landmark (slice_get ps t) t) t)

@@ -1,5 +1,5 @@
 -- The code of expressions, values, aggregates, actual parameters and iterations: its heights fit.
-use Rattle.std.proofs.Common.{◌≡◌, ℕ, zero, suc, ◌+◌, ◌-◌, ◌*◌, ◌<◌, ◌≤◌, min, ℤ, pos, ◌&&◌, List, [], ◌∷◌, slice_get, nat_eq, nat_lt, Option, Some, None, Bool, true, false, cond, refl, sym, ap, ap₂, ◌∙◌, subst, arith, suc-mul, zero-mul, eqb-true, ltb-true, inr}
+use Rattle.std.proofs.Common.{◌≡◌, ℕ, zero, suc, ◌+◌, ◌-◌, ◌*◌, ◌<◌, ◌≤◌, min, ℤ, pos, ◌-ℤ◌, ◌&&◌, List, [], ◌∷◌, slice_get, nat_eq, nat_lt, Option, Some, None, Bool, true, false, cond, refl, sym, ap, ap₂, ◌∙◌, subst, arith, suc-mul, zero-mul, eqb-true, ltb-true, inr}
 use Rattle.std.specs.Prelude.{IsSomeAnd}
 use Rattle.std.proofs.lemmas.Bool.{eqb-false}
 use Rattle.behaviours.specs.Paths.{Entity, VariableOf, ConstantOf, entity_eq}
@@ -19,12 +19,13 @@ use Rattle.stack_code.specs.Valid.{Has, IsThread, outward, around_of}
 use Rattle.stack_code.proofs.Standing.{has_one}
 use Rattle.stack_code.proofs.Slacks.{has_map}
 use Rattle.lower_emission.specs.Emits.{Emit}
-use Rattle.lower_emission.specs.Scope.{Scope, own, taking, nested, thread_scope, with_parameter, with_item, root_of, constant_root_of, array_root_of, none, one, keep, looped, ◌⨟◌}
-use Rattle.lower_emission.specs.Emission.{is_plain, takes_turns, Shape, lead, shapes, shapes_cells, formal_cell, address, folding, ranged, reducing, combined, leaving_by, first_parameter, range_scope, item_scope, doubled, filling, fillings, iterated_scope, turning, turnings, entering, entering_next, run_steps, run_turnings, turn_height, is_whole, chunk_scope, ends_code, reduction_kind, fork_code, turn_range, turn_component, cells_of, formals_in, formal_of, passing, composite_width, width}
+use Rattle.lower_emission.specs.Scope.{Scope, own, taking, nested, thread_scope, with_parameter, with_item, root_of, constant_root_of, array_root_of, none, one, keep, looped, from, ◌⨟◌}
+use Rattle.lower_emission.specs.Emission.{is_plain, is_repeated, Shape, lead, shapes, shapes_cells, formal_cell, address, folding, ranged, reducing, combined, leaving_by, first_parameter, range_scope, item_scope, doubled, filling, fillings, iterated_scope, turning, turnings, entering, entering_next, run_steps, run_turnings, turn_height, components_of, locating, locating_in, repeating, is_whole, chunk_scope, ends_code, reduction_kind, fork_code, turn_range, turn_component, cells_of, formals_in, formal_of, passing, composite_width, width, own_cell}
 unfoldable use Rattle.lower_emission.specs.Emission.{emit, selected, passed, put_into, composed, associated, component, filtered, iterated, chunk_code, course_code, threaded}
 use Rattle.ada_lower.specs.Ready.{RunsIn, Calls, ReadyReducer, ReadyExpr, ReadyOptional, ReadySelections, ReadyActuals, ReadyValue, ReadyComposite, ReadyAssociations, ReadyIteration, ReadyChunk}
+use Rattle.lower_emission.proofs.OwnCells.{emit_own}
 use Rattle.ada_lower.proofs.Heights.{Place, Here, Behind, up, Also, In, Told, Kept, Firm}
-use Rattle.ada_lower.proofs.HeightsScopes.{at, Known, in_le, known_taking, known_nested, known_more, known_parameter, known_item, known_leaving, known_thread, known_chunk, plain, firm_own, firm_local, kept_next, firm_keep, firm_cond, firm_named, firm_where, firm_address, root_fits, constant_root_fits, array_root_fits, firm_part, firm_unary, firm_binary, firm_compare, firm_within, firm_negated, firm_checked, firm_bounds, firm_ascending, firm_raise_above, firm_raise_beyond, firm_counting, firm_call, firm_call_back, firm_stepping}
+use Rattle.ada_lower.proofs.HeightsScopes.{at, Known, in_le, known_taking, known_nested, known_more, known_parameter, known_item, known_leaving, known_thread, known_chunk, plain, firm_own, firm_local, kept_next, firm_keep, firm_cond, firm_indexed, firm_named, firm_where, firm_address, root_fits, constant_root_fits, array_root_fits, firm_part, firm_unary, firm_binary, firm_compare, firm_within, firm_negated, firm_checked, firm_bounds, firm_ascending, firm_raise_above, firm_raise_beyond, firm_counting, firm_call, firm_call_back, firm_stepping}
 use Rattle.ada_meaning.specs.Meaning.{most_threads}
 
 -- ---- scopes that differ in names alone
@@ -256,6 +257,50 @@ module _ (c : Code) where
         go false e r = firm_turning l s k room h t low part q.count q.first q.stride (run_first l s k room t n size q inside run e) f r
     firm_turnings h t n size low part (q ∷ p ∷ rs) inside runs f r = firm_runs h t n size low part 0 (q ∷ p ∷ rs) inside runs f r
 
+    -- ---- parts that are repeated
+
+    firm_locating : (h t n size m : ℕ) (q : Run) → t + n ≤ s.free → ((j : ℕ) → j < q.count → q.first + j * q.stride + size ≤ n) → Kept c (locating s h t m q) → Firm c l (locating s h t m q) (at s h) (at s h)
+    firm_locating h t n size m q inside run r = go (nat_eq q.count 0) refl r
+      where
+        whole : Emit
+        whole = one s h (i.Local (t + q.first)) ⨟ one s (h + 1) (i.LoadL s.free) ⨟ one s (h + 1 + 1) (i.Index (pos m) (pos (m + q.count) -ℤ pos 1) q.stride) ⨟ keep s (h + 1) (s.free + 1)
+
+        go : (b : Bool) → nat_eq q.count 0 ≡ b → Kept c (cond b none whole) → Firm c l (cond b none whole) (at s h) (at s h)
+        go true e r = refl
+        go false e (r1, (r2, (r3, r4))) =
+            (at s (h + 1), firm_local c l s k h (t + q.first) (in_le c s.body (t + q.first) s.free (run_first l s k room t n size q inside run e) room), (at s (h + 1 + 1), firm_own c l s k (h + 1) s.free room, (at s (h + 1), plain c l s k h (i.Index _ _ _) tt, firm_keep c l s k h (s.free + 1) r4)))
+
+    firm_locating_in : (h t n size m : ℕ) (rs : List Run) → t + n ≤ s.free → RunsIn n size rs → Kept c (locating_in s h t m rs) → Firm c l (locating_in s h t m rs) (at s h) (at s h)
+    firm_locating_in h t n size m [] inside runs r = refl
+    firm_locating_in h t n size m (q ∷ []) inside (run, runs) r = firm_locating h t n size m q inside run r
+    firm_locating_in h t n size m (q ∷ p ∷ rs) inside (run, runs) (r1, (r2, (r3, (r4, r5, r6)))) = (
+      at s (h + 1),
+      firm_own c l s k h s.free room,
+      (at s (h + 1 + 1), plain c l s k (h + 1) (i.Push _) tt, (at s (h + 1), plain c l s k h i.Lt tt, (refl, k.entry, refl, firm_locating h t n size m q inside run r5, firm_locating_in h t n size (m + q.count) (p ∷ rs) inside runs r6))),
+    )
+
+  pub firm_repeating : (l : ℕ → Place → Type 0) (s : Scope) (k : Known c l s) (room : In c s.body s.free) (h t n size : ℕ) (part : Emit) (rs : List Run) → t + n ≤ s.free → RunsIn n size rs → ((x : ℕ) → In c s.body (s.free + 1) → Kept c part → Firm c (Also l x (at s h)) part (at s h) (at s h))
+      → Kept c (repeating s h t part rs) → Firm c l (repeating s h t part rs) (at s h) (at s h)
+  firm_repeating l s k room h t n size part rs inside runs f r = firm_cond c l s k (nat_eq (components_of rs) 0) none _ (at s h) (at s h) (λ r. refl) repeats r
+    where
+      round : ℕ → Emit
+      round head = locating_in s h t 0 rs ⨟ part ⨟ one s h (i.LoadL s.free) ⨟ one s (h + 1) (i.Field 1) ⨟ keep s (h + 1) s.free ⨟ one s h (i.Again head)
+
+      whole : Emit
+      whole = one s h (i.Push (pos 0)) ⨟ keep s (h + 1) s.free ⨟ one s h (i.Repeat (components_of rs)) ⨟ from (λ head. round head)
+
+      repeats : Kept c whole → Firm c l whole (at s h) (at s h)
+      repeats (r1, (r2, (r3, r4))) = (at s (h + 1), plain c l s k h (i.Push _) tt, (at s h, firm_keep c l s k h s.free r2, (at s h, record { here = refl; marked = k.entry; base = h; operands = refl; begun = omega arith; ways = refl; belongs = λ q. tt }, rounds)))
+        where
+          rounds : (x : ℕ) → Kept c (round x) → Firm c (Also l x (at s h)) (round x) (at s h) (at s h)
+          rounds x (a1, (a2, (a3, (a4, (a5, a6))))) =
+              let l' : ℕ → Place → Type 0 = Also l x (at s h) in
+              let k' : Known c l' s = known_more c l s x (at s h) k in (
+                at s h,
+                firm_locating_in l' s k' room h t n size 0 rs inside runs a1,
+                (at s h, f x (kept_next c l s k s.free r2.0) a2, (at s (h + 1), firm_own c l' s k' h s.free room, (at s (h + 1), plain c l' s k' h (i.Field 1) tt, (at s h, firm_keep c l' s k' h s.free a5, record { here = refl; marked = k'.entry; base = h; operands = refl; begun = omega arith; ways = (inr (refl, refl), refl); belongs = λ q. tt })))),
+              )
+
 -- what is done in turns, in a scope that differs in names
 abbrev pub FirmTurns : Code → (ℕ → Place → Type 0) → Scope → Option ℕ → Place → (Scope → Emit) → Type 0
 FirmTurns c l s number P body = (x : ℕ) (u : Scope) → Same (leaving_by number x s) u → Known c (Also l x P) u → Kept c (body u) → Firm c (Also l x P) (body u) P P
@@ -346,12 +391,12 @@ module _ (c : Code) (program : Program) (subs : (sub : ℕ) (gives : Bool) → C
   firm_back l s h d q moved subtype k f (r1, (r2, (r3, (r4, (r5, r6))))) =
       (at s (h + 1), firm_local c l s k h (d + 1) (kept_next c l s k d r5.0), (at s (h + 1 + 1), firm_address c l s k (h + 1) (root_of s q) (root_fits c l s k q) r2, (at s (h + 1 + 1), f r3, (at s (h + 1 + 1 + 1), plain c l s k (h + 1) i.Dup tt, (at s (h + 1 + 1), firm_keep c l s k (h + 1 + 1) d r5, plain c l s k h (i.Copy (cells_of program subtype)) tt)))))
 
-  -- the values of an association without a parameter, which take turns or don't
-  firm_given : (turns : Bool) (l : ℕ → Place → Type 0) (s : Scope) (h t n size : ℕ) (runs : List Run) (part : Emit) (flat : Bool) (value : ℕ → Emit) → RunsIn n size runs → Known c l s → t + n ≤ s.free → In c s.body s.free
-      → ((y : ℕ) → In c s.body (s.free + 1 + 1) → Kept c part → Firm c (Also l y (at s (turn_height runs h))) part (at s (turn_height runs h)) (at s (turn_height runs h)))
+  -- the values of an association without a parameter, in a part that is repeated or not
+  firm_given : (repeated : Bool) (l : ℕ → Place → Type 0) (s : Scope) (h t n size : ℕ) (runs : List Run) (part : Emit) (flat : Bool) (value : ℕ → Emit) → RunsIn n size runs → Known c l s → t + n ≤ s.free → In c s.body s.free
+      → ((y : ℕ) → In c s.body (s.free + 1) → Kept c part → Firm c (Also l y (at s h)) part (at s h) (at s h))
       → ((m : ℕ) → m + size ≤ n → Kept c (value m) → Firm c l (value m) (at s h) (at s h))
-      → Kept c (cond turns (turnings s h t (pos 0) part runs) (fillings s h t size flat value runs)) → Firm c l (cond turns (turnings s h t (pos 0) part runs) (fillings s h t size flat value runs)) (at s h) (at s h)
-  firm_given true l s h t n size runs part flat value lie k le room fc fi r = firm_turnings c l s k room h t n size (pos 0) part runs le lie fc r
+      → Kept c (cond repeated (repeating s h t part runs) (fillings s h t size flat value runs)) → Firm c l (cond repeated (repeating s h t part runs) (fillings s h t size flat value runs)) (at s h) (at s h)
+  firm_given true l s h t n size runs part flat value lie k le room fc fi r = firm_repeating c l s k room h t n size part runs le lie fc r
   firm_given false l s h t n size runs part flat value lie k le room fc fi r = firm_fillings c l s k room h t n size flat value runs le lie fi r
 
   mutual
@@ -441,7 +486,7 @@ module _ (c : Code) (program : Program) (subs : (sub : ℕ) (gives : Bool) → C
     pub firm_selected : (l : ℕ → Place → Type 0) (s : Scope) (h : ℕ) (x : Selections) → ReadySelections program x → Known c l s → Kept c (selected program s (h + 1) x) → Firm c l (selected program s (h + 1) x) (at s (h + 1)) (at s (h + 1))
     firm_selected l s h Whole w k r = refl
     firm_selected l s h (Field number offset rest) w k (r1, r2) = (at s (h + 1), plain c l s k h (i.Field offset) tt, firm_selected l s h rest w k r2)
-    firm_selected l s h (Index a e low high stride rest) w k (r1, (r2, r3)) = (at s (h + 1 + 1), firm_emit l s (h + 1) e w.0 k r1, (at s (h + 1), plain c l s k h (i.Index low high stride) tt, firm_selected l s h rest w.1 k r3))
+    firm_selected l s h (Index a e low high stride rest) w k (r1, r2) = (at s (h + 1), firm_indexed c l s k h (own_cell s e) low high stride (emit program s (h + 1) e) (λ n is. emit_own program s (h + 1) e n is) (λ r. firm_emit l s (h + 1) e w.0 k r) r1, firm_selected l s h rest w.1 k r2)
 
     pub firm_passed : (l : ℕ → Place → Type 0) (s : Scope) (h sub n : ℕ) (x : Actuals) → ReadyActuals program sub x → Known c l s → n + shapes_cells (shapes program (formals_in program sub)) ≤ s.free → Kept c (passed program s h sub n x) → Firm c l (passed program s h sub n x) (at s h) (at s h)
     firm_passed l s h sub n NoActual w k le r = refl
@@ -481,8 +526,8 @@ module _ (c : Code) (program : Program) (subs : (sub : ℕ) (gives : Bool) → C
     firm_associated l s h t n NoAssociation w k le room r = refl
     firm_associated l s h t n (Association runs None mentions value rest) w k le room (r1, r2) = (
       at s h,
-      firm_given (takes_turns runs None value) l s h t n (width program value) runs (component program (taking 3 s) (turn_height runs h) (s.free + 1 + 1) value) (is_plain value) (λ m. put_into program s h (t + m) value) w.0 k le room
-          (λ y c2 r. firm_component (Also l y (at s (turn_height runs h))) (taking 3 s) (turn_height runs h) (s.free + 1 + 1) value w.1 (known_taking c (Also l y (at s (turn_height runs h))) s 3 (known_more c l s y (at s (turn_height runs h)) k)) c2 r)
+      firm_given (is_repeated runs value) l s h t n (width program value) runs (component program (taking 2 s) h (s.free + 1) value) (is_plain value) (λ m. put_into program s h (t + m) value) w.0 k le room
+          (λ y c1 r. firm_component (Also l y (at s h)) (taking 2 s) h (s.free + 1) value w.1 (known_taking c (Also l y (at s h)) s 2 (known_more c l s y (at s h) k)) c1 r)
           (λ m inside r. firm_into l s h (t + m) (width program value) value w.1 k (omega (arith, inside, le)) r) r1,
       firm_associated l s h t n rest w.2 k le room r2,
     )

@@ -10,6 +10,7 @@ mod Mains
 mod Asked
 mod Copies
 mod Courses
+mod Indexing
 mod Items
 mod Scattered
 mod Spots
@@ -23,6 +24,8 @@ mod Defaults
 pub mod Grounded
 mod Turnings
 mod Aggregates
+mod Repeated
+mod Rounds
 mod Inner
 mod Expressions
 mod Actuals

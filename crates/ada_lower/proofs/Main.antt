@@ -1,4 +1,5 @@
 -- A program's code does what the stored run of the program does, from where both begin.
+use Rattle.ada_lower.proofs.Rounds.{with_rounds}
 use Rattle.ada_lower.proofs.Inner.{InnerDo}
 use Rattle.ada_lower.proofs.ForkLaws.{ForksDo}
 use Rattle.std.proofs.Common.{◌≡◌, ℕ, zero, suc, ◌+◌, ◌<◌, ◌≤◌, ℤ, pos, List, [], ◌∷◌, ◌++◌, length, replicate, slice_get, nat_eq, nat_lt, Option, Some, None, Result, Ok, Err, Bool, true, false, cond, not, refl, sym, ap, ap₂, ◌∙◌, subst, append_assoc, append-nil, length-append, le_refl, arith, lt-ltb, ltb-true, true≢false}
@@ -124,7 +125,7 @@ module _ (asked : Option Program) (limit : ℕ) (cuts : ℕ → ℕ → List ℕ
   halts st d at = comes_as limit c (outermost asked) st d at refl
 
   module _ (same_texts : texts ≡ c.texts) (only : (n s : ℕ) (before : Stored (Unit {0})) (passed : List Meaning.Passed) → Closed Raised before → Closed Raised (Meaning.call ops limit program 1000 n s before passed))
-      (pars : (f : Fixed) → f.asked ≡ asked → (depth : ℕ) (all : (f' : Fixed) → Alike f' f → CallsDo limit cuts program globals mains c f' (Meaning.call ops limit program depth)) → ForksDo limit cuts program globals mains epar par c f (Meaning.call ops limit program depth) (all f (alike f)))
+      (pars : (f : Fixed) → f.asked ≡ asked → (depth : ℕ) (all : (f' : Fixed) → Alike f' f → CallsDo limit cuts program globals mains c f' (Meaning.call ops limit program depth)) → ForksDo limit cuts program globals mains epar par c f (Meaning.call ops limit program depth) (λ rs. all (with_rounds rs f) (alike f)))
       (stood : AllStand program globals mains texts text frames epar par c) (entry to : ℕ) (stands : Stands c (main_code program globals mains texts text frames (main_scope program globals mains texts text frames frame).scope) entry to)
       (fitted : MainFitted program globals mains texts text frames epar par (main_scope program globals mains texts text frames frame)) where
     abbrev s : Sight
@@ -137,12 +138,13 @@ module _ (asked : Option Program) (limit : ℕ) (cuts : ℕ → ℕ → List ℕ
     calls_all f' e = call_do limit cuts program c globals mains epar texts text frames par same_texts stood asked pars 1000 f' e.1 (ap (λ n. n + 1000) e.0)
 
     calls_do : InnerDo limit cuts program globals mains epar c (outermost asked) calls
-    calls_do = record { called = calls_all (outermost asked) (alike (outermost asked)); forked = (pars (outermost asked) refl 1000 calls_all).forked }
+    calls_do = record { called = λ rs. calls_all (with_rounds rs (outermost asked)) (alike (outermost asked)); forked = (pars (outermost asked) refl 1000 calls_all).forked }
 
     suits : Suits limit c (outermost asked) main_ends s
     suits = record {
       entry = refl;
       flat = refl;
+      rounds = refl;
       kept = refl;
       texts = same_texts;
       threads = λ n here. absurd here;

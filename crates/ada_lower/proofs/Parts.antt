@@ -197,7 +197,7 @@ module _ (limit : ℕ) (c : Code) (f : Fixed) (x : Ends) where
         lands_from limit c f x q to _ _ (comes _) (le_refl s.turns) (λ s d fit. fit) (j.by s d' fit' (allows_fewer g g' (m.touches s) few al.0, al.1));
   }
 
-  fewer_keeps : (g : Ghost) (a : ℕ) (v : ℤ) → Fewer g (set_what a (Keeps v) g)
+  pub fewer_keeps : (g : Ghost) (a : ℕ) (v : ℤ) → Fewer g (set_what a (Keeps v) g)
   fewer_keeps g a v b y p e = inl (⊎_elim
       (λ z. absurd (no_keep (sym (what_same g a (Keeps v)) ∙ ap (set_what a (Keeps v) g).what z ∙ e)))
       (λ ne. sym (what_other g a b (Keeps v) ne) ∙ e)

@@ -13,7 +13,7 @@ use Rattle.ada_meaning.specs.Meaning.{Env, ObjectPart, Passed, Returned}
 use Rattle.stack_code.specs.declared.code.Code.{Code}
 use Rattle.ada_lower.specs.Driven.{Dyn, Fixed, Step}
 use Rattle.typed_tree.specs.Statics.{is_whole}
-use Rattle.ada_meaning.specs.Turns.{is_plain_expr, is_plain, is_plain_composite, are_plain, several, takes_turns}
+use Rattle.lower_emission.specs.Repeats.{is_plain_expr, is_plain, is_plain_composite, are_plain}
 use Rattle.ada_lower.specs.Fits.{Ghost, Ends, Lands, Asks}
 use Rattle.ada_lower.proofs.Framework.{Doing, does_assoc, asks_split, asks_join, none_sound}
 use Rattle.ada_lower.proofs.Operands.{laid_nil}
@@ -76,16 +76,6 @@ module _ (limit : ℕ) (cuts : ℕ → ℕ → List ℕ) where
   s_runs [] value so_far h = s_ret so_far
   s_runs (r ∷ rs) value so_far h = s_bind (s_run 0 r.count r.first r.stride value so_far h) (λ cs. s_runs rs value cs h)
 
-  -- a plain value takes no turn
-  no_turns : (b plain : Bool) → plain ≡ true → (b && not plain) ≡ false
-  no_turns true true e = refl
-  no_turns true false e = absurd (let z : false ≡ true = e in cc)
-  no_turns false plain e = refl
-
-  s_turn : (turns : Bool) → turns ≡ false → Steady (Meaning.value_turn ops turns)
-  s_turn true e = absurd (let z : true ≡ false = e in cc)
-  s_turn false e = s_ret tt
-
   module _ (program : Program) (calls : ℕ → ℕ → Stored (Unit {0}) → List Passed → Stored Returned) where
     -- a whole object is where it is
     s_select : (z : Selections) → is_whole z ≡ true → (env : Env) (p : ObjectPart) → Steady (Meaning.select ops limit program calls z env p)
@@ -127,7 +117,7 @@ module _ (limit : ℕ) (cuts : ℕ → ℕ → List ℕ) where
       s_associated NoAssociation p env so_far = s_ret so_far
       s_associated (Association runs None mentions value rest) p env so_far =
           let (p1, p2) = both (is_plain value) (are_plain rest) p in
-          s_bind (s_runs runs _ so_far (λ k. s_bind (s_turn (takes_turns runs None value) (no_turns (several runs) (is_plain value) p1)) (λ _. s_cells value p1 env))) (λ cs. s_associated rest p2 env cs)
+          s_bind (s_runs runs _ so_far (λ k. s_bind (s_ret tt) (λ _. s_cells value p1 env))) (λ cs. s_associated rest p2 env cs)
       s_associated (Association runs (Some x) mentions value rest) p env so_far = absurd (let z : false ≡ true = p in cc)
 
     pub s_value : (v : Value) → is_plain v ≡ true → (env : Env) → Steady (stored.bind (stored.ret (tt {0})) (λ _. Meaning.cells ops limit program calls v env))

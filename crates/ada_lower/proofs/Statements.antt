@@ -256,6 +256,7 @@ module _ (limit : ℕ) (cuts : ℕ → ℕ → List ℕ) (program : Program) (c 
   exit_suits {x} {s} number exit w = record {
     entry = w.entry;
     flat = w.flat;
+    rounds = w.rounds;
     kept = w.kept;
     texts = w.texts;
     threads = w.threads;
@@ -487,10 +488,10 @@ module _ (limit : ℕ) (cuts : ℕ → ℕ → List ℕ) (program : Program) (c 
       does_by limit c f x (λ t d fit. comes_reason limit c f s k from m1 r rs d (number_seen (g.what (f.base + k)) (pos (reason_number r)) t (slice_get d.cells (f.base + k)) (inl is) (fit.cells (f.base + k))) l1)
       (ways x s a b m1 to (Values.has_reason rs r) en l2 j j')
 
-  unnested_same : f.nest ≡ 0 → f.kept ≡ [] → unnested f ≡ f
-  unnested_same e k =
+  unnested_same : f.nest ≡ 0 → f.kept ≡ [] → f.rounds ≡ [] → unnested f ≡ f
+  unnested_same e k r =
       let z : f.nested - (f.nest - 0) ≡ f.nested = omega (arith, e) in
-      ap (λ vs. record f { nest = 0; kept = vs; nested = f.nested - (f.nest - 0) }) (sym k) ∙ ap₂ (λ n m. record f { nest = n; nested = m }) (sym e) z
+      ap₂ (λ vs rs. record f { nest = 0; kept = vs; rounds = rs; nested = f.nested - (f.nest - 0) }) (sym k) (sym r) ∙ ap₂ (λ n m. record f { nest = n; nested = m }) (sym e) z
 
   -- a part with handlers: the reason goes to a cell of its own
   guarded_does : {g : Ghost} {env : Env} {m : Stored (Unit {0})} {h : Reason → Stored (Unit {0})} (x : Ends) (t : Sight) (code : Emit) (body : ℕ → Emit) (from to : ℕ) → Knows limit cuts g f t env → Suits limit c f x t → t.scope.free < t.cells
@@ -511,7 +512,7 @@ module _ (limit : ℕ) (cuts : ℕ → ℕ → List ℕ) (program : Program) (c 
       taken o (Returns v) e = absurd (true≢false (sym e))
       taken o (Raises r) e =
           does_bind limit c f x (does_look limit c f x (λ d. on (unnested f) (from + 1) (pos (reason_number r) ∷ []) d)) (λ _ _.
-          subst (λ z. Runs limit c f x g any (h r) (λ d. on z (from + 1) (pos (reason_number r) ∷ []) d) (λ _ d. on f to [] d)) (sym (unnested_same u.flat u.kept))
+          subst (λ z. Runs limit c f x g any (h r) (λ d. on z (from + 1) (pos (reason_number r) ∷ []) d) (λ _ d. on f to [] d)) (sym (unnested_same u.flat u.kept u.rounds))
           (does_before limit c f x (λ d. comes_goes limit c f (pos (reason_number r) ∷ []) (o.mid + 1) (pos (reason_number r) ∷ []) d o.caught refl)
           (does_hold limit c f x (o.mid + 1) (pos (reason_number r)) [] room k (at_entry u.entry o.handler.0) (λ k1.
           j' r _ (o.mid + 1 + 1) to (what_same g (f.base + t.scope.free) (Keeps (pos (reason_number r)))) k1 o.handler.1))))
@@ -613,7 +614,7 @@ module _ (limit : ℕ) (cuts : ℕ → ℕ → List ℕ) (program : Program) (c 
           passed_all limit cuts program c f x calls globals mains epar calls_do actuals from m t 0 sub n count (spots 0 hs) [] [] _ kt (passing_none n hs (omega (arith, whole)) room free kt) suits.entry w l1 (λ ps suited targets.
           let have : HaveCells count ps = have_cells hs ps suited in
           also_then limit c f x {h = scattering (f.base + n) (aheads ps) g} {j = g} {k = λ r. Meaning.all_copied_back ops limit program calls (all_passed ps) r.cells} (λ t d w. fit_unscattered (f.base + n) count (aheads ps) g (aheads_in count ps have) free w)
-          (called_plainly calls_do.called x t sub n m [] ps (record { unit = u.unit; is = u.is; outer = u.outer; main = u.main }) kt whole room suited free (at_entry suits.entry j))
+          (called_plainly (calls_do.called f.rounds) x t sub n m [] ps (record { unit = u.unit; is = u.is; outer = u.outer; main = u.main }) kt whole room suited free (at_entry suits.entry j))
           (λ r t' d fit bs.
           let G : Ghost = scattering (f.base + n) (backs ps r.cells) g in
           let lie : AreIn count (backs ps r.cells) = backs_in count (f.base + n) ps r.cells d.cells have bs in (

@@ -27,6 +27,7 @@ pub record Suits (limit : ℕ) (c : Code) (f : Fixed) (x : Ends) (s : Sight) : T
   pub entry : s.scope.entry ≡ x.entry
   pub kept : f.kept ≡ []
   pub flat : f.nest ≡ 0
+  pub rounds : f.rounds ≡ []
   pub texts : s.texts ≡ c.texts
   pub exits : (n to : ℕ) → s.scope.exits n ≡ Some to → (d : Dyn) → To limit c (on f to [] d) (x.exits n d)
   -- only threads have loops around
@@ -46,6 +47,7 @@ pub suits_as : {limit : ℕ} {c : Code} {f : Fixed} {x : Ends} (t s : Sight) →
 suits_as {limit} {c} t s z e e' o eb e'' w = record {
   entry = e ∙ w.entry;
   flat = w.flat;
+  rounds = w.rounds;
   kept = w.kept;
   texts = z ∙ w.texts;
   threads = λ n here. let (site, is) = w.threads n (subst (λ ns. Amid n ns) o here) in (site, eb ∙ is);
@@ -60,7 +62,7 @@ abbrev pub entered : ℕ → Ends → Ends
 entered h x = record x { entry = Some h }
 
 pub suits_entry : {limit : ℕ} {c : Code} {f : Fixed} {x : Ends} {s : Sight} (h : ℕ) → Suits limit c f x s → Suits limit c f (entered h x) (with_entry h s)
-suits_entry h w = record { entry = refl; flat = w.flat; kept = w.kept; threads = w.threads; away = w.away; texts = w.texts; exits = w.exits; returns = w.returns; gives = w.gives }
+suits_entry h w = record { entry = refl; flat = w.flat; rounds = w.rounds; kept = w.kept; threads = w.threads; away = w.away; texts = w.texts; exits = w.exits; returns = w.returns; gives = w.gives }
 
 pub knows_target : {limit : ℕ} {cuts : ℕ → ℕ → List ℕ} {g : Ghost} {f : Fixed} {s : Sight} {env : Env} (n : Named) (p : ObjectPart) → Knows limit cuts g f s env → Refers g f n (VariableOf p.object) p.offset → Knows limit cuts g f (with_target n s) (Meaning.with_target p env)
 knows_target {limit} {g} {f} {s} {env} n p k r = record {

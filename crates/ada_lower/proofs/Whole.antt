@@ -23,6 +23,7 @@ use Rattle.ada_lower.proofs.Mains.{Ending}
 use Rattle.ada_lower.proofs.ExecLeaves.{call_only}
 use Rattle.ada_lower.proofs.ForkDoes.{forks_do}
 use Rattle.ada_lower.proofs.FoldDoes.{folds_do}
+use Rattle.ada_lower.proofs.Rounds.{with_rounds}
 use Rattle.ada_lower.proofs.ForkLaws.{ForksDo}
 use Rattle.ada_lower.proofs.ProgramStands.{main_to, main_there, all_stand}
 use Rattle.lower_leased.specs.Homes.{main_variables}
@@ -44,9 +45,9 @@ module _ (asked : Option Program) (lent : Bool → Sight → ℕ → CodeSite �
 
   module _ (closed : AllClosed program) (same_texts : texts ≡ c.texts) (code : IsCodeOf program text c) (named : AreNamed program text globals) (fit : AllFit program text globals mains texts frames Folds Par c)
       (fitted : MainFitted program globals mains texts text frames Folds Par (main_scope program globals mains texts text frames frame)) where
-    pub pars : (f : Fixed) → f.asked ≡ asked → (n : ℕ) (all : (f' : Fixed) → Alike f' f → CallsDo limit cuts program globals mains c f' (Meaning.call ops limit program n)) → ForksDo limit cuts program globals mains Folds Par c f (Meaning.call ops limit program n) (all f (alike f))
+    pub pars : (f : Fixed) → f.asked ≡ asked → (n : ℕ) (all : (f' : Fixed) → Alike f' f → CallsDo limit cuts program globals mains c f' (Meaning.call ops limit program n)) → ForksDo limit cuts program globals mains Folds Par c f (Meaning.call ops limit program n) (λ rs. all (with_rounds rs f) (alike f))
     pars f fa n all = record {
-      forked = folds_do asked lent limit cuts lending within program c globals mains depth f fa (Meaning.call ops limit program n) (call_only limit cuts program closed n) all;
+      forked = λ rs. folds_do asked lent limit cuts lending within program c globals mains depth (with_rounds rs f) fa (Meaning.call ops limit program n) (call_only limit cuts program closed n) all;
       parallel = forks_do asked lent limit cuts lending within program c globals mains depth f fa (Meaning.call ops limit program n) (call_only limit cuts program closed n) all;
     }
 

@@ -16,6 +16,7 @@ use Rattle.stack_code.specs.declared.code.SiteKind.TheVariants as kind
 use Rattle.stack_code.specs.declared.code.Reducer.{Reducer}
 use Rattle.stack_code.specs.declared.path.Asked.{Asked}
 use Rattle.stack_code.specs.declared.path.Gave.{Gave}
+use Rattle.stack_code.specs.declared.path.Round.{Round}
 use Rattle.stack_code.specs.Deeds.{applied, bit, truth, differ}
 use Rattle.ada_base.specs.declared.reason.Reason.{Reason}
 use Rattle.ada_base.specs.Input.{Held}
@@ -54,11 +55,12 @@ pub record Dyn : Type 0 where
   pub left : Option ℕ
   pub world : World
 
--- what only calls and constructs change
+-- what only calls, constructs and parts that are repeated change
 pub record Fixed : Type 0 where
   pub below : List ℤ
   pub nest : ℕ
   pub kept : List ℤ
+  pub rounds : List Round
   pub base : ℕ
   pub outward : List ℕ
   pub waiting : List Frame
@@ -82,6 +84,7 @@ state_of f q st line raising d = record {
   floor = length f.below;
   nest = f.nest;
   kept = f.kept;
+  rounds = f.rounds;
   base = f.base;
   outward = f.outward;
   waiting = f.waiting;
@@ -442,7 +445,7 @@ module _ (limit : ℕ) (c : Code) where
 -- ---- raises
 
 abbrev pub unnested : Fixed → Fixed
-unnested f = record f { nest = 0; kept = []; nested = f.nested - (f.nest - 0) }
+unnested f = record f { nest = 0; kept = []; rounds = []; nested = f.nested - (f.nest - 0) }
 
 abbrev pub looked : Fixed → Option ℕ → Dyn → (Dyn → Step) → Step
 looked f None d k = k d

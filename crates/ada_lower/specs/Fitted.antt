@@ -12,7 +12,7 @@ use Rattle.ada_meaning.specs.Meaning.{object_layout, sub_at, formals_of, formal_
 use Rattle.ada_lower.specs.Sights.{Known, Named, Sight, Where, array_root_of, constant_root_of, item_sight, iterated_sight, object_here, own, passing, range_sight, root_of, taking, with_entry, with_exit, with_handled, with_target}
 use Rattle.typed_scopes.specs.Scopes.{Without}
 use Rattle.ada_lower.specs.Defaults.{Filled}
-use Rattle.ada_lower.specs.Emission.{is_whole, takes_turns, width, Shape, lead, shapes, shapes_cells, formal_of, piece_cells, cells_of, composite_width}
+use Rattle.ada_lower.specs.Emission.{is_whole, is_repeated, width, Shape, lead, shapes, shapes_cells, formal_of, piece_cells, cells_of, composite_width}
 
 -- from so many cells selections lead to so many among them
 abbrev pub Reaches : ℕ → Selections → ℕ → Type 0
@@ -115,7 +115,7 @@ module _ (program : Program) (globals : ℕ → Entity → Option Named) (mains 
       pub FittedAssociations : Sight → ℕ → Associations → Type 0
       FittedAssociations s n NoAssociation = Unit {0}
       FittedAssociations s n (Association [] None mentions value rest) = FittedAssociations s n rest
-      FittedAssociations s n (Association (r ∷ rs) None mentions value rest) = FittedRuns n (width program value) (r ∷ rs) × OneOf (takes_turns (r ∷ rs) None value) ((s.scope.free + 1 + 1 < s.cells) × FittedComponent (taking 3 s) value) (FittedValue s (width program value) value) × FittedAssociations s n rest
+      FittedAssociations s n (Association (r ∷ rs) None mentions value rest) = FittedRuns n (width program value) (r ∷ rs) × OneOf (is_repeated (r ∷ rs) value) ((s.scope.free + 1 < s.cells) × FittedComponent (taking 2 s) value) (FittedValue s (width program value) value) × FittedAssociations s n rest
       FittedAssociations s n (Association runs (Some i) mentions value rest) =
           (s.scope.free + 1 + 1 < s.cells) × FittedRuns n (width program value) runs × FittedComponent (iterated_sight s i.parameter) value × FittedAssociations s n rest
 
@@ -136,9 +136,9 @@ module _ (program : Program) (globals : ℕ → Entity → Option Named) (mains 
       FittedValue s n (Number check e) = (n ≡ 1) × Fitted s e
       FittedValue s n (Cells value) = FittedComposite s n value
 
-    -- a value that takes turns is that of a loop
+    -- a value may be that of a part that is repeated
     abbrev pub FittedGiven : Bool → Sight → Value → Type 0
-    FittedGiven turns s value = OneOf turns ((s.scope.free + 1 + 1 < s.cells) × FittedComponent (taking 3 s) value) (FittedValue s (width program value) value)
+    FittedGiven repeated s value = OneOf repeated ((s.scope.free + 1 < s.cells) × FittedComponent (taking 2 s) value) (FittedValue s (width program value) value)
 
     -- an assigned expression, where the target is a whole object that is here, and where its address is kept
     abbrev pub FittedTarget : Sight → Bool → Named → Expr → Type 0

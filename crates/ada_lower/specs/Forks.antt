@@ -18,7 +18,7 @@ use Rattle.ada_lower.specs.Fits.{Ghost, Allows, Fit, Ends, Does}
 
 -- what calls and constructs change, in a thread whose frame begins at that address
 abbrev pub threaded : Fixed → ℕ → Fixed
-threaded f top = record { below = []; nest = 0; kept = []; base = top; outward = f.base ∷ outward_of f.waiting f.outward; waiting = []; calls = f.calls; nested = f.nested; asked = f.asked }
+threaded f top = record { below = []; nest = 0; kept = []; rounds = []; base = top; outward = f.base ∷ outward_of f.waiting f.outward; waiting = []; calls = f.calls; nested = f.nested; asked = f.asked }
 
 -- a thread isn't left but to its construct
 abbrev pub thread_ends : Ends

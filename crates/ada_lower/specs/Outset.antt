@@ -10,7 +10,7 @@ use Rattle.typed_tree.specs.Syntax.{Program}
 
 -- the frame of the main procedure, with nothing around
 abbrev pub outermost : Option Program → Fixed
-outermost asked = record { below = []; nest = 0; kept = []; base = 0; outward = []; waiting = []; calls = 0; nested = 0; asked = asked }
+outermost asked = record { below = []; nest = 0; kept = []; rounds = []; base = 0; outward = []; waiting = []; calls = 0; nested = 0; asked = asked }
 
 abbrev pub first_dyn : Schedule → (ℕ → ℕ → List ℕ) → ℕ → List ℕ → List ℕ → Dyn
 first_dyn notes plan frame input before = record { cells = replicate frame (Mine (pos 0)); turns = 0; left = None; world = record { taken = 0; held = Nothing; input = input; output = before; notes = notes; plan = plan; done = Some [] } }

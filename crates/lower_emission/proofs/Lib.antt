@@ -1,2 +1,4 @@
 -- Lemmas.
+pub mod Computed
 pub mod Written
+pub mod OwnCells

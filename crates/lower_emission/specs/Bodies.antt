@@ -81,11 +81,3 @@ module _ (program : Program) where
 
   abbrev pub program_code : (text : List ℕ → ℕ) → Emit
   program_code text = main_declared (main_scope text) program.body.decls behind_main
-
-  -- where the main procedure's variables stand in its frame, in order, from a cell on
-  abbrev pub positions : ℕ → Decls → List ℕ
-  positions n NoDecl = []
-  positions n (DeclareDefault x more) = n ∷ positions (n + length (object_layout program x)) more
-  positions n (DeclareVariable x initial more) = n ∷ positions (n + width program initial) more
-  positions n (DeclareConstant x initial more) = positions (n + width program initial) more
-  positions n (Mentions es more) = positions n more

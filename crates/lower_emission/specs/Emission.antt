@@ -20,7 +20,7 @@ use Rattle.typed_tree.specs.declared.program.Mode.{Mode}
 use Rattle.typed_tree.specs.declared.program.Mode.TheVariants as mode
 use Rattle.typed_tree.specs.Syntax.{Expr, Static, Variable, Constant, Parameter, Target, Group, Unary, Binary, AndThen, OrElse, Relation, Membership, If, Call, Convert, Reduction, Optional, Absent, Present, Selections, Whole, Field, Index, Actuals, NoActual, In, InOut, Out, CompositeInOut, CompositeOut, Value, Number, Cells, Composite, WholeVariable, WholeConstant, WholeTarget, CompositeIf, Aggregate, Associations, NoAssociation, Association, Iteration, Range, Components, Chunk, NoChunk, Count, Each, Sub, Program}
 pub use Rattle.typed_tree.specs.Statics.{is_whole}
-pub use Rattle.ada_meaning.specs.Turns.{is_plain, takes_turns}
+pub use Rattle.lower_emission.specs.Repeats.{is_plain, is_repeated}
 use Rattle.ada_meaning.specs.Values.{layout, base_of}
 use Rattle.ada_meaning.specs.Meaning.{object_layout, most_threads}
 use Rattle.stack_code.specs.declared.code.Reducer as site
@@ -30,6 +30,8 @@ use Rattle.stack_code.specs.declared.instr.Instr.{Instr}
 use Rattle.stack_code.specs.declared.instr.Instr.TheVariants as i
 use Rattle.lower_emission.specs.declared.types.Where.{Where}
 use Rattle.lower_emission.specs.declared.types.Named.{Named}
+use Rattle.lower_emission.specs.declared.types.Level.{Level}
+use Rattle.lower_emission.specs.declared.types.Level.TheVariants.{Own, Around, Main}
 use Rattle.lower_emission.specs.Emits.{Emit}
 use Rattle.lower_emission.specs.Scope.{Scope, own, taking, nested, thread_scope, with_parameter, with_item, with_exit, root_of, constant_root_of, array_root_of, none, one, keep, forks, ◌⨟◌, choose, when_, looped, aside, from, load_of, address_of}
 
@@ -66,6 +68,32 @@ address s h (Some n) = one s h (address_of n)
 -- the value of a part of what is named, to which `moved` moves the address
 abbrev pub part_of : Scope → ℕ → Option Named → Bool → (moved : Emit) → Emit
 part_of s h n whole moved = cond whole (load_named s h n) (address s h n ⨟ moved ⨟ one s (h + 1) i.Load)
+
+-- the cell of the own frame in which a value lies that a name gives: a loop parameter's, or that of a variable or constant
+
+abbrev pub own_level : Level → ℕ → Option ℕ
+own_level Own n = Some n
+own_level (Around k) n = None
+own_level Main n = None
+
+abbrev pub own_where : Option Where → Option ℕ
+own_where None = None
+own_where (Some w) = own_level w.level w.cell
+
+abbrev pub own_named : Option Named → Option ℕ
+own_named None = None
+own_named (Some n) = cond n.through None (own_level n.place.level n.place.cell)
+
+abbrev pub own_cell : Scope → Expr → Option ℕ
+own_cell s (Variable at r selections scalar) = cond (is_whole selections) (own_named (root_of s r)) None
+own_cell s (Constant at r selections scalar) = cond (is_whole selections) (own_named (constant_root_of s r)) None
+own_cell s (Parameter at k) = own_where (s.parameter k)
+own_cell s e = None
+
+-- the address on the stack is moved by an index, which lies in a cell of the own frame or is pushed first
+abbrev pub indexed_by : Scope → ℕ → Option ℕ → (low high : ℤ) → (stride : ℕ) → (index : Emit) → Emit
+indexed_by s h None low high stride index = index ⨟ one s (h + 1) (i.Index low high stride)
+indexed_by s h (Some n) low high stride index = one s h (i.IndexL n low high stride)
 
 -- ---- operators (4.5)
 
@@ -230,15 +258,6 @@ fillings s h t size plain value (r ∷ rs) =
 abbrev pub iterated_scope : Scope → ℕ → Scope
 iterated_scope s k = with_parameter k (own s.free) (taking 3 s)
 
--- the scope of a value that takes turns, and the parameter's first value; where there is none a count from 0 stands there
-abbrev pub turned_scope : Scope → Option Iterated → Scope
-turned_scope s None = taking 3 s
-turned_scope s (Some x) = iterated_scope s x.parameter
-
-abbrev pub turned_low : Option Iterated → ℤ
-turned_low None = pos 0
-turned_low (Some x) = x.first
-
 -- a loop through the components of a run
 abbrev pub turning : Scope → ℕ → (t : ℕ) → ℤ → (component : Emit) → (count first stride : ℕ) → Emit
 turning s h t low component count first stride =
@@ -283,6 +302,32 @@ abbrev pub turnings : Scope → ℕ → (t : ℕ) → ℤ → (component : Emit)
 turnings s h t low component [] = none
 turnings s h t low component (r ∷ []) = cond (nat_eq r.count 0) none (turning s h t low component r.count r.first r.stride)
 turnings s h t low component (r ∷ q ∷ rs) = run_turnings s h t low component 0 (r ∷ q ∷ rs)
+
+-- A value that is computed anew for each of several components is a part that is repeated. The number of the round stands in
+-- a cell of the frame, the address of its component in the next one.
+
+-- how many components runs have
+abbrev pub components_of : List Run → ℕ
+components_of [] = 0
+components_of (r ∷ rs) = r.count + components_of rs
+
+-- the address of the round's component, in a run of whose components the first has that number; one that has none needs none
+abbrev pub locating : Scope → ℕ → (t number : ℕ) → Run → Emit
+locating s h t number r = cond (nat_eq r.count 0) none
+    (one s h (i.Local (t + r.first)) ⨟ one s (h + 1) (i.LoadL s.free) ⨟ one s (h + 1 + 1) (i.Index (pos number) (pos (number + r.count) -ℤ pos 1) r.stride) ⨟ keep s (h + 1) (s.free + 1))
+
+-- in the run that has it
+abbrev pub locating_in : Scope → ℕ → (t number : ℕ) → List Run → Emit
+locating_in s h t number [] = none
+locating_in s h t number (r ∷ []) = locating s h t number r
+locating_in s h t number (r ∷ q ∷ rs) =
+    one s h (i.LoadL s.free) ⨟ one s (h + 1) (i.Push (pos (number + r.count))) ⨟ one s (h + 1 + 1) i.Lt
+    ⨟ choose s h h (locating s h t number r) (locating_in s h t (number + r.count) (q ∷ rs))
+
+abbrev pub repeating : Scope → ℕ → (t : ℕ) → (component : Emit) → List Run → Emit
+repeating s h t component rs = cond (nat_eq (components_of rs) 0) none
+    (one s h (i.Push (pos 0)) ⨟ keep s (h + 1) s.free ⨟ one s h (i.Repeat (components_of rs))
+    ⨟ from (λ head. locating_in s h t 0 rs ⨟ component ⨟ one s h (i.LoadL s.free) ⨟ one s (h + 1) (i.Field 1) ⨟ keep s (h + 1) s.free ⨟ one s h (i.Again head)))
 
 -- ---- parallel constructs (5.5, 5.6.1, 4.5.10)
 
@@ -411,7 +456,7 @@ module _ (program : Program) where
     pub selected : Scope → ℕ → Selections → Emit
     selected s h Whole = none
     selected s h (Field number offset rest) = one s h (i.Field offset) ⨟ selected s h rest
-    selected s h (Index at e low high stride rest) = emit s h e ⨟ one s (h + 1) (i.Index low high stride) ⨟ selected s h rest
+    selected s h (Index at e low high stride rest) = indexed_by s h (own_cell s e) low high stride (emit s h e) ⨟ selected s h rest
 
     -- actual parameters go to the cells of their formals, with the addresses of what is copied back (6.4.1)
     pub passed : Scope → ℕ → ℕ → ℕ → Actuals → Emit
@@ -448,9 +493,11 @@ module _ (program : Program) where
 
     pub associated : Scope → ℕ → ℕ → Associations → Emit
     associated s h t NoAssociation = none
-    associated s h t (Association runs i mentions value rest) =
-        cond (takes_turns runs i value) (turnings s h t (turned_low i) (component (turned_scope s i) (turn_height runs h) (s.free + 1 + 1) value) runs) (fillings s h t (width value) (is_plain value) (λ n. put_into s h (t + n) value) runs)
+    associated s h t (Association runs None mentions value rest) =
+        cond (is_repeated runs value) (repeating s h t (component (taking 2 s) h (s.free + 1) value) runs) (fillings s h t (width value) (is_plain value) (λ n. put_into s h (t + n) value) runs)
         ⨟ associated s h t rest
+    associated s h t (Association runs (Some x) mentions value rest) =
+        turnings s h t x.first (component (iterated_scope s x.parameter) (turn_height runs h) (s.free + 1 + 1) value) runs ⨟ associated s h t rest
 
     -- a value goes to where an address in a cell says; that of an array or record by way of cells of its own
     pub component : Scope → ℕ → (at : ℕ) → Value → Emit

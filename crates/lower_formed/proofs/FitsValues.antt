@@ -19,7 +19,7 @@ use Rattle.stack_code.specs.declared.code.SiteKind.{SiteKind}
 use Rattle.lower_emission.specs.Emits.{Emit}
 use Rattle.lower_emission.specs.Scope.{none}
 use Rattle.ada_lower.specs.Sights.{Named, Scope, Sight, chunk_sight, constant_root_of, item_sight, iterated_sight, nested_sight, passing, range_sight, root_of, taking, thread_sight, turn_sight}
-use Rattle.ada_lower.specs.Emission.{Shape, associated, chunk_code, component, combined, composed, composite_width, emit, fillings, filtered, folding, formals_in, is_plain, passed, put_into, selected, shapes, shapes_cells, takes_turns, turn_height, turnings, width}
+use Rattle.ada_lower.specs.Emission.{Shape, associated, chunk_code, component, combined, composed, composite_width, emit, fillings, filtered, folding, formals_in, is_plain, passed, put_into, selected, shapes, shapes_cells, is_repeated, repeating, turn_height, turnings, width}
 use Rattle.typed_tree.specs.declared.program.Mode.TheVariants as mode
 use Rattle.ada_lower.specs.Fitted.{Spot, spot, spots, Callable, Fitted, FittedAssociations, FittedComponent, FittedComposite, FittedFold, FittedGiven, FittedIn, FittedOptional, FittedRuns, FittedSelections, FittedValue}
 use Rattle.ada_lower.specs.FittedForks.{FittedChunk, FittedReductions}
@@ -28,9 +28,9 @@ use Rattle.typed_scopes.specs.Scopes.{Without, Around, ArraySeen, Called, Consta
 use Rattle.lower_formed.specs.Tables.{HasSite, TabledActuals, TabledAssociations, TabledChunk, TabledComposite, TabledExpr, TabledOptional, TabledSelections, TabledValue}
 use Rattle.lower_formed.specs.Rooms.{Roomy}
 use Rattle.lower_formed.proofs.Formals.{AreApart, AreFound, AreOf, all_found, formals_are, formals_at, none_of, spots_of, taken}
-use Rattle.lower_formed.proofs.Room.{composed_room, part_room, passed_room}
+use Rattle.lower_formed.proofs.Room.{composed_room, index_room, part_room, passed_room}
 use Rattle.lower_formed.proofs.Sees.{Sees, sees_chunk, sees_iterated, sees_nested, sees_range, sees_taking, sees_thread}
-use Rattle.lower_formed.proofs.Walks.{Through, chunk_free, filled_room, kept, positive, reached_constant, reached_variable, through, turned_room}
+use Rattle.lower_formed.proofs.Walks.{Through, chunk_free, filled_room, kept, positive, reached_constant, reached_variable, through, repeated_room, turned_room}
 
 -- a value that is given so many cells has them
 mutual
@@ -146,16 +146,16 @@ module _ (program : Program) (globals : ℕ → Entity → Option Named) (mains 
       g.turn (with_chunk chunk v) (chunk_sight chunk (taking 2 t)) (omega (arith, e, five))
       (sees_chunk program names mains T frames room chunk (sees_taking program names mains T frames room 2 (omega (arith, five)) (sees_thread program names mains T frames room site cells le k)))
 
-  -- the values of an association without a parameter, which take turns or don't
-  fits_given : (turns : Bool) (n : ℕ) (i : Sight) (w : Known) (v : Around) (h to : ℕ) (r : Run) (rs : List Run) (value : Value) → S w v i → 1 ≤ r.count
-      → (i.scope.free + 1 + 1 < i.cells → R (component program (taking 3 i).scope (turn_height (r ∷ rs) h) (i.scope.free + 1 + 1) value) → FittedComponent program globals mains (Fold n) (taking 3 i) value)
+  -- the values of an association without a parameter, in a part that is repeated or not
+  fits_given : (repeated : Bool) (n : ℕ) (i : Sight) (w : Known) (v : Around) (h to : ℕ) (r : Run) (rs : List Run) (value : Value) → S w v i → 1 ≤ r.count
+      → (i.scope.free + 1 < i.cells → R (component program (taking 2 i).scope h (i.scope.free + 1) value) → FittedComponent program globals mains (Fold n) (taking 2 i) value)
       → ((at : ℕ) → R (put_into program i.scope h (to + at) value) → FittedValue program globals mains (Fold n) i (width program value) value)
-      → R (cond turns (turnings i.scope h to (pos 0) (component program (taking 3 i).scope (turn_height (r ∷ rs) h) (i.scope.free + 1 + 1) value) (r ∷ rs)) (fillings i.scope h to (width program value) (is_plain value) (λ n. put_into program i.scope h (to + n) value) (r ∷ rs)))
-      → FittedGiven program globals mains (Fold n) turns i value
+      → R (cond repeated (repeating i.scope h to (component program (taking 2 i).scope h (i.scope.free + 1) value) (r ∷ rs)) (fillings i.scope h to (width program value) (is_plain value) (λ n. put_into program i.scope h (to + n) value) (r ∷ rs)))
+      → FittedGiven program globals mains (Fold n) repeated i value
   fits_given true n i w v h to r rs value k le fc fv m =
-      let (last, turn) = turned_room Row room i.scope h to (pos 0) (component program (taking 3 i).scope (turn_height (r ∷ rs) h) (i.scope.free + 1 + 1) value) r rs le m in
-      let lt = kept i.scope.free (i.scope.free + 1 + 1) (room i.scope.body) i.cells last k.enough in
-      (lt, fc lt turn)
+      let (last, round) = repeated_room Row room i.scope h to (component program (taking 2 i).scope h (i.scope.free + 1) value) r rs le m in
+      let lt = kept i.scope.free (i.scope.free + 1) (room i.scope.body) i.cells last k.enough in
+      (lt, fc lt round)
   fits_given false n i w v h to r rs value k le fc fv m =
       let (at, mv) = filled_room Row room i.scope h to (width program value) (is_plain value) (λ n. put_into program i.scope h (to + n) value) r rs le m in
       fv at mv
@@ -304,7 +304,7 @@ module _ (program : Program) (globals : ℕ → Entity → Option Named) (mains 
     pub fits_selections : (n : ℕ) (i : Sight) (w : Known) (v : Around) (h : ℕ) (x : Selections) → S w v i → FormedSelections program w x → ScopedSelections program shown v x → TabledSelections T n x → R (selected program i.scope h x) → FittedSelections program globals mains (Fold n) i x
     fits_selections n i w v h Whole k f p t m = tt
     fits_selections n i w v h (Field number offset rest) k f p t m = fits_selections n i w v h rest k f p t m.1
-    fits_selections n i w v h (Index at e low high stride rest) k f p t m = (fits n i w v h e k f.0 p.0 t.0 m.0, fits_selections n i w v h rest k f.1 p.1 t.1 m.1.1)
+    fits_selections n i w v h (Index at e low high stride rest) k f p t m = (fits n i w v h e k f.0 p.0 t.0 (index_room program Row room i.scope h e low high stride m.0), fits_selections n i w v h rest k f.1 p.1 t.1 m.1)
 
     pub fits_in : (n : ℕ) (i : Sight) (w : Known) (v : Around) (h sub base : ℕ) (fs : List Formal) (ks : List Spot) (x : Actuals) → S w v i → FormedActuals program w x → ScopedIn program shown v fs x → TabledActuals T n x → R (passed program i.scope h sub base x)
         → AreOf (shapes program fs) ks → AreFound (shapes program (formals_in program sub)) base ks → FittedIn program globals mains (Fold n) i sub base ks x
@@ -358,8 +358,8 @@ module _ (program : Program) (globals : ℕ → Entity → Option Named) (mains 
         let (size, lie, pv) = p.2 in
         let e = width_is program shown v size value pv in (
           runs_fit cells (width program value) (r ∷ rs) (subst (λ m. LieWithin cells m (r ∷ rs)) (sym e) lie),
-          fits_given (takes_turns (r ∷ rs) None value) n i w v h to r rs value k lie.0
-              (λ lt m. fits_component n (taking 3 i) w v (turn_height (r ∷ rs) h) _ (width program value) value (sees_taking program names mains T frames room 3 (omega (arith, lt)) k) f.1 (subst (λ m. ScopedValue program shown v m value) (sym e) pv) t.0 m)
+          fits_given (is_repeated (r ∷ rs) value) n i w v h to r rs value k lie.0
+              (λ lt m. fits_component n (taking 2 i) w v h _ (width program value) value (sees_taking program names mains T frames room 2 (omega (arith, lt)) k) f.1 (subst (λ m. ScopedValue program shown v m value) (sym e) pv) t.0 m)
               (λ at m. fits_value n i w v h (to + at) (width program value) value k f.1 (subst (λ m. ScopedValue program shown v m value) (sym e) pv) t.0 m) m.0,
           fits_associations n i w v h to cells rest k f.2 p.3 t.1 m.1,
         )

@@ -1,5 +1,5 @@
 -- Names reach their parts, arrays that are gone through too; and the cells that code keeps are in the frame.
-use Rattle.std.proofs.Common.{◌≡◌, ℤ, pos, ℕ, zero, suc, ◌+◌, ◌*◌, ◌<◌, ◌≤◌, max, nat_eq, List, [], ◌∷◌, Option, Bool, true, false, cond, refl, ap, ◌∙◌, subst, arith}
+use Rattle.std.proofs.Common.{◌≡◌, ℤ, pos, ◌-ℤ◌, ℕ, zero, suc, ◌+◌, ◌*◌, ◌<◌, ◌≤◌, max, nat_eq, List, [], ◌∷◌, Option, Bool, true, false, cond, refl, ap, ◌∙◌, subst, arith}
 use Rattle.std.proofs.lemmas.Bool.{ne_eqb}
 use Rattle.std.proofs.Math.Nat.{le-max_right}
 use Rattle.behaviours.specs.Paths.{Entity}
@@ -11,10 +11,10 @@ use Rattle.ada_meaning.specs.Shapes.{size}
 use Rattle.stack_code.specs.declared.code.Around as body
 use Rattle.stack_code.specs.declared.code.SiteKind.{SiteKind}
 use Rattle.lower_emission.specs.Emits.{Emit}
-use Rattle.lower_emission.specs.Scope.{Scope, keep, looped, none, one, ◌⨟◌}
+use Rattle.lower_emission.specs.Scope.{Scope, from, keep, looped, none, one, ◌⨟◌}
 use Rattle.stack_code.specs.declared.instr.Instr.TheVariants as i
 use Rattle.ada_lower.specs.Sights.{Named, Sight, array_root_of, constant_root_of, item_sight, root_of}
-use Rattle.ada_lower.specs.Emission.{chunk_scope, doubled, entering, filling, fillings, run_steps, run_turnings, turn_item, turning, turnings}
+use Rattle.ada_lower.specs.Emission.{chunk_scope, doubled, entering, filling, fillings, components_of, locating, locating_in, repeating, run_steps, run_turnings, turn_item, turning, turnings}
 use Rattle.ada_lower.specs.Fitted.{Reached}
 use Rattle.typed_scopes.specs.Scopes.{Around, ArraySeen, ConstantSeen, VariableSeen}
 use Rattle.lower_formed.specs.Rooms.{Roomy}
@@ -51,6 +51,25 @@ turned_room rows room s h t low component r (p ∷ rs) le m =
     let whole : Emit = one s h (i.Push (pos 0)) ⨟ entering s (h + 1) t low r.count r.first ⨟ looped s (h + 1) true (λ exit. one s (h + 1) i.Turn ⨟ component) (λ head. run_steps s h t low head 0 (r ∷ p ∷ rs)) ⨟ one s (h + 1) i.Pop in
     let w : Roomy rows room whole = subst (λ b. Roomy rows room (cond b (run_turnings s h t low component 1 (p ∷ rs)) whole)) (positive r.count le) m in
     (w.1.0.1.1.1.1.1, (w.1.1.0.1 0).1)
+
+-- that of one that is computed anew for each of several components
+locating_room : (rows : ℕ → SiteKind → body.Around → Type 0) (room : body.Around → ℕ) (s : Scope) (h t : ℕ) (r : Run) (rs : List Run) → 1 ≤ r.count → Roomy rows room (locating_in s h t 0 (r ∷ rs)) → Roomy rows room (keep s (h + 1) (s.free + 1))
+locating_room rows room s h t r rs le m = (subst (λ b. Roomy rows room (cond b none whole)) (positive r.count le) (first rs m)).1.1.1
+  where
+    whole : Emit
+    whole = one s h (i.Local (t + r.first)) ⨟ one s (h + 1) (i.LoadL s.free) ⨟ one s (h + 1 + 1) (i.Index (pos 0) (pos (0 + r.count) -ℤ pos 1) r.stride) ⨟ keep s (h + 1) (s.free + 1)
+
+    first : (rs : List Run) → Roomy rows room (locating_in s h t 0 (r ∷ rs)) → Roomy rows room (locating s h t 0 r)
+    first [] m = m
+    first (p ∷ rs) m = m.1.1.1.1
+
+pub repeated_room : (rows : ℕ → SiteKind → body.Around → Type 0) (room : body.Around → ℕ) (s : Scope) (h t : ℕ) (component : Emit) (r : Run) (rs : List Run) → 1 ≤ r.count → Roomy rows room (repeating s h t component (r ∷ rs)) → Roomy rows room (keep s (h + 1) (s.free + 1)) × Roomy rows room component
+repeated_room rows room s h t component r rs le m =
+    let round : ℕ → Emit = λ head. locating_in s h t 0 (r ∷ rs) ⨟ component ⨟ one s h (i.LoadL s.free) ⨟ one s (h + 1) (i.Field 1) ⨟ keep s (h + 1) s.free ⨟ one s h (i.Again head) in
+    let whole : Emit = one s h (i.Push (pos 0)) ⨟ keep s (h + 1) s.free ⨟ one s h (i.Repeat (components_of (r ∷ rs))) ⨟ from round in
+    let w : Roomy rows room whole = subst (λ b. Roomy rows room (cond b none whole)) (positive (components_of (r ∷ rs)) (omega (arith, le))) m in
+    let rounds : Roomy rows room (round 0) = w.1.1.1 0 in
+    (locating_room rows room s h t r rs le rounds.0, rounds.1.0)
 
 module _ (program : Program) (names : Entity → Option Named) (mains : Entity → Bool) (T : List ℕ → Type 0) (frames : ℕ → ℕ) (room : body.Around → ℕ) where
   abbrev S : Known → Around → Sight → Type 0

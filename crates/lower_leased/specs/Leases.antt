@@ -1,11 +1,10 @@
 -- Leases: which cells of an object a thread has, by the steps of a granted access.
-use Rattle.std.specs.Prelude.{◌≡◌, ℕ, zero, suc, ◌+◌, ◌-◌, ◌*◌, ◌<◌, ℤ, pos, ◌+ℤ◌, ◌-ℤ◌, List, [], ◌∷◌, Option, Some, None, Bool, true, false, cond}
-use Rattle.behaviours.specs.Joins.{Now}
+use Rattle.std.specs.Prelude.{◌≡◌, ℕ, zero, suc, ◌+◌, ◌-◌, ◌*◌, ◌<◌, ℤ, pos, ◌+ℤ◌, ◌-ℤ◌, List, [], ◌∷◌, Option, Some, None, Bool, cond}
 use Rattle.behaviours.specs.Paths.{Entity, VariableOf}
 use Rattle.typed_tree.specs.Syntax.{Program}
 use Rattle.ada_meaning.specs.Values.{between, to_nat, count}
-use Rattle.ada_meaning.specs.Shapes.{Shape, Shapes, Single, Record, Dimension, NoShape, AlsoShape, size, object_shape}
-use Rattle.check_effects.specs.Effects.{Selector, At, Fixed, LoopIndex, ChunkIndex, Any, Step, FieldStep, IndexStep, ItemStep}
+use Rattle.ada_meaning.specs.Shapes.{Shape, Shapes, Record, Dimension, NoShape, AlsoShape, size, object_shape}
+use Rattle.check_effects.specs.Effects.{Selector, At, Fixed, LoopIndex, ChunkIndex, Any}
 use Rattle.check_effects.specs.Conflicts.{EffectPath}
 use Rattle.stack_code.specs.declared.code.Lease as code
 use Rattle.stack_code.specs.declared.code.Step as code_step
@@ -22,49 +21,12 @@ pub data Place : Type 0 where
   Loop : (low : ℤ) (count size : ℕ) → Place
   ByChunk : (low : ℤ) (count size : ℕ) → Place
 
--- the places of a granted path, and how many cells of the object come before the first of them; none where a static index
--- lies outside
-pub record Lease : Type 0 where
-  pub base : ℕ
-  pub places : List Place
-
-abbrev pub with_place : Place → Option Lease → Option Lease
-with_place p None = None
-with_place p (Some l) = Some (record { base = l.base; places = p ∷ l.places })
-
--- `loops` says whether the construct goes through a range: where it goes through an array, its loop has no value
-abbrev pub lease_of : (loops : Bool) → List Step → ℕ → Option Lease
-lease_of loops [] n = Some (record { base = n; places = [] })
-lease_of loops (FieldStep number offset ∷ rest) n = lease_of loops rest (n + offset)
-lease_of loops (IndexStep (At k) low high stride ∷ rest) n = None
-lease_of loops (IndexStep (Fixed v) low high stride ∷ rest) n = cond (between low v high) (lease_of loops rest (n + to_nat (v -ℤ low) * stride)) None
-lease_of loops (IndexStep (LoopIndex d) low high stride ∷ rest) n = cond loops (with_place (Loop (low -ℤ d) (count low high) stride) (lease_of loops rest n)) None
-lease_of loops (IndexStep (ChunkIndex d) low high stride ∷ rest) n = with_place (ByChunk (low -ℤ d) (count low high) stride) (lease_of loops rest n)
-lease_of loops (IndexStep Any low high stride ∷ rest) n = with_place (All (count low high) stride) (lease_of loops rest n)
-lease_of loops (ItemStep judged count stride dimensions ∷ rest) n = with_place (All count stride) (lease_of loops rest n)
-
 -- a cell that the places lead to, by the loop value or position and the chunk value
 abbrev pub InPlaces : (value chunk : ℤ) → List Place → ℕ → ℕ → Type 0
 InPlaces v ch [] n o = o ≡ n
 InPlaces v ch (All count size ∷ ps) n o = (i : ℕ) × (i < count) × InPlaces v ch ps (n + i * size) o
 InPlaces v ch (Loop low count size ∷ ps) n o = (i : ℕ) × (i < count) × (v ≡ low +ℤ pos i) × InPlaces v ch ps (n + i * size) o
 InPlaces v ch (ByChunk low count size ∷ ps) n o = (i : ℕ) × (i < count) × (ch ≡ low +ℤ pos i) × InPlaces v ch ps (n + i * size) o
-
-abbrev pub InLease : ℤ → ℤ → Option Lease → ℕ → Type 0
-InLease v ch None o = ⊥
-InLease v ch (Some l) o = InPlaces v ch l.places l.base o
-
--- the parameters are these
-abbrev pub Tells : Bool → ℤ → ℤ → Now → Type 0
-Tells true v ch now = (now.loop ≡ Some v) × (now.chunk ≡ ch)
-Tells false v ch now = (now.loop ≡ None) × (now.chunk ≡ ch)
-
--- no step is by the item of the construct itself
-abbrev pub NoItem : List Step → Type 0
-NoItem [] = Unit {0}
-NoItem (FieldStep number offset ∷ rest) = NoItem rest
-NoItem (IndexStep s low high stride ∷ rest) = NoItem rest
-NoItem (ItemStep judged count stride dimensions ∷ rest) = (judged ≡ false) × NoItem rest
 
 -- ---- leases of granted paths, for the tables of code
 

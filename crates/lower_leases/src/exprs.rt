@@ -1,7 +1,7 @@
 //! The parallel constructs in expressions (4.4) and in what stands in them.
 
 ghost use Rattle.std.specs.Prelude.{◌≡◌, ◌∷◌, ◌++◌, [], cond, ◌+◌, Err, IfOk, MatchResult, None, Ok, OnOk, Some};
-ghost use Rattle.ada_meaning.specs.Turns.{some_run};
+ghost use Rattle.lower_emission.specs.Repeats.{some_run};
 ghost use Rattle.typed_tree.specs.Decoded.{actuals_at, as_actual, as_association, as_selection, associations_at, chunk_at, composite_at, expr_at, iteration_at, leaves_at, optional_at, part_at, runs_in, selections_at, value_at};
 ghost use Rattle.typed_tree.specs.Syntax.{Actuals, Associations, Selections};
 ghost use Rattle.lower_leased.specs.Standings as spec;

@@ -54,12 +54,14 @@ pub fn count(low: i64, high: i64) -> Result<u32, AllocError>
     }
 }
 
+/// Their product.
 pub fn product(a: u32, b: u32) -> Result<u32, AllocError>
     ensures { IfOk result (λ n. n ≡ a * b) }
 {
     a.checked_mul(b).ok_or(AllocError)
 }
 
+/// Their sum.
 pub fn sum(a: u32, b: u32) -> Result<u32, AllocError>
     ensures { IfOk result (λ n. n ≡ a + b) }
 {

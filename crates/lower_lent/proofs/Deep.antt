@@ -7,7 +7,7 @@ use Rattle.typed_tree.specs.declared.program.Formal.{Formal}
 use Rattle.typed_scopes.specs.Scopes as scopes
 use Rattle.typed_scopes.specs.Scopes.{Around, IsScoped, ScopedActuals, ScopedAll, ScopedAlternatives, ScopedArms, ScopedAssociations, ScopedChunk, ScopedComposite, ScopedDecls, ScopedExpr, ScopedHandlers, ScopedIn, ScopedMain, ScopedOptional, ScopedPieces, ScopedSelections, ScopedStmt, ScopedValue, outset, sub_around, with_chunk, with_formals, with_index, with_outer, with_parameter}
 use Rattle.ada_meaning.specs.Meaning.{object_layout, sub_at}
-use Rattle.ada_meaning.specs.Turns.{takes_turns}
+use Rattle.ada_lower.specs.Emission.{is_repeated}
 use Rattle.ada_meaning.proofs.Cells.{some_same}
 use Rattle.stack_code.specs.declared.code.Around as body
 use Rattle.stack_code.specs.declared.code.Around.TheVariants.{Site, Sub as OfSub}
@@ -187,7 +187,7 @@ module _ (program : Program) (shown : ℕ → Entity → Bool) (globals : ℕ �
     find_associations n d s v j m (Association [] None mentions value rest) h u f t o i = find_associations n d s v j m rest h u.3 f t o i
     find_associations n d s v j m (Association (q ∷ qs) None mentions value rest) h u f t o i =
         next (find_associations n d s v j m rest h u.3 f.2 t _ i)
-        (λ l. one_find (takes_turns (q ∷ qs) None value) t (λ o. value_standings d value o) (λ z o k. find_component n d (taking 3 s) v u.2.0 value h u.2.2 z.1 t o k) (λ z o k. find_value n d s v u.2.0 (width program value) value h u.2.2 z t o k) f.1 o l)
+        (λ l. one_find (is_repeated (q ∷ qs) value) t (λ o. value_standings d value o) (λ z o k. find_component n d (taking 2 s) v u.2.0 value h u.2.2 z.1 t o k) (λ z o k. find_value n d s v u.2.0 (width program value) value h u.2.2 z t o k) f.1 o l)
     find_associations n d s v j m (Association [] (Some x) mentions value rest) h u f t o i = absurd u.0
     find_associations n d s v j m (Association (q ∷ qs) (Some x) mentions value rest) h u f t o i =
         next (find_associations n d s v j m rest h u.3 f.3 t _ i) (λ l. find_component n d (iterated_sight s x.parameter) (with_index (Some x) v) u.2.0 value h u.2.2 f.2 t o l)

@@ -4,7 +4,7 @@ use Rattle.behaviours.specs.Paths.{Entity}
 use Rattle.typed_tree.specs.Syntax.{Expr, Static, Variable, Constant, Parameter, Target, Group, Unary, Binary, AndThen, OrElse, Relation, Membership, If, Call, Convert, Reduction, Iteration, Range, Components, Optional, Absent, Present, Selections, Whole, Field, Index, Actuals, NoActual, In, InOut, Out, CompositeInOut, CompositeOut, Value, Number, Cells, Composite, WholeVariable, WholeConstant, WholeTarget, CompositeIf, Aggregate, Associations, NoAssociation, Association, Chunk, NoChunk, Count, Each, Program}
 use Rattle.typed_tree.specs.declared.program.Formal.{Formal}
 use Rattle.typed_scopes.specs.Scopes.{Around, ScopedExpr, ScopedOptional, ScopedSelections, ScopedIn, ScopedValue, ScopedComposite, ScopedAssociations, ScopedChunk, with_chunk, with_index, with_parameter}
-use Rattle.ada_meaning.specs.Turns.{takes_turns}
+use Rattle.ada_lower.specs.Emission.{is_repeated}
 use Rattle.check_effects.specs.Effects.{Roles, forget, Construct, ReductionOf, Holds, InExpr, InOptional, InSelections, InActuals, InValue, InComposite, InAssociations, InChunk, course_hidden, chunk_hidden, iterated_hidden}
 use Rattle.stack_code.specs.declared.code.Code.{Code}
 use Rattle.stack_code.specs.declared.code.CodeSite.{CodeSite}
@@ -138,7 +138,7 @@ module _ (program : Program) (globals : ℕ → Entity → Option Named) (mains 
     lend_associations n r s v j m (Association [] None mentions value rest) h p i f = lend_associations n r s v j m rest h p.3 (λ k z. i k (inr (inr z))) f
     lend_associations n r s v j m (Association (q ∷ qs) None mentions value rest) h p i f = (
       f.0,
-      one_of program globals mains (takes_turns (q ∷ qs) None value) (λ z. (z.0, lend_component n r (taking 3 s) v p.2.0 value h p.2.2 (λ k z. i k (inr (inl z))) z.1)) (λ z. lend_value n r s v p.2.0 (width program value) value h p.2.2 (λ k z. i k (inr (inl z))) z) f.1,
+      one_of program globals mains (is_repeated (q ∷ qs) value) (λ z. (z.0, lend_component n r (taking 2 s) v p.2.0 value h p.2.2 (λ k z. i k (inr (inl z))) z.1)) (λ z. lend_value n r s v p.2.0 (width program value) value h p.2.2 (λ k z. i k (inr (inl z))) z) f.1,
       lend_associations n r s v j m rest h p.3 (λ k z. i k (inr (inr z))) f.2,
     )
     lend_associations n r s v j m (Association runs (Some x) mentions value rest) h p i f =

@@ -4,7 +4,7 @@ use Rattle.behaviours.specs.Paths.{Entity}
 use Rattle.typed_tree.specs.Syntax.{Expr, Static, Variable, Constant, Parameter, Target, Group, Unary, Binary, AndThen, OrElse, Relation, Membership, If, Call, Convert, Reduction, Iteration, Range, Components, Optional, Absent, Present, Selections, Whole, Field, Index, Actuals, NoActual, In, InOut, Out, CompositeInOut, CompositeOut, Value, Number, Cells, Composite, WholeVariable, WholeConstant, WholeTarget, CompositeIf, Aggregate, Associations, NoAssociation, Association, Chunk, NoChunk, Count, Each, Program}
 use Rattle.typed_tree.specs.declared.program.Formal.{Formal}
 use Rattle.typed_scopes.specs.Scopes.{Around, ScopedExpr, ScopedOptional, ScopedSelections, ScopedIn, ScopedAssociations, ScopedComposite, ScopedValue, ScopedChunk, with_chunk, with_index, with_parameter}
-use Rattle.ada_meaning.specs.Turns.{takes_turns}
+use Rattle.ada_lower.specs.Emission.{is_repeated}
 use Rattle.stack_code.specs.declared.code.Code.{Code}
 use Rattle.stack_code.specs.declared.code.CodeSite.{CodeSite}
 use Rattle.lower_leased.specs.declared.types.Home.{Home}
@@ -150,7 +150,7 @@ module _ (program : Program) (shown : ℕ → Entity → Bool) (globals : ℕ �
     tell_associations n d s v j m (Association [] None mentions value rest) h u g f = tell_associations n d s v j m rest h u.3 g f
     tell_associations n d s v j m (Association (q ∷ qs) None mentions value rest) h u g f = (
       f.0,
-      one_of program globals mains (takes_turns (q ∷ qs) None value) (λ z. (z.0, tell_component n d (taking 3 s) v u.2.0 value h u.2.2 (λ t z. g t (λ o. kept_associations t d rest _ (z o))) z.1)) (λ z. tell_value n d s v u.2.0 (width program value) value h u.2.2 (λ t z. g t (λ o. kept_associations t d rest _ (z o))) z) f.1,
+      one_of program globals mains (is_repeated (q ∷ qs) value) (λ z. (z.0, tell_component n d (taking 2 s) v u.2.0 value h u.2.2 (λ t z. g t (λ o. kept_associations t d rest _ (z o))) z.1)) (λ z. tell_value n d s v u.2.0 (width program value) value h u.2.2 (λ t z. g t (λ o. kept_associations t d rest _ (z o))) z) f.1,
       tell_associations n d s v j m rest h u.3 (λ t z. g t (λ o. z _)) f.2,
     )
     tell_associations n d s v j m (Association [] (Some x) mentions value rest) h u g f = absurd u.0

@@ -9,12 +9,13 @@ ghost use Rattle.stack_code.specs.declared.instr.Instr.TheVariants as i;
 
 use crate::cells::{cells_of, composite_width, product, width};
 use crate::exprs::{address, checked, emit, put_into, selected};
+use crate::repeats::{is_plain, is_repeated};
+use crate::rounds::repeating;
 use crate::runs::turnings;
 use crate::types::{Emitter, Env, Names};
-use ada_meaning::turns::{is_plain, takes_turns};
 use lower_emission::types::{Level, Named, Where};
 use stack_code::Instr;
-use typed_tree::{Association, Composite, Iterated, Leaf, Run, Value};
+use typed_tree::{Composite, Iterated, Leaf, Run, Value};
 
 /// An array or record goes to the cells of the frame from one on.
 #[cycle(emit)]
@@ -118,27 +119,32 @@ fn associated(env: &Env<'_>, h: u32, to: u32, id: u32, out: &mut Emitter)
         match env.typed.nodes.association(cell.first) {
             None => associated(env, h, to, cell.rest, out),
             Some(found) => {
-                given(env, h, to, found, out);
+                match found.iterated {
+                    None => given(env, h, to, found.value, found.runs, out),
+                    Some(parameter) => {
+                        let turned = Turned {
+                            parameter,
+                            value: found.value,
+                        };
+                        turnings(env, h, to, turned, found.runs, out);
+                    }
+                }
                 associated(env, h, to, cell.rest, out);
             }
         }
     }
 }
 
-/// The components of an association (4.3.3).
+/// The components of an association without a parameter (4.3.3).
 #[cycle(emit)]
 #[inline(never)]
-fn given(env: &Env<'_>, h: u32, to: u32, association: Association, out: &mut Emitter)
-    ensures { Emits (cond (spec.takes_turns (as_runs (part_at (nodes env.now) association.runs)) association.iterated (value_at (nodes env.now) association.value)) (spec.turnings (env_of env.now) h to (spec.turned_low association.iterated) (spec.component (tables env.now) (spec.turned_scope (env_of env.now) association.iterated) (spec.turn_height (as_runs (part_at (nodes env.now) association.runs)) h) (env.now.free + 1 + 1) (value_at (nodes env.now) association.value)) (as_runs (part_at (nodes env.now) association.runs))) (spec.fillings (env_of env.now) h to (spec.width (tables env.now) (value_at (nodes env.now) association.value)) (spec.is_plain (value_at (nodes env.now) association.value)) (λ n. spec.put_into (tables env.now) (env_of env.now) h (to + n) (value_at (nodes env.now) association.value)) (as_runs (part_at (nodes env.now) association.runs)))) out.old out.new }
+fn given(env: &Env<'_>, h: u32, to: u32, value: u32, runs: u32, out: &mut Emitter)
+    ensures { Emits (cond (spec.is_repeated (as_runs (part_at (nodes env.now) runs)) (value_at (nodes env.now) value)) (spec.repeating (env_of env.now) h to (spec.component (tables env.now) (taking 2 (env_of env.now)) h (env.now.free + 1) (value_at (nodes env.now) value)) (as_runs (part_at (nodes env.now) runs))) (spec.fillings (env_of env.now) h to (spec.width (tables env.now) (value_at (nodes env.now) value)) (spec.is_plain (value_at (nodes env.now) value)) (λ n. spec.put_into (tables env.now) (env_of env.now) h (to + n) (value_at (nodes env.now) value)) (as_runs (part_at (nodes env.now) runs)))) out.old out.new }
 {
-    if takes_turns(&env.typed.nodes, association) {
-        let turned = Turned {
-            parameter: association.iterated,
-            value: association.value,
-        };
-        turnings(env, h, to, turned, association.runs, out);
+    if is_repeated(&env.typed.nodes, runs, value) {
+        repeating(env, h, to, value, runs, out);
     } else {
-        fillings(env, h, to, association.value, association.runs, out);
+        fillings(env, h, to, value, runs, out);
     }
 }
 
@@ -227,10 +233,10 @@ fn filling(env: &Env<'_>, h: u32, to: u32, value: u32, run: Run, out: &mut Emitt
     }
 }
 
-/// A value that takes turns, and the parameter of its association (4.3.3).
+/// The value of an iterated association, and the parameter (4.3.3).
 #[derive(Clone, Copy)]
 pub struct Turned {
-    pub parameter: Option<Iterated>,
+    pub parameter: Iterated,
     pub value: u32,
 }
 
@@ -238,10 +244,10 @@ pub struct Turned {
 #[cycle(emit)]
 #[inline(never)]
 pub fn turning(env: &Env<'_>, h: u32, to: u32, turned: Turned, run: Run, out: &mut Emitter)
-    ensures { Emits (spec.turning (env_of env.now) h to (spec.turned_low turned.parameter) (spec.component (tables env.now) (spec.turned_scope (env_of env.now) turned.parameter) h (env.now.free + 1 + 1) (value_at (nodes env.now) turned.value)) run.count run.first run.stride) out.old out.new }
+    ensures { Emits (spec.turning (env_of env.now) h to turned.parameter.first (spec.component (tables env.now) (spec.iterated_scope (env_of env.now) turned.parameter.parameter) h (env.now.free + 1 + 1) (value_at (nodes env.now) turned.value)) run.count run.first run.stride) out.old out.new }
 {
     let first = out.sum(to, run.first);
-    let low = low_of(turned.parameter);
+    let low = turned.parameter.first;
     let last = last_value(low, run.count, out);
     before_turns(env, h, first, low, last, out);
     turns(env, h, turned, run.stride, out);
@@ -265,7 +271,7 @@ pub fn before_turns(env: &Env<'_>, h: u32, first: u32, low: i64, high: i64, out:
 #[cycle(emit)]
 #[inline(never)]
 fn turns(env: &Env<'_>, h: u32, turned: Turned, stride: u32, out: &mut Emitter)
-    ensures { Emits (looped (env_of env.now) h true (λ exit. one (env_of env.now) h i.Turn ⨟ spec.component (tables env.now) (spec.turned_scope (env_of env.now) turned.parameter) h (env.now.free + 1 + 1) (value_at (nodes env.now) turned.value)) (λ head. spec.stepping (env_of env.now) h (env.now.free + 1 + 1) stride env.now.free head)) out.old out.new }
+    ensures { Emits (looped (env_of env.now) h true (λ exit. one (env_of env.now) h i.Turn ⨟ spec.component (tables env.now) (spec.iterated_scope (env_of env.now) turned.parameter.parameter) h (env.now.free + 1 + 1) (value_at (nodes env.now) turned.value)) (λ head. spec.stepping (env_of env.now) h (env.now.free + 1 + 1) stride env.now.free head)) out.old out.new }
 {
     let free1 = out.sum(env.free, 1);
     let free2 = out.sum(free1, 1);
@@ -288,40 +294,25 @@ fn turns(env: &Env<'_>, h: u32, turned: Turned, stride: u32, out: &mut Emitter)
 #[cycle(emit)]
 #[inline(never)]
 pub fn turned_component(env: &Env<'_>, h: u32, turned: Turned, address: u32, out: &mut Emitter)
-    ensures { Emits (spec.component (tables env.now) (spec.turned_scope (env_of env.now) turned.parameter) h address (value_at (nodes env.now) turned.value)) out.old out.new }
+    ensures { Emits (spec.component (tables env.now) (spec.iterated_scope (env_of env.now) turned.parameter.parameter) h address (value_at (nodes env.now) turned.value)) out.old out.new }
 {
     let free = out.sum(env.free, 3);
-    match turned.parameter {
-        None => component(&Env { free, ..*env }, h, address, turned.value, out),
-        Some(parameter) => {
-            let names = Names::Parameter {
-                outer: &env.names,
-                number: parameter.parameter,
-                place: own(env.free),
-            };
-            component(
-                &Env {
-                    names,
-                    free,
-                    ..*env
-                },
-                h,
-                address,
-                turned.value,
-                out,
-            );
-        }
-    }
-}
-
-/// The first value of a parameter; a count from 0 stands where there is none.
-pub fn low_of(parameter: Option<Iterated>) -> i64
-    ensures { result ≡ spec.turned_low parameter }
-{
-    match parameter {
-        None => 0,
-        Some(parameter) => parameter.first,
-    }
+    let names = Names::Parameter {
+        outer: &env.names,
+        number: turned.parameter.parameter,
+        place: own(env.free),
+    };
+    component(
+        &Env {
+            names,
+            free,
+            ..*env
+        },
+        h,
+        address,
+        turned.value,
+        out,
+    );
 }
 
 /// A cell of the own frame.
@@ -378,7 +369,7 @@ pub fn stepping(env: &Env<'_>, h: u32, steps: Steps, head: u32, out: &mut Emitte
 #[cycle(emit)]
 #[inline(never)]
 #[tactic(auto, unfolding(lower_emission::specs::Emission::component))]
-fn component(env: &Env<'_>, h: u32, at: u32, id: u32, out: &mut Emitter)
+pub fn component(env: &Env<'_>, h: u32, at: u32, id: u32, out: &mut Emitter)
     ensures { Emits (spec.component (tables env.now) (env_of env.now) h at (value_at (nodes env.now) id)) out.old out.new }
 {
     let h1 = out.sum(h, 1);

@@ -11,6 +11,8 @@ pub mod instrs;
 pub mod iterations;
 pub mod kinds;
 pub mod reductions;
+pub mod repeats;
+pub mod rounds;
 pub mod runs;
 pub mod texts;
 pub mod types;

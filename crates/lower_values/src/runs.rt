@@ -9,7 +9,7 @@ ghost use Rattle.lower_values.specs.Words.{env_of, nodes, tables, Emits, Finds};
 ghost use Rattle.stack_code.specs.declared.instr.Instr.TheVariants as i;
 
 use crate::aggregates::{
-    Steps, Turned, before_turns, last_value, low_of, stepping, turned_component, turning,
+    Steps, Turned, before_turns, last_value, stepping, turned_component, turning,
 };
 use crate::types::{Emitter, Env};
 use stack_code::Instr;
@@ -64,7 +64,7 @@ pub struct Left {
 #[cycle(emit)]
 #[inline(never)]
 pub fn turnings(env: &Env<'_>, h: u32, to: u32, turned: Turned, runs: u32, out: &mut Emitter)
-    ensures { Emits (spec.turnings (env_of env.now) h to (spec.turned_low turned.parameter) (spec.component (tables env.now) (spec.turned_scope (env_of env.now) turned.parameter) (spec.turn_height (as_runs (part_at (nodes env.now) runs)) h) (env.now.free + 1 + 1) (value_at (nodes env.now) turned.value)) (as_runs (part_at (nodes env.now) runs))) out.old out.new }
+    ensures { Emits (spec.turnings (env_of env.now) h to turned.parameter.first (spec.component (tables env.now) (spec.iterated_scope (env_of env.now) turned.parameter.parameter) (spec.turn_height (as_runs (part_at (nodes env.now) runs)) h) (env.now.free + 1 + 1) (value_at (nodes env.now) turned.value)) (as_runs (part_at (nodes env.now) runs))) out.old out.new }
 {
     if let Some(found) = first_run(&env.typed.nodes, runs) {
         match first_run(&env.typed.nodes, found.rest) {
@@ -81,7 +81,7 @@ pub fn turnings(env: &Env<'_>, h: u32, to: u32, turned: Turned, runs: u32, out: 
 #[cycle(emit)]
 #[inline(never)]
 fn run_turnings(env: &Env<'_>, h: u32, to: u32, turned: Turned, left: Left, out: &mut Emitter)
-    ensures { Emits (spec.run_turnings (env_of env.now) h to (spec.turned_low turned.parameter) (spec.component (tables env.now) (spec.turned_scope (env_of env.now) turned.parameter) (h + 1) (env.now.free + 1 + 1) (value_at (nodes env.now) turned.value)) left.number (as_runs (part_at (nodes env.now) left.runs))) out.old out.new }
+    ensures { Emits (spec.run_turnings (env_of env.now) h to turned.parameter.first (spec.component (tables env.now) (spec.iterated_scope (env_of env.now) turned.parameter.parameter) (h + 1) (env.now.free + 1 + 1) (value_at (nodes env.now) turned.value)) left.number (as_runs (part_at (nodes env.now) left.runs))) out.old out.new }
 {
     if let Some(found) = first_run(&env.typed.nodes, left.runs) {
         if found.run.count == 0 {
@@ -94,7 +94,7 @@ fn run_turnings(env: &Env<'_>, h: u32, to: u32, turned: Turned, left: Left, out:
         } else {
             let h1 = out.sum(h, 1);
             out.put(env, h, Instr::Push(i64::from(left.number)));
-            entering(env, h1, to, low_of(turned.parameter), found.run, out);
+            entering(env, h1, to, turned.parameter.first, found.run, out);
             run_loop(env, h, to, turned, left, out);
             out.put(env, h1, Instr::Pop);
         }
@@ -113,7 +113,7 @@ fn entering(env: &Env<'_>, h: u32, to: u32, low: i64, run: Run, out: &mut Emitte
 #[cycle(emit)]
 #[inline(never)]
 fn run_loop(env: &Env<'_>, h: u32, to: u32, turned: Turned, left: Left, out: &mut Emitter)
-    ensures { Emits (looped (env_of env.now) (h + 1) true (λ exit. one (env_of env.now) (h + 1) i.Turn ⨟ spec.component (tables env.now) (spec.turned_scope (env_of env.now) turned.parameter) (h + 1) (env.now.free + 1 + 1) (value_at (nodes env.now) turned.value)) (λ head. spec.run_steps (env_of env.now) h to (spec.turned_low turned.parameter) head left.number (as_runs (part_at (nodes env.now) left.runs)))) out.old out.new }
+    ensures { Emits (looped (env_of env.now) (h + 1) true (λ exit. one (env_of env.now) (h + 1) i.Turn ⨟ spec.component (tables env.now) (spec.iterated_scope (env_of env.now) turned.parameter.parameter) (h + 1) (env.now.free + 1 + 1) (value_at (nodes env.now) turned.value)) (λ head. spec.run_steps (env_of env.now) h to turned.parameter.first head left.number (as_runs (part_at (nodes env.now) left.runs)))) out.old out.new }
 {
     let h1 = out.sum(h, 1);
     let free1 = out.sum(env.free, 1);
@@ -126,7 +126,7 @@ fn run_loop(env: &Env<'_>, h: u32, to: u32, turned: Turned, left: Left, out: &mu
     out.aim_at(env, h1, enter, head);
     let goal = Goal {
         to,
-        low: low_of(turned.parameter),
+        low: turned.parameter.first,
         head,
     };
     run_steps(env, h, goal, left, out);

@@ -1,7 +1,1 @@
-pub mod Lines
-pub mod Statements
-pub mod Values
-pub mod Loops
-pub mod Bodies
-pub mod Constructs
-pub mod Threads
+pub mod Leases

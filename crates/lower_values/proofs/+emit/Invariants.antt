@@ -84,7 +84,10 @@ abbrev pub decreases-aggregates::turned_component : goal.decreases-aggregates::t
 decreases-aggregates::turned_component l = 17179869184 * l.turned.value + 22
 
 abbrev pub decreases-aggregates::given : goal.decreases-aggregates::given
-decreases-aggregates::given l = 17179869184 * l.association.value + (l.association.runs + 31)
+decreases-aggregates::given l = 17179869184 * l.value + (l.runs + 31)
+
+abbrev pub decreases-rounds::repeating : goal.decreases-rounds::repeating
+decreases-rounds::repeating l = 17179869184 * l.value + 30
 
 abbrev pub decreases-aggregates::turns : goal.decreases-aggregates::turns
 decreases-aggregates::turns l = 17179869184 * l.turned.value + 25

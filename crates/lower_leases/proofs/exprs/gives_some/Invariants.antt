@@ -1,5 +1,5 @@
 use Rattle.std.proofs.Common.{◌≡◌}
-use Rattle.ada_meaning.specs.Turns.{some_run}
+use Rattle.lower_emission.specs.Repeats.{some_run}
 use Rattle.typed_tree.specs.Decoded.{leaves_at, runs_in}
 use Rattle.lower_leases.proofs.exprs.gives_some.Given as goal
 

@@ -1,4 +1,4 @@
--- Programs with parallel constructs (5.5, 5.6.1, 4.5.10), their code by hand, and the cells that their threads may write.
+-- Programs with parallel constructs (5.5, 5.6.1, 4.5.10), their code by hand, and the cells that their threads are lent.
 use Rattle.std.specs.Prelude.{ℕ, pos, List, [], ◌∷◌, Option, Some, None}
 use Rattle.ada_base.specs.declared.operation.Base.TheVariants.{Narrow}
 use Rattle.ada_base.specs.declared.operation.Comparison.TheVariants as comparison
@@ -16,10 +16,7 @@ use Rattle.stack_code.specs.declared.code.Lease as lease
 use Rattle.stack_code.specs.declared.code.SiteKind.TheVariants as code_kind
 use Rattle.stack_code.specs.declared.code.Step.TheVariants as step
 use Rattle.stack_code.specs.declared.instr.Instr.TheVariants as i
-use Rattle.check_effects.specs.Conflicts.{EffectPath}
-use Rattle.check_effects.specs.Effects.{LoopIndex}
-use Rattle.lower_leased.specs.Places.{leases_at}
-use Rattle.tests_lowering.specs.Lines.{Line, main, begun, thread, fits, set_to, procedure, no_leases, IsCode}
+use Rattle.lower_emission.specs.Lines.{Line, main, begun, thread, fits, set_to, procedure, no_leases, IsCode}
 
 abbrev pub site_of : kind.the_data → Site
 site_of k = record { at = 0; around = 0; kind = k }
@@ -67,50 +64,48 @@ shares_code =
     ∷ begun 21 3 (i.LoadL 3)
     ∷ begun 22 4 (i.Push (pos 0))
     ∷ begun 23 5 (i.Fork 0)
-    ∷ begun 24 2 (i.Jump 42)
+    ∷ begun 24 2 (i.Jump 41)
     ∷ thread 25 0 (i.LoadL 2)
     ∷ thread 26 1 (i.LoadL 3)
     ∷ thread 27 2 i.Le
-    ∷ thread 28 1 (i.JFalse 41)
+    ∷ thread 28 1 (i.JFalse 40)
     ∷ thread 29 0 (i.Jump 31)
-    ∷ thread 30 0 (i.Jump 41)
+    ∷ thread 30 0 (i.Jump 40)
     ∷ thread 31 0 i.Turn
     ∷ thread 32 0 (i.Global 0)
-    ∷ thread 33 1 (i.LoadL 2)
-    ∷ thread 34 2 (i.Index (pos 1) (pos 2) 1)
-    ∷ thread 35 1 i.Dup
-    ∷ thread 36 2 (i.StoreL 4)
-    ∷ thread 37 1 (i.LoadL 2)
-    ∷ thread 38 2 fits
-    ∷ thread 39 2 i.Store
-    ∷ thread 40 0 (i.Next 2 3 31)
-    ∷ thread 41 0 i.End
-    ∷ begun 42 2 i.Unnest
-    ∷ main 43 2 (i.StoreL 6)
-    ∷ main 44 1 (i.StoreL 7)
-    ∷ main 45 0 (i.LoadL 6)
-    ∷ main 46 1 (i.JFalse 58)
-    ∷ main 47 0 (i.LoadL 6)
-    ∷ main 48 1 (i.Push (pos 1))
-    ∷ main 49 2 i.Eq
-    ∷ main 50 1 (i.JFalse 52)
-    ∷ main 51 0 i.Halt
-    ∷ main 52 0 (i.LoadL 6)
-    ∷ main 53 1 (i.Push (pos 2))
-    ∷ main 54 2 i.Eq
-    ∷ main 55 1 (i.JFalse 58)
-    ∷ main 56 0 (i.LoadL 7)
-    ∷ main 57 1 i.Halt
-    ∷ main 58 0 i.Halt
+    ∷ thread 33 1 (i.IndexL 2 (pos 1) (pos 2) 1)
+    ∷ thread 34 1 i.Dup
+    ∷ thread 35 2 (i.StoreL 4)
+    ∷ thread 36 1 (i.LoadL 2)
+    ∷ thread 37 2 fits
+    ∷ thread 38 2 i.Store
+    ∷ thread 39 0 (i.Next 2 3 31)
+    ∷ thread 40 0 i.End
+    ∷ begun 41 2 i.Unnest
+    ∷ main 42 2 (i.StoreL 6)
+    ∷ main 43 1 (i.StoreL 7)
+    ∷ main 44 0 (i.LoadL 6)
+    ∷ main 45 1 (i.JFalse 57)
+    ∷ main 46 0 (i.LoadL 6)
+    ∷ main 47 1 (i.Push (pos 1))
+    ∷ main 48 2 i.Eq
+    ∷ main 49 1 (i.JFalse 51)
+    ∷ main 50 0 i.Halt
+    ∷ main 51 0 (i.LoadL 6)
+    ∷ main 52 1 (i.Push (pos 2))
+    ∷ main 53 2 i.Eq
+    ∷ main 54 1 (i.JFalse 57)
+    ∷ main 55 0 (i.LoadL 7)
+    ∷ main 56 1 i.Halt
+    ∷ main 57 0 i.Halt
     ∷ []
 
--- A (I) is granted
-abbrev shares_grants : ℕ → List (ℕ × EffectPath)
-shares_grants site = (0, record { object = 0; selectors = LoopIndex (pos 0) ∷ [] }) ∷ []
+-- A (I)
+abbrev pub shares_lent : ℕ → List lease.Lease
+shares_lent site = lends 0 None 0 (step.Loop (pos 1) 2 1 ∷ []) ∷ []
 
 abbrev pub Shares : Type 0
-Shares = IsCode shares (leases_at shares shares_grants) shares_code []
-    (begins (Sub 0) 25 6 2 code_kind.Loop (lends 0 None 0 (step.Loop (pos 1) 2 1 ∷ []) ∷ []) ∷ []) (procedure 0 9 5 ∷ []) []
+Shares = IsCode shares shares_lent shares_code [] (begins (Sub 0) 25 6 2 code_kind.Loop (shares_lent 0) ∷ []) (procedure 0 9 5 ∷ []) []
 
 -- X, Y : Integer := 0; parallel do X := 1; and Y := 2; end do;
 
@@ -180,13 +175,12 @@ parts_code =
     ∷ main 57 0 i.Halt
     ∷ []
 
--- the first arm is granted X, the second Y
-abbrev parts_grants : ℕ → List (ℕ × EffectPath)
-parts_grants site = (0, record { object = 0; selectors = [] }) ∷ (1, record { object = 1; selectors = [] }) ∷ []
+-- the first arm X, the second Y
+abbrev pub parts_lent : ℕ → List lease.Lease
+parts_lent site = lends 0 None 0 [] ∷ lends 1 None 1 [] ∷ []
 
 abbrev pub Parts : Type 0
-Parts = IsCode parts (leases_at parts parts_grants) parts_code []
-    (begins (Sub 0) 18 5 3 (code_kind.Block 2) (lends 0 None 0 [] ∷ lends 1 None 1 [] ∷ []) ∷ []) (procedure 0 7 5 ∷ []) []
+Parts = IsCode parts parts_lent parts_code [] (begins (Sub 0) 18 5 3 (code_kind.Block 2) (parts_lent 0) ∷ []) (procedure 0 7 5 ∷ []) []
 
 -- X : Integer := 0; X := [parallel for I in 1 .. 3 => I]'Reduce ("+", 0);
 

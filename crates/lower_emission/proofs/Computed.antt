@@ -3,14 +3,12 @@ use Rattle.std.proofs.Common.{refl}
 use Rattle.lower_emission.specs.Emission.{emit}
 use Rattle.lower_emission.specs.Statements.{stmt, piece_values, back_code}
 use Rattle.lower_emission.specs.Texts.{stmt_texts}
-use Rattle.lower_leased.specs.Homes.{stmt_homes}
-use Rattle.lower_leased.specs.Standings.{expr_standings, decls_standings, stmt_standings}
-use Rattle.tests_lowering.specs.Statements.{Adds, Decides, Chooses, Fills, Computes, GoesRound, Selects, Gets}
-use Rattle.tests_lowering.specs.Values.{Picks, Finds, Copies, HandsOver}
-use Rattle.tests_lowering.specs.Loops.{Counts, Exits, Sums, Descends, Skips, Visits, Reduces}
-use Rattle.tests_lowering.specs.Bodies.{Handles, Passes, Calls}
-use Rattle.tests_lowering.specs.Constructs.{Shares, Parts, Gathers, Leaves}
-use Rattle.tests_lowering.specs.Threads.{Deals, Marks, Reaches, Nests, Divides, ReturnsEarly, Catches, Folds, Mentioned}
+use Rattle.lower_emission.specs.StatementRows.{Adds, Decides, Chooses, Fills, Computes, GoesRound, Selects, Gets}
+use Rattle.lower_emission.specs.ValueRows.{Picks, Finds, Copies, HandsOver}
+use Rattle.lower_emission.specs.LoopRows.{Counts, Exits, Sums, Descends, Skips, Visits, Reduces}
+use Rattle.lower_emission.specs.BodyRows.{Handles, Passes, Calls}
+use Rattle.lower_emission.specs.ConstructRows.{Shares, Parts, Gathers, Leaves}
+use Rattle.lower_emission.specs.ThreadRows.{Deals, Marks, Reaches, Nests, Divides, ReturnsEarly, Catches, Folds, Mentioned}
 
 pub adds : Adds
 unfolding emit stmt piece_values stmt_texts
@@ -30,11 +28,11 @@ fills = (refl, refl)
 
 pub computes : Computes
 unfolding emit stmt stmt_texts
-computes = (refl, refl)
+computes = ((refl, refl), (refl, refl))
 
 pub goes_round : GoesRound
 unfolding emit stmt stmt_texts
-goes_round = (refl, refl)
+goes_round = ((refl, refl), (refl, refl))
 
 pub selects : Selects
 unfolding emit stmt stmt_texts
@@ -101,11 +99,11 @@ unfolding emit stmt stmt_texts
 calls = (refl, refl)
 
 pub shares : Shares
-unfolding emit stmt stmt_texts stmt_homes stmt_standings decls_standings expr_standings
+unfolding emit stmt stmt_texts
 shares = (refl, refl)
 
 pub parts : Parts
-unfolding emit stmt stmt_texts stmt_homes stmt_standings decls_standings expr_standings
+unfolding emit stmt stmt_texts
 parts = (refl, refl)
 
 pub gathers : Gathers
@@ -117,19 +115,19 @@ unfolding emit stmt stmt_texts
 leaves = (refl, refl)
 
 pub deals : Deals
-unfolding emit stmt stmt_texts stmt_homes stmt_standings decls_standings expr_standings
+unfolding emit stmt stmt_texts
 deals = (refl, refl)
 
 pub marks : Marks
-unfolding emit stmt stmt_texts stmt_homes stmt_standings decls_standings expr_standings
+unfolding emit stmt stmt_texts
 marks = (refl, refl)
 
 pub reaches : Reaches
-unfolding emit stmt stmt_texts stmt_homes stmt_standings decls_standings expr_standings
+unfolding emit stmt stmt_texts
 reaches = (refl, refl)
 
 pub nests : Nests
-unfolding emit stmt stmt_texts stmt_homes stmt_standings decls_standings expr_standings
+unfolding emit stmt stmt_texts
 nests = (refl, refl)
 
 pub divides : Divides

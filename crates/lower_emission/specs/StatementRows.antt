@@ -1,15 +1,15 @@
 -- Programs of simple statements (5.2), choices (5.3, 5.4), aggregates (4.3), names (4.1), output and input (A.10), and their
 -- code by hand.
-use Rattle.std.specs.Prelude.{ℕ, pos, List, [], ◌∷◌, None, true, false}
+use Rattle.std.specs.Prelude.{ℕ, pos, List, [], ◌∷◌, Some, None, true, false}
 use Rattle.ada_base.specs.declared.operation.Base.TheVariants.{Narrow}
 use Rattle.ada_base.specs.declared.operation.Comparison.TheVariants as comparison
 use Rattle.typed_tree.specs.declared.expressions.Root.TheVariants as root
 use Rattle.typed_tree.specs.declared.expressions.Run.{Run}
 use Rattle.typed_tree.specs.Syntax as syntax
-use Rattle.typed_tree.specs.Syntax.{Expr, Variable, Target, Relation, NoExpr, Selections, Whole, Field, Index, Cells, Aggregate, NoAssociation, Association, Associations, NoPiece, Text, Image, NoDecl, DeclareDefault, DeclareVariable, Assign, IfThen, Case, Put, End, Then, NoAlternative, Alternative, Program}
+use Rattle.typed_tree.specs.Syntax.{Expr, Variable, Parameter, Target, Relation, NoExpr, Selections, Whole, Field, Index, Cells, Aggregate, NoAssociation, Association, Associations, NoPiece, Text, Image, NoDecl, DeclareDefault, DeclareVariable, Assign, IfThen, Case, Put, End, Then, NoAlternative, Alternative, Program}
 use Rattle.ada_meaning.specs.Rows.{integers, integer, number, variable, sum, stored, assign, object_of, made_of, array_of, get_into}
 use Rattle.stack_code.specs.declared.instr.Instr.TheVariants as i
-use Rattle.tests_lowering.specs.Lines.{Line, main, fits, set_to, procedure, no_leases, IsCode, IsPlain}
+use Rattle.lower_emission.specs.Lines.{Line, main, fits, set_to, procedure, no_leases, IsCode, IsPlain}
 
 -- X : Integer := 2; X := X + 3; Put (Integer'Image (X));
 
@@ -159,7 +159,7 @@ fills_code =
 abbrev pub Fills : Type 0
 Fills = IsPlain fills fills_code 6 2
 
--- X : Integer := 3; A : array (1 .. 3) of Integer := [others => X + 1];
+-- X : Integer := 3; A : array (1 .. 3) of Integer := [others => X + 1]; and [for K in 1 .. 3 => X + K];
 
 abbrev pub computes : Program
 computes = array_with 3 (given (run 0 3 ∷ []) (sum (variable 0) (number (pos 1))) NoAssociation)
@@ -173,7 +173,41 @@ computes_code =
     ∷ main 4 1 (i.Fill 3 (pos 0))
     ∷ main 5 0 (i.Push (pos 0))
     ∷ main 6 1 (i.StoreL 4)
-    ∷ main 7 0 (i.Push (pos 2))
+    ∷ main 7 0 (i.Repeat 3)
+    ∷ main 8 0 (i.Local 1)
+    ∷ main 9 1 (i.LoadL 4)
+    ∷ main 10 2 (i.Index (pos 0) (pos 2) 1)
+    ∷ main 11 1 (i.StoreL 5)
+    ∷ main 12 0 (i.LoadL 5)
+    ∷ main 13 1 (i.LoadG 0)
+    ∷ main 14 2 (i.Push (pos 1))
+    ∷ main 15 3 (i.Add Narrow)
+    ∷ main 16 2 fits
+    ∷ main 17 2 i.Store
+    ∷ main 18 0 (i.LoadL 4)
+    ∷ main 19 1 (i.Field 1)
+    ∷ main 20 1 (i.StoreL 4)
+    ∷ main 21 0 (i.Again 8)
+    ∷ main 22 0 i.Halt
+    ∷ []
+
+-- an association with the parameter K, from 1 on
+abbrev numbered : List Run → Associations
+numbered runs = Association runs (Some (record { parameter = 0; first = pos 1 })) NoExpr (stored (sum (variable 0) (Parameter 0 0))) NoAssociation
+
+abbrev pub numbers : Program
+numbers = array_with 3 (numbered (run 0 3 ∷ []))
+
+abbrev numbers_code : List Line
+numbers_code =
+    main 0 0 (i.Push (pos 3))
+    ∷ main 1 1 fits
+    ∷ main 2 1 (i.StoreL 0)
+    ∷ main 3 0 (i.Local 1)
+    ∷ main 4 1 (i.Fill 3 (pos 0))
+    ∷ main 5 0 (i.Push (pos 1))
+    ∷ main 6 1 (i.StoreL 4)
+    ∷ main 7 0 (i.Push (pos 3))
     ∷ main 8 1 (i.StoreL 5)
     ∷ main 9 0 (i.Local 1)
     ∷ main 10 1 (i.StoreL 6)
@@ -182,7 +216,7 @@ computes_code =
     ∷ main 13 0 i.Turn
     ∷ main 14 0 (i.LoadL 6)
     ∷ main 15 1 (i.LoadG 0)
-    ∷ main 16 2 (i.Push (pos 1))
+    ∷ main 16 2 (i.LoadL 4)
     ∷ main 17 3 (i.Add Narrow)
     ∷ main 18 2 fits
     ∷ main 19 2 i.Store
@@ -194,9 +228,9 @@ computes_code =
     ∷ []
 
 abbrev pub Computes : Type 0
-Computes = IsPlain computes computes_code 8 3
+Computes = IsPlain computes computes_code 7 3 × IsPlain numbers numbers_code 8 3
 
--- X : Integer := 3; A : array (1 .. 3) of Integer := [2 => 0, others => X + 1];
+-- X : Integer := 3; A : array (1 .. 3) of Integer := [2 => 0, others => X + 1]; and the others from a parameter, in two runs
 
 abbrev pub goes_round : Program
 goes_round = array_with 3 (given (run 1 1 ∷ []) (number (pos 0)) (given (run 0 1 ∷ run 2 1 ∷ []) (sum (variable 0) (number (pos 1))) NoAssociation))
@@ -212,9 +246,51 @@ goes_round_code =
     ∷ main 6 1 fits
     ∷ main 7 1 (i.StoreL 2)
     ∷ main 8 0 (i.Push (pos 0))
-    ∷ main 9 1 (i.Push (pos 0))
+    ∷ main 9 1 (i.StoreL 4)
+    ∷ main 10 0 (i.Repeat 2)
+    ∷ main 11 0 (i.LoadL 4)
+    ∷ main 12 1 (i.Push (pos 1))
+    ∷ main 13 2 i.Lt
+    ∷ main 14 1 (i.JFalse 20)
+    ∷ main 15 0 (i.Local 1)
+    ∷ main 16 1 (i.LoadL 4)
+    ∷ main 17 2 (i.Index (pos 0) (pos 0) 1)
+    ∷ main 18 1 (i.StoreL 5)
+    ∷ main 19 0 (i.Jump 24)
+    ∷ main 20 0 (i.Local 3)
+    ∷ main 21 1 (i.LoadL 4)
+    ∷ main 22 2 (i.Index (pos 1) (pos 1) 1)
+    ∷ main 23 1 (i.StoreL 5)
+    ∷ main 24 0 (i.LoadL 5)
+    ∷ main 25 1 (i.LoadG 0)
+    ∷ main 26 2 (i.Push (pos 1))
+    ∷ main 27 3 (i.Add Narrow)
+    ∷ main 28 2 fits
+    ∷ main 29 2 i.Store
+    ∷ main 30 0 (i.LoadL 4)
+    ∷ main 31 1 (i.Field 1)
+    ∷ main 32 1 (i.StoreL 4)
+    ∷ main 33 0 (i.Again 11)
+    ∷ main 34 0 i.Halt
+    ∷ []
+
+abbrev pub rounds : Program
+rounds = array_with 3 (given (run 1 1 ∷ []) (number (pos 0)) (numbered (run 0 1 ∷ run 2 1 ∷ [])))
+
+abbrev rounds_code : List Line
+rounds_code =
+    main 0 0 (i.Push (pos 3))
+    ∷ main 1 1 fits
+    ∷ main 2 1 (i.StoreL 0)
+    ∷ main 3 0 (i.Local 1)
+    ∷ main 4 1 (i.Fill 3 (pos 0))
+    ∷ main 5 0 (i.Push (pos 0))
+    ∷ main 6 1 fits
+    ∷ main 7 1 (i.StoreL 2)
+    ∷ main 8 0 (i.Push (pos 0))
+    ∷ main 9 1 (i.Push (pos 1))
     ∷ main 10 2 (i.StoreL 4)
-    ∷ main 11 1 (i.Push (pos 0))
+    ∷ main 11 1 (i.Push (pos 1))
     ∷ main 12 2 (i.StoreL 5)
     ∷ main 13 1 (i.Local 1)
     ∷ main 14 2 (i.StoreL 6)
@@ -223,7 +299,7 @@ goes_round_code =
     ∷ main 17 1 i.Turn
     ∷ main 18 1 (i.LoadL 6)
     ∷ main 19 2 (i.LoadG 0)
-    ∷ main 20 3 (i.Push (pos 1))
+    ∷ main 20 3 (i.LoadL 4)
     ∷ main 21 4 (i.Add Narrow)
     ∷ main 22 3 fits
     ∷ main 23 3 i.Store
@@ -237,9 +313,9 @@ goes_round_code =
     ∷ main 31 1 (i.Next 4 5 17)
     ∷ main 32 1 i.Pop
     ∷ main 33 0 (i.Push (pos 1))
-    ∷ main 34 1 (i.Push (pos 0))
+    ∷ main 34 1 (i.Push (pos 1))
     ∷ main 35 2 (i.StoreL 4)
-    ∷ main 36 1 (i.Push (pos 0))
+    ∷ main 36 1 (i.Push (pos 1))
     ∷ main 37 2 (i.StoreL 5)
     ∷ main 38 1 (i.Local 3)
     ∷ main 39 2 (i.StoreL 6)
@@ -257,7 +333,7 @@ goes_round_code =
     ∷ []
 
 abbrev pub GoesRound : Type 0
-GoesRound = IsPlain goes_round goes_round_code 8 4
+GoesRound = IsPlain goes_round goes_round_code 7 3 × IsPlain rounds rounds_code 8 4
 
 -- type Pair is record P, Q : Integer; end record; type Pairs is array (1 .. 2) of Pair; X : Integer := 1; V : Pairs;
 -- V (X).Q := @ + V (2).P;

@@ -8,7 +8,7 @@ use Rattle.typed_tree.specs.Syntax as syntax
 use Rattle.typed_tree.specs.Syntax.{Expr, Variable, Constant, Call, Whole, NoActual, In, InOut, Out, Number, NoDecl, DeclareVariable, Stmt, Assign, CallProcedure, ReturnValue, Raise, Reraise, Block, End, Then, NoHandler, Handler, Program}
 use Rattle.ada_meaning.specs.Rows.{integer, number, variable, sum, stored, assign, object_of, made_of, formal}
 use Rattle.stack_code.specs.declared.instr.Instr.TheVariants as i
-use Rattle.tests_lowering.specs.Lines.{Line, main, guarded, within, fits, is_digit, digit, digits, set_to, procedure, function, no_leases, IsCode}
+use Rattle.lower_emission.specs.Lines.{Line, main, guarded, within, fits, is_digit, digit, digits, set_to, procedure, function, no_leases, IsCode}
 
 -- E : exception; X : Integer := 0;
 -- declare Y : Integer := X; begin raise E; exception when E => X := Y; when others => raise; end;

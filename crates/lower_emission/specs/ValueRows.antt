@@ -11,7 +11,7 @@ use Rattle.typed_tree.specs.Syntax as syntax
 use Rattle.typed_tree.specs.Syntax.{Expr, Unary, AndThen, Membership, If, Convert, WholeVariable, CompositeInOut, Relation, Whole, NoActual, Number, Cells, NoDecl, DeclareDefault, DeclareVariable, Assign, CallProcedure, End, Then, NoHandler, Program}
 use Rattle.ada_meaning.specs.Rows.{integers, integer, number, variable, assign, object_of, made_of, array_of, formal}
 use Rattle.stack_code.specs.declared.instr.Instr.TheVariants as i
-use Rattle.tests_lowering.specs.Lines.{Line, main, within, fits, is_digit, digit, digits, set_to, procedure, no_leases, IsCode, IsPlain}
+use Rattle.lower_emission.specs.Lines.{Line, main, within, fits, is_digit, digit, digits, set_to, procedure, no_leases, IsCode, IsPlain}
 
 -- subtype Digit is Integer range 0 .. 9; X : Integer := 2; X := (if X > 1 and then X < 5 then -X else Digit (X));
 

@@ -8,7 +8,7 @@ use Rattle.typed_tree.specs.declared.expressions.Root.TheVariants as root
 use Rattle.typed_tree.specs.Syntax.{Variable, Parameter, Binary, Relation, Reduction, Absent, Present, Whole, Range, Components, NoChunk, NoDecl, DeclareDefault, Exit, Loop, For, End, Then, Program}
 use Rattle.ada_meaning.specs.Rows.{integers, integer, number, variable, sum, assign, object_of, made_of, upto, array_of}
 use Rattle.stack_code.specs.declared.instr.Instr.TheVariants as i
-use Rattle.tests_lowering.specs.Lines.{Line, main, fits, is_digit, digit, digits, set_to, IsPlain}
+use Rattle.lower_emission.specs.Lines.{Line, main, fits, is_digit, digit, digits, set_to, IsPlain}
 
 -- X : Integer := 0; while X < 3 loop X := X + 1; end loop;
 

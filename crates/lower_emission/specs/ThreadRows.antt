@@ -1,4 +1,5 @@
--- More programs with parallel constructs (5.5, 5.5.2, 5.6.1, 4.5.10), their code by hand, and what their threads may write.
+-- More programs with parallel constructs (5.5, 5.5.2, 5.6.1, 4.5.10), their code by hand, and the cells that their
+-- threads are lent.
 use Rattle.std.specs.Prelude.{ℕ, zero, suc, pos, negsuc, List, [], ◌∷◌, Some, None, true, false}
 use Rattle.ada_base.specs.declared.operation.Base.TheVariants.{Narrow}
 use Rattle.ada_base.specs.declared.operation.Op.TheVariants as op
@@ -12,14 +13,12 @@ use Rattle.typed_tree.specs.Syntax as syntax
 use Rattle.typed_tree.specs.Syntax.{Expr, AlsoExpr, Each, Count, Constant, Parameter, Call, Reduction, NoExpr, Absent, Whole, NoActual, Number, Components, NoChunk, NoDecl, DeclareDefault, DeclareVariable, Assign, ReturnValue, ParallelFor, Parallel, Block, End, Then, NoArm, Arm, NoHandler, Handler, Program}
 use Rattle.ada_meaning.specs.Rows.{integers, integer, number, variable, sum, stored, assign, object_of, made_of, upto, array_of, indexed, formal}
 use Rattle.stack_code.specs.declared.code.Around.TheVariants.{Sub, Site}
+use Rattle.stack_code.specs.declared.code.Lease.{Lease}
 use Rattle.stack_code.specs.declared.code.SiteKind.TheVariants as code_kind
 use Rattle.stack_code.specs.declared.code.Step.TheVariants as step
 use Rattle.stack_code.specs.declared.instr.Instr.TheVariants as i
-use Rattle.check_effects.specs.Conflicts.{EffectPath}
-use Rattle.check_effects.specs.Effects.{LoopIndex, ChunkIndex}
-use Rattle.lower_leased.specs.Places.{leases_at}
-use Rattle.tests_lowering.specs.Lines.{Line, main, begun, begun_within, begun_thread, inner_thread, guarded, is_signed, signed, thread, within, fits, is_digit, digit, digits, set_to, procedure, function, no_leases, IsCode}
-use Rattle.tests_lowering.specs.Constructs.{site_of, with_site, begins, lends}
+use Rattle.lower_emission.specs.Lines.{Line, main, begun, begun_within, begun_thread, inner_thread, guarded, is_signed, signed, thread, within, fits, is_digit, digit, digits, set_to, procedure, function, no_leases, IsCode}
+use Rattle.lower_emission.specs.ConstructRows.{site_of, with_site, begins, lends}
 
 -- A : array (1 .. 2) of Integer; parallel (C in 1 .. 2) for I in 1 .. 4 loop A (C) := I; end loop;
 
@@ -64,50 +63,48 @@ deals_code =
     ∷ begun 32 3 (i.LoadL 3)
     ∷ begun 33 4 (i.Push (pos 0))
     ∷ begun 34 5 (i.Fork 0)
-    ∷ begun 35 2 (i.Jump 53)
+    ∷ begun 35 2 (i.Jump 52)
     ∷ thread 36 0 (i.LoadL 2)
     ∷ thread 37 1 (i.LoadL 3)
     ∷ thread 38 2 i.Le
-    ∷ thread 39 1 (i.JFalse 52)
+    ∷ thread 39 1 (i.JFalse 51)
     ∷ thread 40 0 (i.Jump 42)
-    ∷ thread 41 0 (i.Jump 52)
+    ∷ thread 41 0 (i.Jump 51)
     ∷ thread 42 0 i.Turn
     ∷ thread 43 0 (i.Global 0)
-    ∷ thread 44 1 (i.LoadL 0)
-    ∷ thread 45 2 (i.Index (pos 1) (pos 2) 1)
-    ∷ thread 46 1 i.Dup
-    ∷ thread 47 2 (i.StoreL 4)
-    ∷ thread 48 1 (i.LoadL 2)
-    ∷ thread 49 2 fits
-    ∷ thread 50 2 i.Store
-    ∷ thread 51 0 (i.Next 2 3 42)
-    ∷ thread 52 0 i.End
-    ∷ begun 53 2 i.Unnest
-    ∷ main 54 2 (i.StoreL 6)
-    ∷ main 55 1 (i.StoreL 7)
-    ∷ main 56 0 (i.LoadL 6)
-    ∷ main 57 1 (i.JFalse 69)
-    ∷ main 58 0 (i.LoadL 6)
-    ∷ main 59 1 (i.Push (pos 1))
-    ∷ main 60 2 i.Eq
-    ∷ main 61 1 (i.JFalse 63)
-    ∷ main 62 0 i.Halt
-    ∷ main 63 0 (i.LoadL 6)
-    ∷ main 64 1 (i.Push (pos 2))
-    ∷ main 65 2 i.Eq
-    ∷ main 66 1 (i.JFalse 69)
-    ∷ main 67 0 (i.LoadL 7)
-    ∷ main 68 1 i.Halt
-    ∷ main 69 0 i.Halt
+    ∷ thread 44 1 (i.IndexL 0 (pos 1) (pos 2) 1)
+    ∷ thread 45 1 i.Dup
+    ∷ thread 46 2 (i.StoreL 4)
+    ∷ thread 47 1 (i.LoadL 2)
+    ∷ thread 48 2 fits
+    ∷ thread 49 2 i.Store
+    ∷ thread 50 0 (i.Next 2 3 42)
+    ∷ thread 51 0 i.End
+    ∷ begun 52 2 i.Unnest
+    ∷ main 53 2 (i.StoreL 6)
+    ∷ main 54 1 (i.StoreL 7)
+    ∷ main 55 0 (i.LoadL 6)
+    ∷ main 56 1 (i.JFalse 68)
+    ∷ main 57 0 (i.LoadL 6)
+    ∷ main 58 1 (i.Push (pos 1))
+    ∷ main 59 2 i.Eq
+    ∷ main 60 1 (i.JFalse 62)
+    ∷ main 61 0 i.Halt
+    ∷ main 62 0 (i.LoadL 6)
+    ∷ main 63 1 (i.Push (pos 2))
+    ∷ main 64 2 i.Eq
+    ∷ main 65 1 (i.JFalse 68)
+    ∷ main 66 0 (i.LoadL 7)
+    ∷ main 67 1 i.Halt
+    ∷ main 68 0 i.Halt
     ∷ []
 
--- A (C) is granted
-abbrev deals_grants : ℕ → List (ℕ × EffectPath)
-deals_grants site = (0, record { object = 0; selectors = ChunkIndex (pos 0) ∷ [] }) ∷ []
+-- A (C)
+abbrev pub deals_lent : ℕ → List Lease
+deals_lent site = lends 0 None 0 (step.Chunk (pos 1) 2 1 ∷ []) ∷ []
 
 abbrev pub Deals : Type 0
-Deals = IsCode deals (leases_at deals deals_grants) deals_code []
-    (begins (Sub 0) 36 6 2 code_kind.ChunkLoop (lends 0 None 0 (step.Chunk (pos 1) 2 1 ∷ []) ∷ []) ∷ []) (procedure 0 9 5 ∷ []) []
+Deals = IsCode deals deals_lent deals_code [] (begins (Sub 0) 36 6 2 code_kind.ChunkLoop (deals_lent 0) ∷ []) (procedure 0 9 5 ∷ []) []
 
 -- A : array (1 .. 2) of Integer; parallel for E of A loop E := 1; end loop;
 
@@ -177,13 +174,12 @@ marks_code =
     ∷ main 57 0 i.Halt
     ∷ []
 
--- E is granted
-abbrev marks_grants : ℕ → List (ℕ × EffectPath)
-marks_grants site = (0, record { object = 0; selectors = LoopIndex (pos 0) ∷ [] }) ∷ []
+-- E
+abbrev pub marks_lent : ℕ → List Lease
+marks_lent site = lends 0 None 0 (step.Loop (pos 1) 2 1 ∷ []) ∷ []
 
 abbrev pub Marks : Type 0
-Marks = IsCode marks (leases_at marks marks_grants) marks_code []
-    (begins (Sub 0) 19 7 2 code_kind.Loop (lends 0 None 0 (step.Loop (pos 1) 2 1 ∷ []) ∷ []) ∷ []) (procedure 0 9 5 ∷ []) []
+Marks = IsCode marks marks_lent marks_code [] (begins (Sub 0) 19 7 2 code_kind.Loop (marks_lent 0) ∷ []) (procedure 0 9 5 ∷ []) []
 
 -- declare Y : Integer := 0; begin parallel do Y := 1; and null; end do; end;
 
@@ -247,13 +243,12 @@ reaches_code =
     ∷ main 51 0 i.Halt
     ∷ []
 
--- the first arm is granted Y
-abbrev reaches_grants : ℕ → List (ℕ × EffectPath)
-reaches_grants site = (0, record { object = 0; selectors = [] }) ∷ []
+-- the first arm Y
+abbrev pub reaches_lent : ℕ → List Lease
+reaches_lent site = lends 0 (Some 0) 0 [] ∷ []
 
 abbrev pub Reaches : Type 0
-Reaches = IsCode reaches (leases_at reaches reaches_grants) reaches_code []
-    (begins (Sub 0) 15 5 3 (code_kind.Block 2) (lends 0 (Some 0) 0 [] ∷ []) ∷ []) (procedure 0 6 5 ∷ []) []
+Reaches = IsCode reaches reaches_lent reaches_code [] (begins (Sub 0) 15 5 3 (code_kind.Block 2) (reaches_lent 0) ∷ []) (procedure 0 6 5 ∷ []) []
 
 -- declare Y : Integer := 1; Z : Integer := 0; begin
 -- parallel do Z := [parallel for K in 1 .. 2 => Y]'Reduce ("+", 0); and null; end do; end;
@@ -358,15 +353,15 @@ nests_code =
     ∷ main 88 0 i.Halt
     ∷ []
 
--- the first arm is granted Z, the threads of the reduction nothing
-abbrev nests_grants : ℕ → List (ℕ × EffectPath)
-nests_grants zero = (0, record { object = 1; selectors = [] }) ∷ []
-nests_grants (suc site) = []
+-- the first arm Z, the threads of the reduction nothing
+abbrev pub nests_lent : ℕ → List Lease
+nests_lent zero = lends 0 (Some 0) 1 [] ∷ []
+nests_lent (suc site) = []
 
 abbrev pub Nests : Type 0
-Nests = IsCode nests (leases_at nests nests_grants) nests_code []
-    (begins (Sub 0) 18 10 5 (code_kind.Block 2) (lends 0 (Some 0) 1 [] ∷ [])
-    ∷ begins (Site 0) 48 5 3 (code_kind.Reduction (Some (record { op = op.Add; base = Narrow }))) [] ∷ [])
+Nests = IsCode nests nests_lent nests_code []
+    (begins (Sub 0) 18 10 5 (code_kind.Block 2) (nests_lent 0)
+    ∷ begins (Site 0) 48 5 3 (code_kind.Reduction (Some (record { op = op.Add; base = Narrow }))) (nests_lent 1) ∷ [])
     (procedure 0 7 5 ∷ []) []
 
 -- X : Integer := 3; parallel (X) for I in 1 .. 2 loop null; end loop;
