@@ -1,14 +1,16 @@
 //! Reads rows from its input, each a text and what is to be said of it, or a program and what is to come of it, or its code;
 //! compiles each text and runs or lists each program, and writes each row of which something else comes, and how many rows
-//! there were.
+//! there were. With the letter M threads of a program look for each other, and with H one is held until the other left.
 #![tactic(auto)]
 
 mod listings;
 mod programs;
+mod pulses;
 mod rows;
 
 use listings::listing_difference;
 use programs::program_difference;
+use pulses::{holding_difference, meeting_difference};
 use rows::{Row, row_of, said_of, text_of, wanted_of};
 use std::alloc::{AllocError, Global};
 use std::io;
@@ -33,6 +35,8 @@ fn main(rt: HostRuntime) -> io::Result<()> {
         let difference = match line.split_once('~') {
             Some(("R", fields)) => program_difference(&rt, alloc, fields)?,
             Some(("L", fields)) => listing_difference(alloc, fields)?,
+            Some(("M", fields)) => meeting_difference(&rt, alloc, fields)?,
+            Some(("H", fields)) => holding_difference(&rt, alloc, fields)?,
             _ => difference(alloc, &row_of(line))?,
         };
         if let Some(said) = difference {

@@ -3,7 +3,7 @@
 ghost use Rattle.std.specs.Prelude.{◌<◌};
 ghost use Rattle.run_plan.specs.Plans.{HasNoZero};
 
-use ada_port::{HeldSink, MemSource, Quiet};
+use ada_port::{HeldSink, MemSource, Pulse, Quiet};
 use command_words::{Request, read};
 use driver::{Unit, compile, execute};
 use run_reports::{
@@ -31,7 +31,8 @@ fn field(rest: &str) -> (&str, &str) {
     rest.split_once('~').unwrap_or((rest, ""))
 }
 
-fn program_of(fields: &str) -> Program<'_> {
+/// The program of a row that runs.
+pub fn program_of(fields: &str) -> Program<'_> {
     let (options, rest) = field(fields);
     let (policy, rest) = field(rest);
     let (declarations, rest) = field(rest);
@@ -131,12 +132,13 @@ struct Said {
     err: HeldSink,
 }
 
-fn run_text<R: Threads + Sync>(
+fn run_text<R: Threads + Sync, P: Pulse + Sync>(
     rt: &R,
     alloc: Global,
     request: Request<'_>,
     text: &str,
     input: MemSource,
+    pulse: &P,
 ) -> Result<(Status, Said), AllocError>
     requires planned { HasNoZero request.setting.plan }
     requires some { 0 < request.setting.workers }
@@ -152,8 +154,7 @@ fn run_text<R: Threads + Sync>(
             say(&mut said.err, line.as_bytes(), Status::Refused)
         }
         Ok(unit) => {
-            let pulse = Quiet::new();
-            let ran = execute(rt, alloc, &unit, request.setting, input, said.out, &pulse);
+            let ran = execute(rt, alloc, &unit, request.setting, input, said.out, pulse);
             said.out = ran.out;
             say_end(alloc, &unit, request.vars, ran.end, &mut said)
         }
@@ -169,11 +170,12 @@ pub fn push_field(line: &mut String, bytes: &[u8]) -> Result<(), AllocError> {
     Ok(())
 }
 
-/// What came of a row, as its last fields have it.
-fn outcome<R: Threads + Sync>(
+/// What came of a row, as its last fields have it. The pulse is told of the threads that begin.
+pub fn outcome<R: Threads + Sync, P: Pulse + Sync>(
     rt: &R,
     alloc: Global,
     row: &Program<'_>,
+    pulse: &P,
 ) -> Result<String, AllocError> {
     let words = words_of(alloc, row)?;
     let text = text_of(alloc, row)?;
@@ -182,7 +184,7 @@ fn outcome<R: Threads + Sync>(
         let mut err = HeldSink::new(alloc);
         return format!(in alloc; "{}~~usage", say_usage(&mut err).number());
     };
-    let (status, said) = run_text(rt, alloc, request, text.as_str(), input)?;
+    let (status, said) = run_text(rt, alloc, request, text.as_str(), input, pulse)?;
     let mut line = format!(in alloc; "{}~", status.number())?;
     push_field(&mut line, said.out.bytes())?;
     line.push('~')?;
@@ -197,6 +199,6 @@ pub fn program_difference<R: Threads + Sync>(
     fields: &str,
 ) -> Result<Option<String>, AllocError> {
     let row = program_of(fields);
-    let line = outcome(rt, alloc, &row)?;
+    let line = outcome(rt, alloc, &row, &Quiet::new())?;
     Ok((line.as_str() != row.wanted).then_some(line))
 }

@@ -12,7 +12,7 @@ use std::thread::Threads;
 
 /// What threads came to: the cells afterwards, and what became of each thread.
 #[derive(Drop)]
-pub struct Came {
+pub(crate) struct Came {
     pub cells: Vec<i64>,
     pub finished: Finished<Walker>,
 }
@@ -102,7 +102,7 @@ fn on_view<R: Threads + Sync>(
 }
 
 /// Runs so many threads on so many workers, where thread number `leaver`, if there is one, leaves.
-pub fn run<R: Threads + Sync>(
+pub(crate) fn run<R: Threads + Sync>(
     rt: &R,
     alloc: Global,
     many: u32,

@@ -1,11 +1,10 @@
 use cell_strip::{Part, Region};
-use std::alloc::AllocError;
+use std::alloc::{AllocError, Global};
 
 // The two cells 1 and 4 of a block of six.
-#[test]
 #[tactic(auto, unfolding(cell_strip::specs::Regions::has))]
-fn strided(rt: HostRuntime) -> Result<(), AllocError> {
-    let mut whole = Part::root(rt.alloc(), 6)?;
+pub(crate) fn strided(alloc: Global) -> Result<bool, AllocError> {
+    let mut whole = Part::root(alloc, 6)?;
     let mut part = whole.cut(
         Region {
             base: 1,
@@ -21,18 +20,14 @@ fn strided(rt: HostRuntime) -> Result<(), AllocError> {
     whole.set(2, whole.get(3));
     whole.set(5, -1);
     whole.join_part(part);
-    assert_eq!(rt; whole.get(4), 7);
-    assert_eq!(rt; whole.get(1), 8);
-    assert_eq!(rt; whole.get(0), 5);
-    assert_eq!(rt; whole.get(5), -1);
+    let holds = whole.get(4) == 7 && whole.get(1) == 8 && whole.get(0) == 5 && whole.get(5) == -1;
     whole.free();
-    Ok(())
+    Ok(holds)
 }
 
-#[test]
 #[tactic(auto, unfolding(cell_strip::specs::Regions::has))]
-fn empty_region(rt: HostRuntime) -> Result<(), AllocError> {
-    let mut whole = Part::root(rt.alloc(), 4)?;
+pub(crate) fn empty_region(alloc: Global) -> Result<bool, AllocError> {
+    let mut whole = Part::root(alloc, 4)?;
     let part = whole.cut(
         Region {
             base: 0,
@@ -43,19 +38,18 @@ fn empty_region(rt: HostRuntime) -> Result<(), AllocError> {
         0,
     );
     whole.set(0, 3);
-    assert_eq!(rt; whole.get(0), 3);
+    let holds = whole.get(0) == 3;
     whole.join_part(part);
     whole.free();
-    let none = Part::root(rt.alloc(), 0)?;
+    let none = Part::root(alloc, 0)?;
     none.free();
-    Ok(())
+    Ok(holds)
 }
 
 // The columns of three rows of two cells each, in a block that begins at the address 10.
-#[test]
 #[tactic(auto, unfolding(cell_strip::specs::Regions::has))]
-fn columns(rt: HostRuntime) -> Result<(), AllocError> {
-    let mut left = Part::root(rt.alloc(), 6)?;
+pub(crate) fn columns(alloc: Global) -> Result<bool, AllocError> {
+    let mut left = Part::root(alloc, 6)?;
     let mut right = left.cut(
         Region {
             base: 11,
@@ -71,21 +65,18 @@ fn columns(rt: HostRuntime) -> Result<(), AllocError> {
     right.set(1, left.get(4));
     right.set(3, left.get(2));
     right.set(5, left.get(0));
-    assert_eq!(rt; left.either(&right, 3), 2);
-    assert_eq!(rt; left.either(&right, 4), 3);
+    let apart = left.either(&right, 3) == 2 && left.either(&right, 4) == 3;
     left.join_part(right);
-    assert_eq!(rt; left.get(1), 3);
-    assert_eq!(rt; left.get(5), 1);
+    let holds = apart && left.get(1) == 3 && left.get(5) == 1;
     left.free();
-    Ok(())
+    Ok(holds)
 }
 
 // Parts of two blocks, each of which is joined where it belongs.
-#[test]
 #[tactic(auto, unfolding(cell_strip::specs::Regions::has))]
-fn two_blocks(rt: HostRuntime) -> Result<(), AllocError> {
-    let mut first = Part::root(rt.alloc(), 2)?;
-    let Ok(mut second) = Part::root(rt.alloc(), 2) else {
+pub(crate) fn two_blocks(alloc: Global) -> Result<bool, AllocError> {
+    let mut first = Part::root(alloc, 2)?;
+    let Ok(mut second) = Part::root(alloc, 2) else {
         first.free();
         return Err(AllocError);
     };
@@ -100,17 +91,16 @@ fn two_blocks(rt: HostRuntime) -> Result<(), AllocError> {
     one.set(0, 1);
     first.join_part(one);
     second.join_part(two);
-    assert_eq!(rt; first.get(0) + second.get(0), 1);
+    let holds = first.get(0) == 1 && second.get(0) == 0;
     first.free();
     second.free();
-    Ok(())
+    Ok(holds)
 }
 
 // Rows of three cells, each of which begins one cell behind the one before: the cells 0 to 4.
-#[test]
 #[tactic(auto, unfolding(cell_strip::specs::Regions::has))]
-fn overlapping_rows(rt: HostRuntime) -> Result<(), AllocError> {
-    let mut whole = Part::root(rt.alloc(), 6)?;
+pub(crate) fn overlapping_rows(alloc: Global) -> Result<bool, AllocError> {
+    let mut whole = Part::root(alloc, 6)?;
     let mut part = whole.cut(
         Region {
             base: 0,
@@ -124,33 +114,29 @@ fn overlapping_rows(rt: HostRuntime) -> Result<(), AllocError> {
     part.set(4, part.get(2));
     whole.set(5, 6);
     whole.join_part(part);
-    assert_eq!(rt; whole.get(4), 4);
-    assert_eq!(rt; whole.get(5), 6);
+    let holds = whole.get(4) == 4 && whole.get(5) == 6;
     whole.free();
-    Ok(())
+    Ok(holds)
 }
 
-#[test]
-fn cells_of_a_region(rt: HostRuntime) {
+pub(crate) fn cells_of_a_region() -> bool {
     let columns = Region {
         base: 11,
         count: 3,
         stride: 2,
         run: 1,
     };
-    assert!(rt; !columns.has(10));
-    assert!(rt; columns.has(11));
-    assert!(rt; !columns.has(12));
-    assert!(rt; columns.has(15));
-    assert!(rt; !columns.has(17));
+    let of_columns = !columns.has(10)
+        && columns.has(11)
+        && !columns.has(12)
+        && columns.has(15)
+        && !columns.has(17);
     let one_row = Region {
         base: 7,
         count: 4_294_967_295,
         stride: 0,
         run: 2,
     };
-    assert!(rt; one_row.has(8));
-    assert!(rt; !one_row.has(9));
-    assert!(rt; !one_row.has(18_446_744_073_709_551_615));
-    assert!(rt; !Region::none().has(0));
+    let of_row = one_row.has(8) && !one_row.has(9) && !one_row.has(18_446_744_073_709_551_615);
+    of_columns && of_row && !Region::none().has(0)
 }

@@ -48,47 +48,27 @@ fn has_own(came: &Came, number: usize) -> bool {
 }
 
 // Each of 70 threads writes its number into its cell.
-fn all_write<R: Threads + Sync>(rt: &R, alloc: Global, workers: u32) -> Result<bool, NoMemory>
+pub(crate) fn all_write<R: Threads + Sync>(
+    rt: &R,
+    alloc: Global,
+    workers: u32,
+) -> Result<bool, NoMemory>
     requires { 0 < workers }
 {
     let came = run(rt, alloc, 70, workers, 70)?;
     Ok(came.finished.chosen.is_none() && whole(&came) == 70 && numbered(&came) == 70)
 }
 
-#[test]
-fn one_worker(rt: HostRuntime) -> Result<(), NoMemory> {
-    assert!(rt; all_write(&rt, rt.alloc(), 1)?);
-    Ok(())
-}
-
-#[test]
-fn four_workers(rt: HostRuntime) -> Result<(), NoMemory> {
-    assert!(rt; all_write(&rt, rt.alloc(), 4)?);
-    Ok(())
-}
-
-#[test]
-fn sixty_four_workers(rt: HostRuntime) -> Result<(), NoMemory> {
-    assert!(rt; all_write(&rt, rt.alloc(), 64)?);
-    Ok(())
-}
-
 // On one worker the threads after the one that leaves do nothing.
-#[test]
-fn leaving_in_order(rt: HostRuntime) -> Result<(), NoMemory> {
-    let came = run(&rt, rt.alloc(), 5, 1, 2)?;
-    assert_eq!(rt; came.finished.chosen, Some(2));
-    assert_eq!(rt; whole(&came), 3);
-    assert!(rt; came.cells.as_slice() == [0, 1, 2, 0, 0].as_slice());
-    Ok(())
+pub(crate) fn leaving_in_order<R: Threads + Sync>(rt: &R, alloc: Global) -> Result<bool, NoMemory> {
+    let came = run(rt, alloc, 5, 1, 2)?;
+    let cells = came.cells.as_slice() == [0, 1, 2, 0, 0].as_slice();
+    Ok(came.finished.chosen == Some(2) && whole(&came) == 3 && cells)
 }
 
 // On several it is the one that leaves that is chosen, whatever the others came to.
-#[test]
-fn leaving_on_four(rt: HostRuntime) -> Result<(), NoMemory> {
-    let came = run(&rt, rt.alloc(), 9, 4, 6)?;
-    assert_eq!(rt; came.finished.chosen, Some(6));
-    assert!(rt; came.cells.len() == 9 && has_own(&came, 6));
-    assert!(rt; left(&came, 6));
-    Ok(())
+pub(crate) fn leaving_on_four<R: Threads + Sync>(rt: &R, alloc: Global) -> Result<bool, NoMemory> {
+    let came = run(rt, alloc, 9, 4, 6)?;
+    let all = came.cells.len() == 9;
+    Ok(came.finished.chosen == Some(6) && all && has_own(&came, 6) && left(&came, 6))
 }

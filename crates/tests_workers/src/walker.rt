@@ -9,7 +9,7 @@ use cell_memory::View;
 use std::alloc::Global;
 
 #[derive(Clone, Copy)]
-pub enum Op {
+pub(crate) enum Op {
     Put(u64, i64),
     Copy(u64, u64),
     Turn,
@@ -17,7 +17,7 @@ pub enum Op {
 }
 
 #[derive(Drop)]
-pub struct Walker {
+pub(crate) struct Walker {
     pub ops: Vec<Op>,
     pub at: usize,
     pub turns: u64,
