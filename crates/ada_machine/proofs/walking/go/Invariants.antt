@@ -1,4 +1,4 @@
-use Rattle.std.proofs.Common.{◌≡◌, ℕ, ◌≤◌, None}
+use Rattle.std.proofs.Common.{◌≡◌, ℕ, ◌≤◌}
 use Rattle.stack_code.specs.Machine.{Comes}
 use Rattle.stack_code.specs.Runs.{NeverStuck}
 use Rattle.stack_code.specs.Stands.{rank}
@@ -12,7 +12,6 @@ abbrev pub invariant-loop-m : goal.invariant-loop-m
 invariant-loop-m g l = record {
   came : Comes l.limit l.code (state_of l.fn.m (g.C.Cells.cells l.fn.view)) (state_of l.m (g.C.Cells.cells l.view));
   ready : Ready l.code l.m (g.C.Cells.cells l.view);
-  calm : l.m.raising ≡ None;
   clear : NeverStuck l.limit l.code (state_of l.m (g.C.Cells.cells l.view));
   within : l.m.turns ≤ l.limit;
   looks : (n : ℕ) × (l.m.looks ≡ more l.fn.m.looks n) × Looks l.limit l.code n (state_of l.fn.m (g.C.Cells.cells l.fn.view)) (state_of l.m (g.C.Cells.cells l.view));
