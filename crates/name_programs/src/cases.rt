@@ -19,6 +19,7 @@ ghost use Rattle.name_programs.specs.Kept.{Keeps, KeepsWith, KeepsWithOn};
 ghost use Rattle.name_programs.specs.Texts.{in_text, node_of};
 
 use crate::scene_at;
+use crate::statement_lists::{none_given_of_three, none_given_of_two};
 use crate::statements::stmts;
 use crate::text::Text;
 use name_expressions::choices::case_choices;
@@ -99,9 +100,7 @@ fn with_alternative(
     ensures { Leaves (spec.also_alternative (as_choosing choosing (second (parts out.old))) (part_if done (third (parts out.old))) (part_if then (top (parts out.old)))) (pop (pop (pop (parts out.old)))) result (parts out.new) }
 {
     if !done || !then {
-        out.leave_out();
-        out.leave_out();
-        return Ok(false);
+        return none_given_of_three(out);
     }
     let others = choosing.others;
     attempt!(out.swap());
@@ -228,14 +227,10 @@ fn case_made(out: &mut Parts, selector: Option<Scalar>, more: bool) -> Result<bo
     ensures { Leaves (joined spec.case_part (found_of selector (second (parts out.old))) (part_if more (top (parts out.old)))) (pop (pop (parts out.old))) result (parts out.new) }
 {
     match selector {
-        None => {
-            out.leave_out();
-            Ok(false)
-        }
+        None => none_given_of_two(out),
         Some(_) => {
             if !more {
-                out.leave_out();
-                return Ok(false);
+                return none_given_of_two(out);
             }
             attempt!(out.turn());
             attempt!(out.case());

@@ -23,6 +23,7 @@ use crate::declaration_lists::{all_ended, all_ids, begun_names, ended_name, with
 use crate::objects::objects;
 use crate::records::record_of;
 use crate::scene_at;
+use crate::statement_lists::none_given_of_two;
 use crate::subtypes::{indic, own_type_of, static_bound};
 use crate::text::Text;
 use ada_base::{Items, Reason};
@@ -61,12 +62,10 @@ fn number_mentions(
 {
     let _here = here;
     let Some(_) = value else {
-        out.leave_out();
-        return Ok(false);
+        return none_given_of_two(out);
     };
     if !done {
-        out.leave_out();
-        return Ok(false);
+        return none_given_of_two(out);
     }
     attempt!(with_mentions(out));
     Ok(true)
@@ -192,13 +191,11 @@ fn one_type(
 {
     let Some(subtype) = subtype else {
         attempt!(ended_name(names, here, free, None));
-        out.leave_out();
-        return Ok(false);
+        return none_given_of_two(out);
     };
     attempt!(ended_name(names, here, free, Some(What::Type(subtype))));
     if !done {
-        out.leave_out();
-        return Ok(false);
+        return none_given_of_two(out);
     }
     attempt!(with_mentions(out));
     Ok(true)

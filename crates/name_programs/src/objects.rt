@@ -19,6 +19,7 @@ ghost use Rattle.name_programs.specs.Texts.{brackets, node_of};
 use crate::arrays::array;
 use crate::declaration_lists::{all_ids, begun_names, ended_name, with_mentions};
 use crate::rules::{counted_on, unless};
+use crate::statement_lists::none_given_of_three;
 use crate::subtypes::indic;
 use crate::text::Text;
 use ada_base::Items;
@@ -317,9 +318,7 @@ fn object_ended(
     let _token = token;
     let Some(number) = number else {
         attempt!(ended_name(names, here, free, None));
-        out.leave_out();
-        out.leave_out();
-        return Ok(false);
+        return none_given_of_three(out);
     };
     let value = constant_value(out, constant, subtype, given);
     let what = What::Object {
@@ -330,9 +329,7 @@ fn object_ended(
     };
     attempt!(ended_name(names, here, free, Some(what)));
     if !done {
-        out.leave_out();
-        out.leave_out();
-        return Ok(false);
+        return none_given_of_three(out);
     }
     attempt!(elaborated(out, constant, number, given.stored));
     Ok(true)
@@ -351,9 +348,7 @@ fn no_object(
 {
     let _fits = attempt!(cells_counted(&mut judge.log, token, 0));
     attempt!(ended_name(names, here, free, None));
-    judge.out.leave_out();
-    judge.out.leave_out();
-    Ok(false)
+    none_given_of_three(&mut judge.out)
 }
 
 /// The declaration of one object. The latest parts are what is elaborated before it, its subtype, and its initial value.

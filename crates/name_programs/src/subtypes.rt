@@ -20,7 +20,7 @@ use name_rules::types::{Kind, Scalar, Subtype, Wanted};
 use name_values::attempt;
 use name_values::bounds::both_static;
 use name_values::judge::Judge;
-use name_values::logs::{also_all, cleared};
+use name_values::logs::{also_all, cleared, none_of_two};
 use name_values::operators::both_mentions;
 use name_values::scope::{scalar_named, subtype_named};
 use name_values::types::{in_base, lies_in};
@@ -115,8 +115,7 @@ pub fn indic(judge: &mut Judge, scene: Scene<'_>, id: u32) -> Result<Option<Subt
             let x = attempt!(simple(judge, scene, Wanted::Other, low));
             let y = attempt!(simple(judge, scene, Wanted::Other, high));
             let (Some(scalar), Some(x), Some(y)) = (scalar, x, y) else {
-                judge.out.leave_out();
-                return Ok(None);
+                return none_of_two(judge);
             };
             indic_bounds(judge, scalar, x, y)
         }
