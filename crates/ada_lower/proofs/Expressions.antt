@@ -36,7 +36,8 @@ use Rattle.ada_lower.proofs.Courses.{comes_kept, course_does, fit_uncount, count
 use Rattle.ada_lower.proofs.Sent.{Sent, HaveCells, sent_in, suits_in, all_passed, pieces, aheads, pieces_in, aheads_in, have_cells, AreSuited, also_then}
 use Rattle.ada_lower.proofs.Scattered.{AreFree, scattering, fit_unscattered, fewer_scattered, both_kept}
 use Rattle.ada_lower.proofs.Passing.{Passing, passing_none, passing_more, placing}
-use Rattle.ada_lower.proofs.Names.{root_refers, constant_root_refers, index_below, does_by, does_index, does_load, comes_address, comes_number}
+use Rattle.ada_lower.proofs.OwnCells.{index_does}
+use Rattle.ada_lower.proofs.Names.{root_refers, constant_root_refers, index_below, does_by, does_load, comes_address, comes_number}
 use Rattle.std.proofs.lemmas.Bool.{ne_eqb}
 use Rattle.ada_lower.proofs.Copies.{does_copy}
 use Rattle.ada_lower.proofs.Plain.{s_value}
@@ -443,15 +444,14 @@ module _ (limit : ℕ) (cuts : ℕ → ℕ → List ℕ) (program : Program) (c 
         does_before limit c f x (λ d. comes_goes limit c f (pos (a + (p.offset - first)) ∷ st) (from + 1) (pos (a + (p.offset + offset - first)) ∷ st) d j (ap (λ v. GoesOn (from + 1) (pos v ∷ (st ++ f.below))) z))
         (picked B rest (from + 1) to s h st (Meaning.moved p offset) a first total i' m k en w reach (omega (arith, le)) (omega (arith, room, r)) l)
     picked B (Index at e low high stride rest) from to {g} {env} s h st p a first total n m k en w (r, reach) le room l =
-        let (m1, l1, (j, l2)) = stands_seq c from to (emit program s.scope h e) (one s.scope (h + 1) (i.Index low high stride) ⨟ selected program s.scope h rest) l in
-        does_bind limit c f x (valued B e from m1 s h (pos (a + (p.offset - first)) ∷ st) k en w.0 l1) (λ v _.
-        does_bind limit c f x (does_index limit c f x IndexCheck at low high v stride (a + (p.offset - first)) st (at_entry en j)) (λ _ is.
+        let (m1, l1, l2) = stands_seq c from to (Emission.indexed_by s.scope h (Emission.own_cell s.scope e) low high stride (emit program s.scope h e)) (selected program s.scope h rest) l in
+        index_does limit cuts program c f x calls globals mains epar e from m1 s h at low high stride (a + (p.offset - first)) st _ k en w.0 (λ m l. valued B e from m s h (pos (a + (p.offset - first)) ∷ st) k en w.0 l) l1 (λ v is.
         let t : ℕ = to_nat (v -ℤ low) in
         let lt : t < count low high = (index_below low v high is).0 in
         let z : a + (p.offset - first) + t * stride ≡ a + (p.offset + t * stride - first) = omega (arith, le) in
         let b : t * stride + stride ≤ count low high * stride = rows limit cuts program c f x calls globals mains epar calls_do t (count low high) stride lt in
-        does_before limit c f x (λ d. subst (λ q. To limit c (on f (m1 + 1) (pos (a + (p.offset - first) + t * stride) ∷ st) d) (on f (m1 + 1) (pos q ∷ st) d)) z (comes_here limit c _))
-        (picked B rest (m1 + 1) to s h st (Meaning.moved p (t * stride)) a first total stride m k en w.1 reach (omega (arith, le)) (omega (arith, room, r, b)) l2)))
+        does_before limit c f x (λ d. subst (λ q. To limit c (on f m1 (pos (a + (p.offset - first) + t * stride) ∷ st) d) (on f m1 (pos q ∷ st) d)) z (comes_here limit c _))
+        (picked B rest m1 to s h st (Meaning.moved p (t * stride)) a first total stride m k en w.1 reach (omega (arith, le)) (omega (arith, room, r, b)) l2))
 
     pub value_into : (value : Value) → Into value
     value_into (Number check e) B g j env q goal s h t n st room en from to then (one', w) l go =

@@ -1,5 +1,5 @@
 -- What is known of the names and the handler of a scope, and the code of single instructions and small parts.
-use Rattle.std.proofs.Common.{◌≡◌, ℕ, suc, ◌+◌, ◌<◌, ◌≤◌, max, ◌&&◌, slice_get, nat_eq, Option, Some, None, Bool, true, false, cond, not, refl, sym, ap, ◌∙◌, subst, arith, inl, inr, eqb-true}
+use Rattle.std.proofs.Common.{◌≡◌, ℕ, suc, ◌+◌, ◌<◌, ◌≤◌, max, ℤ, ◌&&◌, slice_get, nat_eq, Option, Some, None, Bool, true, false, cond, not, refl, sym, ap, ◌∙◌, subst, arith, inl, inr, eqb-true}
 use Rattle.std.specs.Prelude.{IsSomeAnd}
 use Rattle.std.proofs.lemmas.Option.{none-some}
 use Rattle.ada_meaning.proofs.Cells.{some_same}
@@ -34,7 +34,7 @@ use Rattle.lower_emission.specs.declared.types.Level.{Level}
 use Rattle.lower_emission.specs.declared.types.Level.TheVariants.{Own, Around, Main}
 use Rattle.lower_emission.specs.Emits.{Emit}
 use Rattle.lower_emission.specs.Scope.{Scope, own, taking, nested, thread_scope, with_object, with_parameter, with_item, with_target, with_handled, with_exit, with_entry, root_of, constant_root_of, array_root_of, mark, none, one, keep, ◌⨟◌, load_at, address_at, store_at, address_of, outer_level, outer_where, outer_named, moved_where, moved_named}
-use Rattle.lower_emission.specs.Emission.{checked, load_by, load_named, load_where, address, part_of, unary_instr, binary_instr, compare_instr, within, negated_code, leaving_by, counting, bounds_code, ascending, stepping, chunk_scope, raise_above, raise_beyond}
+use Rattle.lower_emission.specs.Emission.{checked, load_by, load_named, load_where, address, part_of, indexed_by, unary_instr, binary_instr, compare_instr, within, negated_code, leaving_by, counting, bounds_code, ascending, stepping, chunk_scope, raise_above, raise_beyond}
 use Rattle.ada_lower.proofs.Heights.{Place, Here, up, Also, In, Kept, Step, Firm}
 
 abbrev pub at : Scope → ℕ → Place
@@ -346,6 +346,14 @@ module _ (c : Code) where
         → Kept c (part_of s h o whole moved) → Firm c l (part_of s h o whole moved) (at s h) (at s (h + 1))
     firm_part h o whole moved f g r = firm_cond whole (load_named s h o) (address s h o ⨟ moved ⨟ one s (h + 1) i.Load) (at s h) (at s (h + 1)) (firm_named h o f)
         (λ r. (at s (h + 1), firm_address h o f r.0, (at s (h + 1), g r.1.0, plain h i.Load tt))) r
+
+    -- an index, whose code loads the cell where it lies in one
+    pub firm_indexed : (h : ℕ) (o : Option ℕ) (low high : ℤ) (stride : ℕ) (index : Emit) → ((n : ℕ) → o ≡ Some n → ◌≡◌ {A = Emit} index (one s (h + 1) (i.LoadL n))) → (Kept c index → Firm c l index (at s (h + 1)) (at s (h + 1 + 1)))
+        → Kept c (indexed_by s (h + 1) o low high stride index) → Firm c l (indexed_by s (h + 1) o low high stride index) (at s (h + 1)) (at s (h + 1))
+    firm_indexed h None low high stride index is f r = (at s (h + 1 + 1), f r.0, plain h (i.Index low high stride) tt)
+    firm_indexed h (Some n) low high stride index is f r =
+        let loads : Firm c l (one s (h + 1) (i.LoadL n)) (at s (h + 1)) (at s (h + 1 + 1)) = subst (λ a. Firm c l a (at s (h + 1)) (at s (h + 1 + 1))) (is n refl) (f (subst (λ a. Kept c a) (sym (is n refl)) r)) in
+        record { here = refl; marked = k.entry; base = h; operands = refl; begun = omega arith; ways = refl; belongs = loads.belongs }
 
     -- ---- operators
 

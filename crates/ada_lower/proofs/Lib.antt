@@ -10,6 +10,7 @@ mod Mains
 mod Asked
 mod Copies
 mod Courses
+mod OwnCells
 mod Items
 mod Scattered
 mod Spots

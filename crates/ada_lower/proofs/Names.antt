@@ -14,13 +14,13 @@ use Rattle.stack_code.specs.declared.code.Code.{Code}
 use Rattle.stack_code.specs.declared.instr.Instr.{Instr}
 use Rattle.stack_code.specs.declared.instr.Instr.TheVariants as i
 use Rattle.ada_base.specs.Cells.{value_in}
-use Rattle.stack_code.specs.Deeds.{GoesOn, deed_of, pushed, load_of_frame, load_from, cell_of_frame}
+use Rattle.stack_code.specs.Deeds.{Deed, GoesOn, deed_of, indexed, pushed, load_of_frame, load_from, cell_of_frame}
 use Rattle.stack_code.specs.Machine.{Frame, outward_of, done, with_value}
 use Rattle.ada_lower.specs.Driven.{Dyn, Fixed, Step, on, at, state_of, driven, At}
 use Rattle.ada_lower.specs.Sights.{Around, Level, Main, Named, Own, Sight, Stands, Where, address_at, address_of, constant_root_of, load_at, root_of}
 use Rattle.ada_lower.specs.Emission.{load, load_by}
 use Rattle.ada_lower.specs.Fits.{Access, Ghost, Fit, Ends, place_in, IsAt, Leads, Refers, Holds, Knows, Stands as StandsFor}
-use Rattle.ada_lower.proofs.Framework.{any, To, Doing, comes_as, comes_goes, comes_fails}
+use Rattle.ada_lower.proofs.Framework.{any, To, Doing, comes_as, comes_goes, comes_here, comes_instr, comes_on, comes_thrown, does_before}
 use Rattle.ada_lower.proofs.Memory.{number_seen, does_read}
 use Rattle.ada_lower.proofs.Parts.{Runs, does_is, check_is, Fewer, does_first}
 
@@ -57,6 +57,13 @@ outward_seen [] os k b e = e
 outward_seen (w ∷ ws) os k b e = absurd (let z : ◌≡◌ {A = Option ℕ} None (Some b) = e in cc)
 
 module _ (limit : ℕ) (c : Code) (f : Fixed) where
+  -- what a deed leads to, at that instruction with that stack
+  abbrev pub comes_to : ℕ → List ℤ → Dyn → Deed → Step
+  comes_to q st d w = driven limit c (done limit w (state_of f q st [] None d)) d.world
+
+  comes_same : {y z : Step} → y ≡ z → To limit c y z
+  comes_same {y} e = subst (λ z. To limit c y z) e (comes_here limit c y)
+
   -- a deed that reads a cell
   pub comes_loads : {q : ℕ} {j : Instr} {e : Option ℕ} (a : ℕ) (v : ℤ) (st : List ℤ) (rest : List ℤ) (d : Dyn) → At c q j e → deed_of c q (st ++ f.below) f.base f.outward j ≡ load_from q (rest ++ f.below) (pos a) → value_in (slice_get d.cells a) ≡ Some v
       → To limit c (on f q st d) (on f (q + 1) (v ∷ rest) d)
@@ -98,21 +105,26 @@ module _ (limit : ℕ) (c : Code) (f : Fixed) where
     pub does_by : {A : Type 0} {g h : Ghost} {q : A → Type 0} {m : Stored A} {from from' : Dyn → Step} {to : A → Dyn → Step} → ((s : stored.State) (d : Dyn) → Fit g s d → To limit c (from d) (from' d)) → Doing limit c f x g h q m from' to → Doing limit c f x g h q m from to
     does_by {g = g} k j = does_first limit c f x (fewer_same g) (λ s d fit. (d, fit, k s d fit)) j
 
-    -- an index is in its range
-    pub does_index : {g : Ghost} {q : ℕ} (kind : CheckKind) (token : ℕ) (low high v : ℤ) (stride a : ℕ) (st : List ℤ) → At c q (i.Index low high stride) x.entry
-        → Runs limit c f x g (λ _. between low v high ≡ true) (stored.checks kind token (between low v high)) (λ d. on f q (v ∷ pos a ∷ st) d) (λ _ d. on f (q + 1) (pos (a + to_nat (v -ℤ low) * stride) ∷ st) d)
-    does_index {g} {q} kind token low high v stride a st at = go (between low v high) refl
+    -- an index is in its range, and the address is moved by it: by an instruction of whatever operands, which comes to this
+    pub does_indexed : {g : Ghost} {q : ℕ} {j : Instr} (kind : CheckKind) (token : ℕ) (low high v : ℤ) (stride a : ℕ) (su st : List ℤ) → At c q j x.entry
+        → Runs limit c f x g (λ _. between low v high ≡ true) (stored.checks kind token (between low v high)) (λ d. comes_to q su d (pushed q (indexed low high stride (pos a) v) (st ++ f.below))) (λ _ d. on f (q + 1) (pos (a + to_nat (v -ℤ low) * stride) ∷ st) d)
+    does_indexed {g} {q} kind token low high v stride a su st at = go (between low v high) refl
       where
-        go : (b : Bool) → between low v high ≡ b → Runs limit c f x g (λ _. b ≡ true) (stored.checks kind token b) (λ d. on f q (v ∷ pos a ∷ st) d) (λ _ d. on f (q + 1) (pos (a + to_nat (v -ℤ low) * stride) ∷ st) d)
+        go : (b : Bool) → between low v high ≡ b → Runs limit c f x g (λ _. b ≡ true) (stored.checks kind token b) (λ d. comes_to q su d (pushed q (indexed low high stride (pos a) v) (st ++ f.below))) (λ _ d. on f (q + 1) (pos (a + to_nat (v -ℤ low) * stride) ∷ st) d)
         go true e = does_is limit c f x (Ok tt) (check_is kind token true) (
           refl,
           λ d.
-              comes_goes limit c f (v ∷ pos a ∷ st) (q + 1) (pos (a + to_nat (v -ℤ low) * stride) ∷ st) d at
+              comes_same (ap (λ w. comes_to q su d w)
               (ap (λ b. pushed q (cond b (Some (pos a +ℤ ((v -ℤ low) *ℤ pos stride))) None) (st ++ f.below)) e
-              ∙ ap (λ z. pushed q (Some (pos a +ℤ (z *ℤ pos stride))) (st ++ f.below)) (index_below low v high e).1),
+              ∙ ap (λ z. pushed q (Some (pos a +ℤ (z *ℤ pos stride))) (st ++ f.below)) (index_below low v high e).1)),
         )
         go false e = does_is limit c f x (Err (Left (Raises reason.ConstraintError))) (check_is kind token false) (λ d.
-            comes_fails limit c f (v ∷ pos a ∷ st) st reason.ConstraintError d at (ap (λ b. pushed q (cond b (Some (pos a +ℤ ((v -ℤ low) *ℤ pos stride))) None) (st ++ f.below)) e))
+            comes_on limit c (comes_same (ap (λ w. comes_to q su d w) (ap (λ b. pushed q (cond b (Some (pos a +ℤ ((v -ℤ low) *ℤ pos stride))) None) (st ++ f.below)) e))) (comes_thrown limit c f st reason.ConstraintError d at))
+
+    -- the index is on the stack
+    pub does_index : {g : Ghost} {q : ℕ} (kind : CheckKind) (token : ℕ) (low high v : ℤ) (stride a : ℕ) (st : List ℤ) → At c q (i.Index low high stride) x.entry
+        → Runs limit c f x g (λ _. between low v high ≡ true) (stored.checks kind token (between low v high)) (λ d. on f q (v ∷ pos a ∷ st) d) (λ _ d. on f (q + 1) (pos (a + to_nat (v -ℤ low) * stride) ∷ st) d)
+    does_index kind token low high v stride a st at = does_before limit c f x (λ d. comes_instr limit c f (v ∷ pos a ∷ st) d at) (does_indexed kind token low high v stride a (v ∷ pos a ∷ st) st at)
 
     -- one cell of what is named is read
     pub does_load : {g : Ghost} {from to : ℕ} (s : Sight) (h : ℕ) (n : Named) (y : Entity) (first : ℕ) (st : List ℤ) → s.scope.entry ≡ x.entry → 0 < n.cells → Refers g f n y first → Stands c (load s.scope h n) from to

@@ -30,6 +30,8 @@ use Rattle.stack_code.specs.declared.instr.Instr.{Instr}
 use Rattle.stack_code.specs.declared.instr.Instr.TheVariants as i
 use Rattle.lower_emission.specs.declared.types.Where.{Where}
 use Rattle.lower_emission.specs.declared.types.Named.{Named}
+use Rattle.lower_emission.specs.declared.types.Level.{Level}
+use Rattle.lower_emission.specs.declared.types.Level.TheVariants.{Own, Around, Main}
 use Rattle.lower_emission.specs.Emits.{Emit}
 use Rattle.lower_emission.specs.Scope.{Scope, own, taking, nested, thread_scope, with_parameter, with_item, with_exit, root_of, constant_root_of, array_root_of, none, one, keep, forks, ◌⨟◌, choose, when_, looped, aside, from, load_of, address_of}
 
@@ -66,6 +68,32 @@ address s h (Some n) = one s h (address_of n)
 -- the value of a part of what is named, to which `moved` moves the address
 abbrev pub part_of : Scope → ℕ → Option Named → Bool → (moved : Emit) → Emit
 part_of s h n whole moved = cond whole (load_named s h n) (address s h n ⨟ moved ⨟ one s (h + 1) i.Load)
+
+-- the cell of the own frame in which a value lies that a name gives: a loop parameter's, or that of a variable or constant
+
+abbrev pub own_level : Level → ℕ → Option ℕ
+own_level Own n = Some n
+own_level (Around k) n = None
+own_level Main n = None
+
+abbrev pub own_where : Option Where → Option ℕ
+own_where None = None
+own_where (Some w) = own_level w.level w.cell
+
+abbrev pub own_named : Option Named → Option ℕ
+own_named None = None
+own_named (Some n) = cond n.through None (own_level n.place.level n.place.cell)
+
+abbrev pub own_cell : Scope → Expr → Option ℕ
+own_cell s (Variable at r selections scalar) = cond (is_whole selections) (own_named (root_of s r)) None
+own_cell s (Constant at r selections scalar) = cond (is_whole selections) (own_named (constant_root_of s r)) None
+own_cell s (Parameter at k) = own_where (s.parameter k)
+own_cell s e = None
+
+-- the address on the stack is moved by an index, which lies in a cell of the own frame or is pushed first
+abbrev pub indexed_by : Scope → ℕ → Option ℕ → (low high : ℤ) → (stride : ℕ) → (index : Emit) → Emit
+indexed_by s h None low high stride index = index ⨟ one s (h + 1) (i.Index low high stride)
+indexed_by s h (Some n) low high stride index = one s h (i.IndexL n low high stride)
 
 -- ---- operators (4.5)
 
@@ -411,7 +439,7 @@ module _ (program : Program) where
     pub selected : Scope → ℕ → Selections → Emit
     selected s h Whole = none
     selected s h (Field number offset rest) = one s h (i.Field offset) ⨟ selected s h rest
-    selected s h (Index at e low high stride rest) = emit s h e ⨟ one s (h + 1) (i.Index low high stride) ⨟ selected s h rest
+    selected s h (Index at e low high stride rest) = indexed_by s h (own_cell s e) low high stride (emit s h e) ⨟ selected s h rest
 
     -- actual parameters go to the cells of their formals, with the addresses of what is copied back (6.4.1)
     pub passed : Scope → ℕ → ℕ → ℕ → Actuals → Emit

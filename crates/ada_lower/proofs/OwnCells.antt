@@ -1,0 +1,138 @@
+-- A value that lies in a cell of the own frame: its code reads that cell, and so does the instruction that moves an address by
+-- it.
+use Rattle.std.proofs.Common.{◌≡◌, ℕ, ◌+◌, ◌*◌, ◌-ℤ◌, ◌<◌, ℤ, pos, List, [], ◌∷◌, ◌++◌, slice_get, Option, Some, None, Bool, true, false, cond, refl, sym, ap, ◌∙◌, subst, arith}
+use Rattle.std.proofs.lemmas.Option.{none-some}
+use Rattle.behaviours.specs.Paths.{Entity, VariableOf, ConstantOf}
+use Rattle.typed_tree.specs.Syntax.{Expr, Variable, Constant, Parameter, Selections, Whole, Field, Index, Program}
+use Rattle.ada_base.specs.Cells.{value_in}
+use Rattle.ada_meaning.specs.Values.{between, to_nat}
+use Rattle.ada_meaning.specs.Operations.{IndexCheck}
+use Rattle.ada_meaning.specs.Stored as stored
+use Rattle.ada_meaning.specs.Stored.{Stored, Address}
+use Rattle.ada_meaning.specs.Meaning
+use Rattle.ada_meaning.specs.Meaning.{Env, Passed, Returned, variable_root, constant_root}
+use Rattle.ada_meaning.proofs.Cells.{some_same}
+use Rattle.stack_code.specs.declared.code.Code.{Code}
+use Rattle.stack_code.specs.declared.instr.Instr.TheVariants as i
+use Rattle.stack_code.specs.Deeds.{indexed, pushed}
+use Rattle.lower_emission.specs.Emission.{own_level, own_where, own_named, own_cell, indexed_by}
+use Rattle.ada_lower.specs.Driven.{Dyn, Fixed, Step, on, state_of, driven, At}
+use Rattle.ada_lower.specs.Sights.{Around, Emit, Level, Main, Named, Own, Scope, Sight, Stands, Where, constant_root_of, load_at, one, root_of, ◌⨟◌}
+use Rattle.ada_lower.specs.Emission.{emit, is_whole, load_by, load_named, load_where, part_of}
+use Rattle.ada_lower.specs.Fits.{Access, Ghost, Fit, Ends, Holds, IsAt, Knows, Leads, Refers, place_in, Stands as StandsFor}
+use Rattle.ada_lower.specs.Fitted.{Fitted}
+use Rattle.stack_code.specs.Machine.{done, with_value}
+use Rattle.ada_lower.proofs.Framework.{any, To, comes_as, does_bind, does_ret, does_returned}
+use Rattle.ada_lower.proofs.Memory.{does_read, number_seen}
+use Rattle.ada_lower.proofs.Names.{comes_to, constant_root_refers, does_by, does_index, does_indexed, root_refers}
+use Rattle.ada_lower.proofs.Parts.{Runs}
+use Rattle.ada_lower.proofs.Standing.{stands_seq}
+use Rattle.ada_lower.proofs.Courses.{at_entry}
+
+-- ---- its code
+
+level_own : (s : Scope) (h : ℕ) (l : Level) (m n : ℕ) → own_level l m ≡ Some n → ◌≡◌ {A = Emit} (one s h (load_at l m)) (one s h (i.LoadL n))
+level_own s h Own m n e = ap (λ m. one s h (i.LoadL m)) (some_same m n e)
+level_own s h (Around k) m n e = absurd (none-some n e)
+level_own s h Main m n e = absurd (none-some n e)
+
+where_own : (s : Scope) (h : ℕ) (o : Option Where) (n : ℕ) → own_where o ≡ Some n → ◌≡◌ {A = Emit} (load_where s h o) (one s h (i.LoadL n))
+where_own s h None n e = absurd (none-some n e)
+where_own s h (Some w) n e = level_own s h w.level w.cell n e
+
+by_own : (s : Scope) (h : ℕ) (t : Bool) (w : Where) (n : ℕ) → cond t None (own_level w.level w.cell) ≡ Some n → ◌≡◌ {A = Emit} (load_by t s h w) (one s h (i.LoadL n))
+by_own s h true w n e = absurd (none-some n e)
+by_own s h false w n e = level_own s h w.level w.cell n e
+
+named_own : (s : Scope) (h : ℕ) (o : Option Named) (n : ℕ) → own_named o ≡ Some n → ◌≡◌ {A = Emit} (load_named s h o) (one s h (i.LoadL n))
+named_own s h None n e = absurd (none-some n e)
+named_own s h (Some m) n e = by_own s h m.through m.place n e
+
+part_own : (s : Scope) (h : ℕ) (o : Option Named) (whole : Bool) (moved : Emit) (n : ℕ) → cond whole (own_named o) None ≡ Some n → ◌≡◌ {A = Emit} (part_of s h o whole moved) (one s h (i.LoadL n))
+part_own s h o true moved n e = named_own s h o n e
+part_own s h o false moved n e = absurd (none-some n e)
+
+-- it is one instruction
+pub emit_own : (program : Program) (s : Scope) (h : ℕ) (e : Expr) (n : ℕ) → own_cell s e ≡ Some n → ◌≡◌ {A = Emit} (emit program s h e) (one s h (i.LoadL n))
+unfolding emit
+emit_own program s h (Variable at r x scalar) n e = part_own s h (root_of s r) (is_whole x) _ n e
+emit_own program s h (Constant at r x scalar) n e = part_own s h (constant_root_of s r) (is_whole x) _ n e
+emit_own program s h (Parameter at k) n e = where_own s h (s.parameter k) n e
+emit_own program s h x n e = absurd (none-some n e)
+
+-- ---- what it does
+
+module _ (limit : ℕ) (c : Code) (f : Fixed) where
+  at_own : (l : Level) (m a n : ℕ) → own_level l m ≡ Some n → IsAt f l m a → a ≡ f.base + n
+  at_own Own m a n e is = is ∙ ap (λ n. f.base + n) (some_same m n e)
+  at_own (Around k) m a n e is = absurd (none-some n e)
+  at_own Main m a n e is = absurd (none-some n e)
+
+  leads_own : (t : Bool) (g : Ghost) (w : Where) (a n : ℕ) → cond t None (own_level w.level w.cell) ≡ Some n → Leads t g f w a → a ≡ f.base + n
+  leads_own true g w a n e l = absurd (none-some n e)
+  leads_own false g w a n e l = at_own w.level w.cell a n e l
+
+  -- the instruction that reads the index
+  comes_index : {q : ℕ} {e : Option ℕ} (n : ℕ) (low high v : ℤ) (stride a : ℕ) (st : List ℤ) (d : Dyn) → At c q (i.IndexL n low high stride) e → value_in (slice_get d.cells (f.base + n)) ≡ Some v
+      → To limit c (on f q (pos a ∷ st) d) (comes_to limit c f q (pos a ∷ st) d (pushed q (indexed low high stride (pos a) v) (st ++ f.below)))
+  comes_index {q} n low high v stride a st d at z =
+      comes_as limit c f (pos a ∷ st) d at (ap (λ o. driven limit c (with_value o (state_of f q (pos a ∷ st) [] None d) (λ v. done limit (pushed q (indexed low high stride (pos a) v) (st ++ f.below)) (state_of f q (pos a ∷ st) [] None d))) d.world) z)
+
+module _ (limit : ℕ) (cuts : ℕ → ℕ → List ℕ) (program : Program) (c : Code) (f : Fixed) (x : Ends) (calls : ℕ → ℕ → Stored (Unit {0}) → List Passed → Stored Returned) (globals : ℕ → Entity → Option Named) (mains : Entity → Bool) (epar : Sight → Expr → Type 0) where
+  abbrev evals : Expr → Env → Stored ℤ
+  evals e env = Meaning.eval (stored.noted_operations limit cuts) limit program calls e env
+
+  abbrev Reads : ℕ → (Dyn → Step) → (ℤ → Dyn → Step) → Type 0
+  Reads n from to = (v : ℤ) (d : Dyn) → value_in (slice_get d.cells (f.base + n)) ≡ Some v → To limit c (from d) (to v d)
+
+  -- what is named is there
+  place_read : {g : Ghost} {from : Dyn → Step} {to : ℤ → Dyn → Step} (m : Named) (n : ℕ) (y : Entity) (first : ℕ) → own_named (Some m) ≡ Some n → 0 < m.cells → Refers g f m y first → Reads n from to → Runs limit c f x g any (stored.reads y first) from to
+  place_read {g} m n y first e some r k =
+      let (p, access, here, is) = r.spread.cell 0 some in
+      let z : first + 0 ≡ first = omega arith in
+      let z' : r.address + 0 ≡ r.address = omega arith in
+      let at : r.address ≡ f.base + n = leads_own limit c f m.through g m.place r.address n e r.leads in
+      does_read limit c f x y first r.address p access (subst (λ i. place_in g y i ≡ Some p) z here) (subst (λ a. g.what a ≡ StandsFor access p) z' is)
+      (λ v d w. k v d (subst (λ a. value_in (slice_get d.cells a) ≡ Some v) at w))
+
+  -- a parameter's number is
+  number_read : {g : Ghost} {from : Dyn → Step} {to : ℤ → Dyn → Step} (o : Option Where) (n : ℕ) (v : ℤ) → own_where o ≡ Some n → ((w : Where) → o ≡ Some w → Holds g f w v) → Reads n from to → Runs limit c f x g any (stored.ret v) from to
+  number_read None n v e h k = absurd (none-some n e)
+  number_read {g} {from} {to} (Some w) n v e h k =
+      let (a, is, number) = h w refl in
+      let at : a ≡ f.base + n = at_own limit c f w.level w.cell a n e is in
+      does_by limit c f x (λ s d fit. k v d (subst (λ a. value_in (slice_get d.cells a) ≡ Some v) at (number_seen (g.what a) v s (slice_get d.cells a) number (fit.cells a))))
+      (does_ret limit c f x {to = to} v tt)
+
+  -- a value of the own frame comes from a step that reads the cell
+  own_does : {g : Ghost} {env : Env} {from : Dyn → Step} {to : ℤ → Dyn → Step} (e : Expr) (s : Sight) (n : ℕ) → own_cell s.scope e ≡ Some n → Knows limit cuts g f s env → Fitted program globals mains epar s e → Reads n from to → Runs limit c f x g any (evals e env) from to
+  own_does {env = env} (Variable at r Whole scalar) s n is k ((m, e, some), w) reads =
+      does_returned limit c f x (λ p. stored.reads (VariableOf p.object) p.offset) (variable_root r env)
+      (place_read m n (VariableOf (variable_root r env).object) (variable_root r env).offset (ap own_named (sym e) ∙ is) some (root_refers r m k e) reads)
+  own_does {env = env} (Constant at r Whole scalar) s n is k ((m, e, some), w) reads =
+      does_returned limit c f x (λ p. stored.reads (ConstantOf p.object) p.offset) (constant_root r env)
+      (place_read m n (ConstantOf (constant_root r env).object) (constant_root r env).offset (ap own_named (sym e) ∙ is) some (constant_root_refers r m k e) reads)
+  own_does {env = env} (Parameter at p) s n is k w reads = number_read (s.scope.parameter p) n (env.parameter p) is (λ w e. k.parameter p w e) reads
+  own_does e s n is k w reads = absurd (none-some n is)
+
+  -- an index moves the address on the stack, and what follows goes on there
+  pub index_does : {B : Type 0} {g : Ghost} {env : Env} {q : B → Type 0} {goal : B → Dyn → Step} (e : Expr) (from to : ℕ) (s : Sight) (h at : ℕ) (low high : ℤ) (stride a : ℕ) (st : List ℤ) (then : ℤ → Stored B)
+      → Knows limit cuts g f s env → s.scope.entry ≡ x.entry → Fitted program globals mains epar s e
+      → ((m : ℕ) → Stands c (emit program s.scope h e) from m → Runs limit c f x g any (evals e env) (λ d. on f from (pos a ∷ st) d) (λ v d. on f m (v ∷ pos a ∷ st) d))
+      → Stands c (indexed_by s.scope h (own_cell s.scope e) low high stride (emit program s.scope h e)) from to
+      → ((v : ℤ) → between low v high ≡ true → Runs limit c f x g q (then v) (λ d. on f to (pos (a + to_nat (v -ℤ low) * stride) ∷ st) d) goal)
+      → Runs limit c f x g q (stored.bind (evals e env) (λ v. stored.bind (stored.checks IndexCheck at (between low v high)) (λ _. then v))) (λ d. on f from (pos a ∷ st) d) goal
+  index_does {B} {g} {env} {q} {goal} e from to s h at low high stride a st then k en w pushes l go = by (own_cell s.scope e) refl l
+    where
+      follows : (m : ℕ) → to ≡ m + 1 → (v : ℤ) → between low v high ≡ true → Runs limit c f x g q (then v) (λ d. on f (m + 1) (pos (a + to_nat (v -ℤ low) * stride) ∷ st) d) goal
+      follows m z v is = subst (λ p. Runs limit c f x g q (then v) (λ d. on f p (pos (a + to_nat (v -ℤ low) * stride) ∷ st) d) goal) z (go v is)
+
+      by : (o : Option ℕ) → own_cell s.scope e ≡ o → Stands c (indexed_by s.scope h o low high stride (emit program s.scope h e)) from to
+          → Runs limit c f x g q (stored.bind (evals e env) (λ v. stored.bind (stored.checks IndexCheck at (between low v high)) (λ _. then v))) (λ d. on f from (pos a ∷ st) d) goal
+      by None is l =
+          let (m, l1, (j, z)) = stands_seq c from to (emit program s.scope h e) (one s.scope (h + 1) (i.Index low high stride)) l in
+          does_bind limit c f x (pushes m l1) (λ v _.
+          does_bind limit c f x (does_index limit c f x IndexCheck at low high v stride a st (at_entry en j)) (λ _ in_range. follows m z v in_range))
+      by (Some n) is (j, z) =
+          does_bind limit c f x (own_does e s n is k w (λ v d seen. comes_index limit c f n low high v stride a st d j seen)) (λ v _.
+          does_bind limit c f x (does_indexed limit c f x IndexCheck at low high v stride a (pos a ∷ st) st (at_entry en j)) (λ _ in_range. follows from z v in_range))
