@@ -36,7 +36,7 @@ use Rattle.ada_lower.proofs.Courses.{comes_kept, course_does, fit_uncount, count
 use Rattle.ada_lower.proofs.Sent.{Sent, HaveCells, sent_in, suits_in, all_passed, pieces, aheads, pieces_in, aheads_in, have_cells, AreSuited, also_then}
 use Rattle.ada_lower.proofs.Scattered.{AreFree, scattering, fit_unscattered, fewer_scattered, both_kept}
 use Rattle.ada_lower.proofs.Passing.{Passing, passing_none, passing_more, placing}
-use Rattle.ada_lower.proofs.OwnCells.{index_does}
+use Rattle.ada_lower.proofs.Indexing.{index_does}
 use Rattle.ada_lower.proofs.Names.{root_refers, constant_root_refers, index_below, does_by, does_load, comes_address, comes_number}
 use Rattle.std.proofs.lemmas.Bool.{ne_eqb}
 use Rattle.ada_lower.proofs.Copies.{does_copy}

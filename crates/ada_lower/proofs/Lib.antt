@@ -10,7 +10,7 @@ mod Mains
 mod Asked
 mod Copies
 mod Courses
-mod OwnCells
+mod Indexing
 mod Items
 mod Scattered
 mod Spots

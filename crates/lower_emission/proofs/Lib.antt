@@ -1,2 +1,3 @@
 -- Lemmas.
 pub mod Written
+pub mod OwnCells

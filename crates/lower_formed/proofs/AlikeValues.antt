@@ -1,5 +1,5 @@
 -- The code of expressions, values and iterations in two scopes that agree in the names that are read is alike.
-use Rattle.std.proofs.Common.{◌≡◌, ℕ, ◌+◌, pos, List, nat_eq, Option, Some, None, Bool, true, false, refl, sym, ◌∙◌, subst, inl}
+use Rattle.std.proofs.Common.{◌≡◌, ℕ, ◌+◌, pos, List, nat_eq, Option, Some, None, Bool, true, false, cond, refl, sym, ap, ◌∙◌, subst, inl}
 use Rattle.behaviours.specs.Paths.{Entity}
 use Rattle.typed_tree.specs.declared.program.Formal.{Formal}
 use Rattle.typed_tree.specs.Syntax.{Expr, Static, Variable, Constant, Parameter, Target, Group, Unary, Binary, AndThen, OrElse, Relation, Membership, If, Call, Convert, Reduction, Optional, Absent, Present, Selections, Whole, Field, Index, Actuals, NoActual, In, InOut, Out, CompositeInOut, CompositeOut, Value, Number, Cells, Composite, WholeVariable, WholeConstant, WholeTarget, CompositeIf, Aggregate, Associations, NoAssociation, Association, Iteration, Range, Components, Chunk, NoChunk, Count, Each, Program}
@@ -8,10 +8,10 @@ use Rattle.stack_code.specs.declared.instr.Instr.TheVariants as i
 use Rattle.lower_emission.specs.Emits.{Emit}
 use Rattle.lower_emission.specs.Scope.{Scope, moved_named, nested, none, one, own, taking, thread_scope, with_item, with_parameter, ◌⨟◌}
 use Rattle.ada_lower.specs.Sights.{Named, array_root_of, constant_root_of, root_of}
-use Rattle.ada_lower.specs.Emission.{associated, chunk_code, chunk_scope, component, composed, composite_width, course_code, emit, filtered, first_parameter, folding, is_plain, takes_turns, fillings, turn_height, turnings, is_whole, items_code, iterated, iterated_scope, passed, passing, put_into, range_scope, selected, threaded, turn_item, turns_code, width}
+use Rattle.ada_lower.specs.Emission.{associated, chunk_code, chunk_scope, component, composed, composite_width, course_code, emit, filtered, first_parameter, folding, is_plain, takes_turns, fillings, turn_height, turnings, is_whole, items_code, own_cell, own_named, iterated, iterated_scope, passed, passing, put_into, range_scope, selected, threaded, turn_item, turns_code, width}
 use Rattle.typed_scopes.specs.Scopes as scopes
 use Rattle.typed_scopes.specs.Scopes.{Around, ScopedActuals, ScopedAssociations, ScopedChunk, ScopedComposite, ScopedExpr, ScopedIn, ScopedIteration, ScopedOptional, ScopedSelections, ScopedValue, with_chunk}
-use Rattle.lower_formed.proofs.Alike.{Alike, Like, a_above, a_address, a_ascending, a_beyond, a_bounds, a_combined, a_cond, a_counting, a_ends, a_fillings, a_folding, a_load, a_negated, a_part, a_stepping, a_turnings, a_where, a_within, array_same, chunk_object, chunk_prime, constant_same, leave, like_chunk, like_thread, marked, plain, prime, root_same}
+use Rattle.lower_formed.proofs.Alike.{Alike, Like, a_above, a_address, a_ascending, a_beyond, a_bounds, a_combined, a_cond, a_counting, a_ends, a_fillings, a_folding, a_indexed, a_load, a_negated, a_part, a_stepping, a_turnings, a_where, a_within, array_same, chunk_object, chunk_prime, constant_same, leave, like_chunk, like_thread, marked, plain, prime, root_same}
 
 module _ (T : ℕ → ℕ → Type 0) (program : Program) (shown : ℕ → Entity → Bool) where
   -- those of a function are of all modes
@@ -47,6 +47,12 @@ module _ (T : ℕ → ℕ → Type 0) (program : Program) (shown : ℕ → Entit
   a_chunk_one v s o xs en NoChunk h j k = (plain T v s o xs en k)
   a_chunk_one v s o xs en (Count e) h j k = (plain T v s o xs en k)
   a_chunk_one v s o xs en (Each p low high check) h j k = (plain T v s o xs en k)
+
+  -- the same cells of the own frame
+  own_same : (v : Around) (s : Scope) (o : Entity → Option Named) (xs : ℕ → Option ℕ) (en : Option ℕ) (e : Expr) → Like T v s o xs en → ScopedExpr program shown v e → own_cell s e ≡ own_cell (prime o xs en s) e
+  own_same v s o xs en (Variable at r x scalar) k p = ap (λ n. cond (is_whole x) (own_named n) None) (root_same T v s o xs en k r p.0)
+  own_same v s o xs en (Constant at r x scalar) k p = ap (λ n. cond (is_whole x) (own_named n) None) (constant_same T v s o xs en k r p.0)
+  own_same v s o xs en e k p = refl
 
   mutual
     unfolding emit
@@ -122,7 +128,7 @@ module _ (T : ℕ → ℕ → Type 0) (program : Program) (shown : ℕ → Entit
     pub a_selected : (v : Around) (s : Scope) (o : Entity → Option Named) (xs : ℕ → Option ℕ) (en : Option ℕ) (h : ℕ) (x : Selections) → Like T v s o xs en → ScopedSelections program shown v x → Alike T (selected program s h x) (selected program (prime o xs en s) h x)
     a_selected v s o xs en h Whole k p = tt
     a_selected v s o xs en h (Field number offset rest) k p = ((plain T v s o xs en k), a_selected v s o xs en h rest k p)
-    a_selected v s o xs en h (Index at e low high stride rest) k p = (a_emit v s o xs en h e k p.0, ((plain T v s o xs en k), a_selected v s o xs en h rest k p.1))
+    a_selected v s o xs en h (Index at e low high stride rest) k p = (a_indexed T v s o xs en k h (own_cell s e) (own_cell (prime o xs en s) e) low high stride _ _ (own_same v s o xs en e k p.0) (a_emit v s o xs en h e k p.0), a_selected v s o xs en h rest k p.1)
 
     pub a_passed : (v : Around) (s : Scope) (o : Entity → Option Named) (xs : ℕ → Option ℕ) (en : Option ℕ) (h sub w : ℕ) (fs : List Formal) (x : Actuals) → Like T v s o xs en → ScopedActuals program shown v fs x → Alike T (passed program s h sub w x) (passed program (prime o xs en s) h sub w x)
     a_passed v s o xs en h sub w fs NoActual k p = tt

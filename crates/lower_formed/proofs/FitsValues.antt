@@ -28,7 +28,7 @@ use Rattle.typed_scopes.specs.Scopes.{Without, Around, ArraySeen, Called, Consta
 use Rattle.lower_formed.specs.Tables.{HasSite, TabledActuals, TabledAssociations, TabledChunk, TabledComposite, TabledExpr, TabledOptional, TabledSelections, TabledValue}
 use Rattle.lower_formed.specs.Rooms.{Roomy}
 use Rattle.lower_formed.proofs.Formals.{AreApart, AreFound, AreOf, all_found, formals_are, formals_at, none_of, spots_of, taken}
-use Rattle.lower_formed.proofs.Room.{composed_room, part_room, passed_room}
+use Rattle.lower_formed.proofs.Room.{composed_room, index_room, part_room, passed_room}
 use Rattle.lower_formed.proofs.Sees.{Sees, sees_chunk, sees_iterated, sees_nested, sees_range, sees_taking, sees_thread}
 use Rattle.lower_formed.proofs.Walks.{Through, chunk_free, filled_room, kept, positive, reached_constant, reached_variable, through, turned_room}
 
@@ -304,7 +304,7 @@ module _ (program : Program) (globals : ℕ → Entity → Option Named) (mains 
     pub fits_selections : (n : ℕ) (i : Sight) (w : Known) (v : Around) (h : ℕ) (x : Selections) → S w v i → FormedSelections program w x → ScopedSelections program shown v x → TabledSelections T n x → R (selected program i.scope h x) → FittedSelections program globals mains (Fold n) i x
     fits_selections n i w v h Whole k f p t m = tt
     fits_selections n i w v h (Field number offset rest) k f p t m = fits_selections n i w v h rest k f p t m.1
-    fits_selections n i w v h (Index at e low high stride rest) k f p t m = (fits n i w v h e k f.0 p.0 t.0 m.0, fits_selections n i w v h rest k f.1 p.1 t.1 m.1.1)
+    fits_selections n i w v h (Index at e low high stride rest) k f p t m = (fits n i w v h e k f.0 p.0 t.0 (index_room program Row room i.scope h e low high stride m.0), fits_selections n i w v h rest k f.1 p.1 t.1 m.1)
 
     pub fits_in : (n : ℕ) (i : Sight) (w : Known) (v : Around) (h sub base : ℕ) (fs : List Formal) (ks : List Spot) (x : Actuals) → S w v i → FormedActuals program w x → ScopedIn program shown v fs x → TabledActuals T n x → R (passed program i.scope h sub base x)
         → AreOf (shapes program fs) ks → AreFound (shapes program (formals_in program sub)) base ks → FittedIn program globals mains (Fold n) i sub base ks x

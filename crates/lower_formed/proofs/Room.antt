@@ -1,16 +1,17 @@
 -- Where code of a value, of an object or of pieces is, the frame has the cells that its scope uses.
-use Rattle.std.proofs.Common.{◌≡◌, ℕ, zero, suc, ◌+◌, ◌≤◌, List, [], ◌∷◌, ◌++◌, length, slice_get, Option, Some, None, Bool, true, false, refl, sym, subst, arith}
+use Rattle.std.proofs.Common.{◌≡◌, ℕ, zero, suc, ◌+◌, ◌≤◌, ℤ, List, [], ◌∷◌, ◌++◌, length, slice_get, Option, Some, None, Bool, true, false, refl, sym, subst, arith}
 use Rattle.std.proofs.Math.Nat.{le-max_right}
 use Rattle.typed_tree.specs.declared.scalars.Scalar.{Scalar}
 use Rattle.typed_tree.specs.declared.program.Field.{Field as Part}
-use Rattle.typed_tree.specs.Syntax.{Actuals, NoActual, In, InOut, Out, CompositeInOut, CompositeOut, Value, Number, Cells, Composite, WholeVariable, WholeConstant, WholeTarget, CompositeIf, Aggregate, Pieces, NoPiece, Text, Image, Padded, Selections, Whole, Field, Index, Subtype, OfScalar, Array, Record, Program}
+use Rattle.typed_tree.specs.Syntax.{Expr, Actuals, NoActual, In, InOut, Out, CompositeInOut, CompositeOut, Value, Number, Cells, Composite, WholeVariable, WholeConstant, WholeTarget, CompositeIf, Aggregate, Pieces, NoPiece, Text, Image, Padded, Selections, Whole, Field, Index, Subtype, OfScalar, Array, Record, Program}
 use Rattle.ada_meaning.specs.Values.{components, fields, layout_of, layout_within, repeated}
 use Rattle.stack_code.specs.declared.code.Around.{Around}
 use Rattle.stack_code.specs.declared.code.SiteKind.{SiteKind}
 use Rattle.lower_emission.specs.Emits.{Emit}
 use Rattle.lower_emission.specs.Scope.{Scope, one}
 use Rattle.lower_emission.specs.declared.types.Named.{Named}
-use Rattle.ada_lower.specs.Emission.{cells_of, default_of, defaults_within, field_defaults, is_whole, part_of, passed, piece_cells, piece_values, put_into, composed, selected, send_instr}
+use Rattle.ada_lower.specs.Emission.{cells_of, default_of, defaults_within, emit, field_defaults, indexed_by, is_whole, own_cell, part_of, passed, piece_cells, piece_values, put_into, composed, selected, send_instr}
+use Rattle.lower_emission.proofs.OwnCells.{emit_own}
 use Rattle.lower_formed.specs.Rooms.{Roomy}
 
 module _ (program : Program) (rows : ℕ → SiteKind → Around → Type 0) (room : Around → ℕ) where
@@ -20,6 +21,14 @@ module _ (program : Program) (rows : ℕ → SiteKind → Around → Type 0) (ro
   part_room s u h o Whole m = tt
   part_room s u h o (Field number offset rest) m = m.1.0
   part_room s u h o (Index at e low high stride rest) m = m.1.0
+
+  -- where an index is, its code has room
+  pub index_room : (s : Scope) (h : ℕ) (e : Expr) (low high : ℤ) (stride : ℕ) → Roomy rows room (indexed_by s h (own_cell s e) low high stride (emit program s h e)) → Roomy rows room (emit program s h e)
+  index_room s h e low high stride m = by (own_cell s e) refl m
+    where
+      by : (o : Option ℕ) → own_cell s e ≡ o → Roomy rows room (indexed_by s h o low high stride (emit program s h e)) → Roomy rows room (emit program s h e)
+      by None is m = m.0
+      by (Some n) is m = subst (λ a. Roomy rows room a) (sym (emit_own program s h e n is)) m
 
   pub composed_room : (s : Scope) (h t : ℕ) (c : Composite) → Roomy rows room (composed program s h t c) → s.free ≤ room s.body
   unfolding composed

@@ -5,12 +5,12 @@ ghost use Rattle.typed_tree.specs.Decoded.{actuals_at, associations_at, as_runs,
 ghost use Rattle.typed_tree.specs.Syntax.{Membership};
 ghost use Rattle.lower_emission.specs.Emission as spec;
 ghost use Rattle.lower_emission.specs.Scope.{◌⨟◌, one, choose, keep, taking};
-ghost use Rattle.lower_values.specs.Words.{env_of, nodes, tables, Emits};
+ghost use Rattle.lower_values.specs.Words.{env_of, nodes, tables, Emits, Learns};
 ghost use Rattle.stack_code.specs.declared.instr.Instr.TheVariants as i;
 
 use crate::aggregates::composed;
 use crate::calls::call;
-use crate::instrs::{address_of, binary_instr, compare_instr, load_of, unary_instr};
+use crate::instrs::{address_of, binary_instr, compare_instr, load_of, own_named, own_where, unary_instr};
 use crate::reductions::reduction;
 use crate::types::{Emitter, Env};
 use ada_base::Reason;
@@ -82,6 +82,55 @@ pub fn is_whole(env: &Env<'_>, id: u32) -> bool
         }
     }
     true
+}
+
+/// The cell of the own frame in which a value lies that a name gives, if it is such a value.
+fn own_cell(env: &Env<'_>, id: u32, out: &mut Emitter) -> Option<u32>
+    ensures { Learns (spec.own_cell (env_of env.now) (expr_at (nodes env.now) id)) out.old result out.new }
+{
+    match env.typed.nodes.expr(id) {
+        Expr::Variable {
+            root,
+            selections,
+            ..
+        } => {
+            let found = env.root(root, out);
+            if is_whole(env, selections) {
+                own_named(found)
+            } else {
+                None
+            }
+        }
+        Expr::Constant {
+            root,
+            selections,
+            ..
+        } => {
+            let found = env.constant_root(root, out);
+            if is_whole(env, selections) {
+                own_named(found)
+            } else {
+                None
+            }
+        }
+        Expr::Parameter { parameter, .. } => {
+            let found = env.names.parameter(parameter, out);
+            own_where(found)
+        }
+        Expr::Static { .. }
+        | Expr::Target { .. }
+        | Expr::Group { .. }
+        | Expr::Unary { .. }
+        | Expr::Binary { .. }
+        | Expr::AndThen { .. }
+        | Expr::OrElse { .. }
+        | Expr::Relation { .. }
+        | Expr::Membership { .. }
+        | Expr::If { .. }
+        | Expr::Convert { .. }
+        | Expr::Call { .. }
+        | Expr::Reduction { .. } => None,
+    }
 }
 
 /// Pushes the value of an expression.
@@ -208,9 +257,14 @@ pub fn selected(env: &Env<'_>, h: u32, id: u32, out: &mut Emitter)
                     ..
                 },
             ) => {
-                emit(env, h, index, out);
-                let h1 = out.sum(h, 1);
-                out.put(env, h1, Instr::Index(low, high, stride));
+                match own_cell(env, index, out) {
+                    Some(own) => out.put(env, h, Instr::IndexL(own, low, high, stride)),
+                    None => {
+                        emit(env, h, index, out);
+                        let h1 = out.sum(h, 1);
+                        out.put(env, h1, Instr::Index(low, high, stride));
+                    }
+                }
                 selected(env, h, cell.rest, out);
             }
         }

@@ -106,3 +106,32 @@ pub fn address_of(named: Named) -> Instr
         address_at(named.place)
     }
 }
+
+/// The cell at a place, if it is one of the own frame.
+pub fn own_where(found: Option<Where>) -> Option<u32>
+    ensures { result ≡ spec.own_where found }
+{
+    match found {
+        Some(Where {
+            level: Level::Own,
+            cell,
+        }) => Some(cell),
+        Some(_) | None => None,
+    }
+}
+
+/// The cell of what is named, if it is one of the own frame and no address stands in it.
+pub fn own_named(found: Option<Named>) -> Option<u32>
+    ensures { result ≡ spec.own_named found }
+{
+    match found {
+        Some(named) => {
+            if named.through {
+                None
+            } else {
+                own_where(Some(named.place))
+            }
+        }
+        None => None,
+    }
+}

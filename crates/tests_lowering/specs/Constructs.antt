@@ -67,41 +67,40 @@ shares_code =
     ∷ begun 21 3 (i.LoadL 3)
     ∷ begun 22 4 (i.Push (pos 0))
     ∷ begun 23 5 (i.Fork 0)
-    ∷ begun 24 2 (i.Jump 42)
+    ∷ begun 24 2 (i.Jump 41)
     ∷ thread 25 0 (i.LoadL 2)
     ∷ thread 26 1 (i.LoadL 3)
     ∷ thread 27 2 i.Le
-    ∷ thread 28 1 (i.JFalse 41)
+    ∷ thread 28 1 (i.JFalse 40)
     ∷ thread 29 0 (i.Jump 31)
-    ∷ thread 30 0 (i.Jump 41)
+    ∷ thread 30 0 (i.Jump 40)
     ∷ thread 31 0 i.Turn
     ∷ thread 32 0 (i.Global 0)
-    ∷ thread 33 1 (i.LoadL 2)
-    ∷ thread 34 2 (i.Index (pos 1) (pos 2) 1)
-    ∷ thread 35 1 i.Dup
-    ∷ thread 36 2 (i.StoreL 4)
-    ∷ thread 37 1 (i.LoadL 2)
-    ∷ thread 38 2 fits
-    ∷ thread 39 2 i.Store
-    ∷ thread 40 0 (i.Next 2 3 31)
-    ∷ thread 41 0 i.End
-    ∷ begun 42 2 i.Unnest
-    ∷ main 43 2 (i.StoreL 6)
-    ∷ main 44 1 (i.StoreL 7)
-    ∷ main 45 0 (i.LoadL 6)
-    ∷ main 46 1 (i.JFalse 58)
-    ∷ main 47 0 (i.LoadL 6)
-    ∷ main 48 1 (i.Push (pos 1))
-    ∷ main 49 2 i.Eq
-    ∷ main 50 1 (i.JFalse 52)
-    ∷ main 51 0 i.Halt
-    ∷ main 52 0 (i.LoadL 6)
-    ∷ main 53 1 (i.Push (pos 2))
-    ∷ main 54 2 i.Eq
-    ∷ main 55 1 (i.JFalse 58)
-    ∷ main 56 0 (i.LoadL 7)
-    ∷ main 57 1 i.Halt
-    ∷ main 58 0 i.Halt
+    ∷ thread 33 1 (i.IndexL 2 (pos 1) (pos 2) 1)
+    ∷ thread 34 1 i.Dup
+    ∷ thread 35 2 (i.StoreL 4)
+    ∷ thread 36 1 (i.LoadL 2)
+    ∷ thread 37 2 fits
+    ∷ thread 38 2 i.Store
+    ∷ thread 39 0 (i.Next 2 3 31)
+    ∷ thread 40 0 i.End
+    ∷ begun 41 2 i.Unnest
+    ∷ main 42 2 (i.StoreL 6)
+    ∷ main 43 1 (i.StoreL 7)
+    ∷ main 44 0 (i.LoadL 6)
+    ∷ main 45 1 (i.JFalse 57)
+    ∷ main 46 0 (i.LoadL 6)
+    ∷ main 47 1 (i.Push (pos 1))
+    ∷ main 48 2 i.Eq
+    ∷ main 49 1 (i.JFalse 51)
+    ∷ main 50 0 i.Halt
+    ∷ main 51 0 (i.LoadL 6)
+    ∷ main 52 1 (i.Push (pos 2))
+    ∷ main 53 2 i.Eq
+    ∷ main 54 1 (i.JFalse 57)
+    ∷ main 55 0 (i.LoadL 7)
+    ∷ main 56 1 i.Halt
+    ∷ main 57 0 i.Halt
     ∷ []
 
 -- A (I) is granted

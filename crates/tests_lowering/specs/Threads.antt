@@ -64,41 +64,40 @@ deals_code =
     ∷ begun 32 3 (i.LoadL 3)
     ∷ begun 33 4 (i.Push (pos 0))
     ∷ begun 34 5 (i.Fork 0)
-    ∷ begun 35 2 (i.Jump 53)
+    ∷ begun 35 2 (i.Jump 52)
     ∷ thread 36 0 (i.LoadL 2)
     ∷ thread 37 1 (i.LoadL 3)
     ∷ thread 38 2 i.Le
-    ∷ thread 39 1 (i.JFalse 52)
+    ∷ thread 39 1 (i.JFalse 51)
     ∷ thread 40 0 (i.Jump 42)
-    ∷ thread 41 0 (i.Jump 52)
+    ∷ thread 41 0 (i.Jump 51)
     ∷ thread 42 0 i.Turn
     ∷ thread 43 0 (i.Global 0)
-    ∷ thread 44 1 (i.LoadL 0)
-    ∷ thread 45 2 (i.Index (pos 1) (pos 2) 1)
-    ∷ thread 46 1 i.Dup
-    ∷ thread 47 2 (i.StoreL 4)
-    ∷ thread 48 1 (i.LoadL 2)
-    ∷ thread 49 2 fits
-    ∷ thread 50 2 i.Store
-    ∷ thread 51 0 (i.Next 2 3 42)
-    ∷ thread 52 0 i.End
-    ∷ begun 53 2 i.Unnest
-    ∷ main 54 2 (i.StoreL 6)
-    ∷ main 55 1 (i.StoreL 7)
-    ∷ main 56 0 (i.LoadL 6)
-    ∷ main 57 1 (i.JFalse 69)
-    ∷ main 58 0 (i.LoadL 6)
-    ∷ main 59 1 (i.Push (pos 1))
-    ∷ main 60 2 i.Eq
-    ∷ main 61 1 (i.JFalse 63)
-    ∷ main 62 0 i.Halt
-    ∷ main 63 0 (i.LoadL 6)
-    ∷ main 64 1 (i.Push (pos 2))
-    ∷ main 65 2 i.Eq
-    ∷ main 66 1 (i.JFalse 69)
-    ∷ main 67 0 (i.LoadL 7)
-    ∷ main 68 1 i.Halt
-    ∷ main 69 0 i.Halt
+    ∷ thread 44 1 (i.IndexL 0 (pos 1) (pos 2) 1)
+    ∷ thread 45 1 i.Dup
+    ∷ thread 46 2 (i.StoreL 4)
+    ∷ thread 47 1 (i.LoadL 2)
+    ∷ thread 48 2 fits
+    ∷ thread 49 2 i.Store
+    ∷ thread 50 0 (i.Next 2 3 42)
+    ∷ thread 51 0 i.End
+    ∷ begun 52 2 i.Unnest
+    ∷ main 53 2 (i.StoreL 6)
+    ∷ main 54 1 (i.StoreL 7)
+    ∷ main 55 0 (i.LoadL 6)
+    ∷ main 56 1 (i.JFalse 68)
+    ∷ main 57 0 (i.LoadL 6)
+    ∷ main 58 1 (i.Push (pos 1))
+    ∷ main 59 2 i.Eq
+    ∷ main 60 1 (i.JFalse 62)
+    ∷ main 61 0 i.Halt
+    ∷ main 62 0 (i.LoadL 6)
+    ∷ main 63 1 (i.Push (pos 2))
+    ∷ main 64 2 i.Eq
+    ∷ main 65 1 (i.JFalse 68)
+    ∷ main 66 0 (i.LoadL 7)
+    ∷ main 67 1 i.Halt
+    ∷ main 68 0 i.Halt
     ∷ []
 
 -- A (C) is granted
