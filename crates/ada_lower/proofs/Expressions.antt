@@ -44,7 +44,7 @@ use Rattle.ada_lower.proofs.Plain.{s_value}
 use Rattle.ada_meaning.specs.Meaning
 use Rattle.stack_code.specs.declared.instr.Instr.TheVariants as i
 pub use Rattle.ada_lower.proofs.Operands.{does_hold, address_stands, load_stands, named_does, knows_two, fewer_kept_back, fewer_one_more}
-use Rattle.ada_lower.proofs.Operands.{ends_at, push_does, unary_does, compare_deed, choice_does, reads_at, comes_within, comes_negated, rows, ends_ret}
+use Rattle.ada_lower.proofs.Operands.{ends_at, push_does, unary_does, compare_deed, choice_does, reads_at, reads_by, comes_within, comes_negated, rows, ends_ret}
 use Rattle.ada_lower.proofs.Aggregates as aggregates
 pub use Rattle.ada_lower.proofs.Aggregates.{spread_part}
 use Rattle.ada_lower.proofs.Aggregates.{each_plain, all_runs, all_turnings, component_does, zeros_length, fewer_kept, fill_goes, either_do, given_free, given_sight, turn_env, turn_values}
