@@ -52,7 +52,7 @@ module _ (limit : ℕ) (c : Code) (f : Fixed) where
   -- a cell is read where an index has led
   comes_read : (q : ℕ) (su st : List ℤ) (a : ℕ) (v : ℤ) (d : Dyn) → value_in (slice_get d.cells a) ≡ Some v → To limit c (comes_to limit c f q su d (load_from q (st ++ f.below) (pos a))) (on f (q + 1) (v ∷ st) d)
   comes_read q su st a v d z =
-      comes_same limit c (ap (λ o. driven limit c (with_value o (state_of f q su [] None d) (λ v. done limit (GoesOn (q + 1) (v ∷ (st ++ f.below))) (state_of f q su [] None d))) d.world) z)
+      comes_same limit c f (ap (λ o. driven limit c (with_value o (state_of f q su [] None d) (λ v. done limit (GoesOn (q + 1) (v ∷ (st ++ f.below))) (state_of f q su [] None d))) d.world) z)
 
 module _ (limit : ℕ) (cuts : ℕ → ℕ → List ℕ) (program : Program) (c : Code) (f : Fixed) (x : Ends) (calls : ℕ → ℕ → Stored (Unit {0}) → List Passed → Stored Returned) (globals : ℕ → Entity → Option Named) (mains : Entity → Bool) (epar : Sight → Expr → Type 0) where
   abbrev evals : Expr → Env → Stored ℤ
