@@ -21,11 +21,12 @@ help() {
 ada check FILE    says whether the Ada text in FILE is accepted
 ada run FILE      runs it
 ada list FILE     writes the code that stands for it
+ada soak N        runs a stated text with N parallel loops, 1 to 1,000
 ada build         proves and builds the compiler; until then each use compiles it without proof
 ada explain E09   shows the rules with a code, E01 to E12, each with a refused and a mended text
 ada help          shows this
 
-check, run and list take: --workers N, 1 to 64; --chunks PLAN, which is one, even:K, sized:S or list:A,B,..;
+Each of these four takes: --workers N, 1 to 64; --chunks PLAN, which is one, even:K, sized:S or list:A,B,..;
 --turns K, the most turns of a run; --vars, which puts the variables after a run. docs/LANGUAGE.md says more.
 
 Examples, at the top of the repository:

@@ -1,12 +1,14 @@
 -- A count that rose gives its status.
 use Rattle.std.proofs.Common.{◌≡◌, ◌⊎◌, ◌<◌, ℕ, List, Bool, true, false, ap, inl, inr, ◌∙◌, arith}
-use Rattle.ada_port.specs.Ports.{Texts, Stream}
+use Rattle.std.specs.Prelude.{length}
+use Rattle.ada_port.specs.Ports.{Texts, Stream, bytes_of}
 use Rattle.driver.specs.Compiled.{Compiled}
 use Rattle.driver.specs.Running as running
 use Rattle.run_reports.specs.declared.ends.RunEnd.{RunEnd}
 use Rattle.run_reports.specs.declared.ends.RunEnd.TheVariants as run_end
 use Rattle.command_words.specs.Words.{Asked}
-use Rattle.ada_cmd.specs.Answer.{Answers, Wrong, Right, Unasked, AnswersFile, Unread, Read, Short, AnswersText, Refuses, Checks, Lists, Starts, Lacks, Closes, Whole, OutFailed, Lacked, Devices, EndsBy, Outside, Untouched}
+use Rattle.ada_cmd.specs.Answer.{Answers, Wrong, Right, Stated, Unasked, AnswersFile, Unread, Read, Short, AnswersText, Refuses, Checks, Lists, Starts, Soaks, Lacks, Closes, ClosesOrLacks, Whole, OutFailed, Lacked, Devices, EndsBy, EndsSoak, Outside, Untouched, unwritten}
+use Rattle.ada_cmd.specs.Soak.{soak_lines}
 use Rattle.run_reports.specs.Says.{Says, SaysOrLacks, number_of}
 use Rattle.run_reports.specs.declared.status.Status.{Status}
 use Rattle.run_reports.specs.declared.status.Status.TheVariants as status
@@ -45,6 +47,14 @@ out_closes : (bytes : List ℕ) (given : Status) (o o' e e' : Stream) → Closes
 out_closes bytes given o o' e e' (Whole is grown same) h = no_rise o.faults o'.faults (given ≡ status.WriteFault) grown.faults h
 out_closes bytes given o o' e e' (OutFailed broke says) h = failed_says given _ e e' says
 out_closes bytes given o o' e e' (Lacked front says) h = no_rise o.faults o'.faults (given ≡ status.WriteFault) front.faults h
+
+err_closes_or : (bytes : List ℕ) (given : Status) (o o' e e' : Stream) → ClosesOrLacks bytes given o o' e e' → e.faults < e'.faults → given ≡ status.WriteFault
+err_closes_or bytes given o o' e e' (inl closes) h = err_closes bytes given o o' e e' closes h
+err_closes_or bytes given o o' e e' (inr lacks) h = err_says status.OutOfMemory given _ e e' lacks.1 h
+
+out_closes_or : (bytes : List ℕ) (given : Status) (o o' e e' : Stream) → ClosesOrLacks bytes given o o' e e' → o.faults < o'.faults → given ≡ status.WriteFault
+out_closes_or bytes given o o' e e' (inl closes) h = out_closes bytes given o o' e e' closes h
+out_closes_or bytes given o o' e e' (inr lacks) h = no_rise o.faults o'.faults (given ≡ status.WriteFault) (faults_of lacks.0) h
 
 -- of a run
 
@@ -85,6 +95,32 @@ module _ (c : Compiled) (given : Status) (before now : Devices) where
   input_run vars run_end.WriteFault left causes ends h = no_rise before.input.faults now.input.faults Read' causes.0 h
   input_run vars run_end.NoMemory left causes ends h = no_rise before.input.faults now.input.faults Read' causes.0 h
 
+  -- of a soak, of which memory holds the output
+
+  err_soak : (lines : List ℕ) (end : RunEnd) → EndsSoak c lines end given before.out now.out before.err now.err → before.err.faults < now.err.faults → given ≡ status.WriteFault
+  err_soak lines (run_end.Ended finals) ends h = err_closes_or lines given before.out now.out before.err now.err ends h
+  err_soak lines (run_end.Raised why) ends h = err_lacks status.Raised given _ before.err now.err ends.1 h
+  err_soak lines (run_end.TurnsSpent turns) ends h = err_lacks status.Spent given _ before.err now.err ends.1 h
+  err_soak lines run_end.ReadFault ends h = err_says status.ReadFault given _ before.err now.err ends.1 h
+  err_soak lines run_end.WriteFault ends h = err_says status.OutOfMemory given _ before.err now.err ends.1 h
+  err_soak lines run_end.NoMemory ends h = err_says status.OutOfMemory given _ before.err now.err ends.1 h
+
+  out_soak : (lines : List ℕ) (end : RunEnd) → EndsSoak c lines end given before.out now.out before.err now.err → before.out.faults < now.out.faults → given ≡ status.WriteFault
+  out_soak lines (run_end.Ended finals) ends h = out_closes_or lines given before.out now.out before.err now.err ends h
+  out_soak lines (run_end.Raised why) ends h = no_rise before.out.faults now.out.faults (given ≡ status.WriteFault) (faults_of ends.0) h
+  out_soak lines (run_end.TurnsSpent turns) ends h = no_rise before.out.faults now.out.faults (given ≡ status.WriteFault) (faults_of ends.0) h
+  out_soak lines run_end.ReadFault ends h = no_rise before.out.faults now.out.faults (given ≡ status.WriteFault) (faults_of ends.0) h
+  out_soak lines run_end.WriteFault ends h = no_rise before.out.faults now.out.faults (given ≡ status.WriteFault) (faults_of ends.0) h
+  out_soak lines run_end.NoMemory ends h = no_rise before.out.faults now.out.faults (given ≡ status.WriteFault) (faults_of ends.0) h
+
+  input_soak : (out : Stream) (lines : List ℕ) (end : RunEnd) (held : Stream) → running.Causes end before.input now.input out held → EndsSoak c lines end given before.out now.out before.err now.err → before.input.faults < now.input.faults → Read'
+  input_soak out lines (run_end.Ended finals) held causes ends h = no_rise before.input.faults now.input.faults Read' causes.0 h
+  input_soak out lines (run_end.Raised why) held causes ends h = no_rise before.input.faults now.input.faults Read' causes.0 h
+  input_soak out lines (run_end.TurnsSpent turns) held causes ends h = no_rise before.input.faults now.input.faults Read' causes.0 h
+  input_soak out lines run_end.ReadFault held causes ends h = read_says _ ends.1
+  input_soak out lines run_end.WriteFault held causes ends h = no_rise before.input.faults now.input.faults Read' causes.0 h
+  input_soak out lines run_end.NoMemory held causes ends h = no_rise before.input.faults now.input.faults Read' causes.0 h
+
 -- of a text
 
 module _ (q : Asked) (text : List ℕ) (given : Status) (before now : Devices) where
@@ -93,6 +129,7 @@ module _ (q : Asked) (text : List ℕ) (given : Status) (before now : Devices) w
   err_text (Checks c is checks same closes) h = err_closes _ given before.out now.out before.err now.err closes h
   err_text (Lists c is lists same code coded closes) h = err_closes _ given before.out now.out before.err now.err closes h
   err_text (Starts c is runs run) h = err_run c given before now q.vars run.end run.left run.ends h
+  err_text (Soaks c is n soaks run) h = err_soak c given before now (soak_lines n (length text) (bytes_of run.held)) run.end run.ends h
   err_text (Lacks same says) h = err_says status.OutOfMemory given _ before.err now.err says h
 
   pub out_text : {InTells OutTells : Type 0} → AnswersText InTells OutTells q text given before now → before.out.faults < now.out.faults → given ≡ status.WriteFault
@@ -100,6 +137,7 @@ module _ (q : Asked) (text : List ℕ) (given : Status) (before now : Devices) w
   out_text (Checks c is checks same closes) h = out_closes _ given before.out now.out before.err now.err closes h
   out_text (Lists c is lists same code coded closes) h = out_closes _ given before.out now.out before.err now.err closes h
   out_text (Starts c is runs run) h = out_run c given before now q.vars run.end run.left run.runs.causes run.ends h
+  out_text (Soaks c is n soaks run) h = out_soak c given before now (soak_lines n (length text) (bytes_of run.held)) run.end run.ends h
   out_text (Lacks same says) h = no_rise before.out.faults now.out.faults (given ≡ status.WriteFault) (faults_of same.out) h
 
   pub input_text : {InTells OutTells : Type 0} → AnswersText InTells OutTells q text given before now → before.input.faults < now.input.faults → (given ≡ status.ReadFault) ⊎ (given ≡ status.WriteFault)
@@ -107,6 +145,7 @@ module _ (q : Asked) (text : List ℕ) (given : Status) (before now : Devices) w
   input_text (Checks c is checks same closes) h = no_rise before.input.faults now.input.faults ((given ≡ status.ReadFault) ⊎ (given ≡ status.WriteFault)) (faults_of same) h
   input_text (Lists c is lists same code coded closes) h = no_rise before.input.faults now.input.faults ((given ≡ status.ReadFault) ⊎ (given ≡ status.WriteFault)) (faults_of same) h
   input_text (Starts c is runs run) h = input_run c given before now q.vars run.end run.left run.runs.causes run.ends h
+  input_text (Soaks c is n soaks run) h = input_soak c given before now unwritten (soak_lines n (length text) (bytes_of run.held)) run.end run.held run.runs.causes run.ends h
   input_text (Lacks same says) h = no_rise before.input.faults now.input.faults ((given ≡ status.ReadFault) ⊎ (given ≡ status.WriteFault)) (faults_of same.input) h
 
 abbrev Shelved : Status → Type 0
@@ -144,7 +183,13 @@ texts_of e = ap (λ (x : Texts). x.faults) e
 pub counted : {InTells OutTells : Type 0} (words : List (List ℕ)) (given : Status) (before now : Outside) → Answers InTells OutTells words given before now → Counts given before now
 counted words given before now (Wrong none same untouched says) =
     untouched_counts given before now untouched (err_says status.Usage given _ before.devices.err now.devices.err says) (λ h. no_rise before.shelf.faults now.shelf.faults (Shelved given) (texts_of same) h)
-counted words given before now (Right q asks answers) = file_counts q given before now answers
+counted words given before now (Right q asks fetches answers) = file_counts q given before now answers
+counted words given before now (Stated q asks n soaks same answers) = record {
+  out = out_text q _ given before.devices now.devices answers;
+  err = err_text q _ given before.devices now.devices answers;
+  input = input_text q _ given before.devices now.devices answers;
+  shelf = λ h. no_rise before.shelf.faults now.shelf.faults (Shelved given) (texts_of same) h;
+}
 counted words given before now (Unasked same untouched says) =
     untouched_counts given before now untouched (err_says status.OutOfMemory given _ before.devices.err now.devices.err says) (λ h. no_rise before.shelf.faults now.shelf.faults (Shelved given) (texts_of same) h)
 

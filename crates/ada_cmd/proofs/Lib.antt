@@ -2,4 +2,5 @@ pub mod Answering
 pub mod Causes
 pub mod Counts
 pub mod Prefixes
+pub mod Soaking
 pub mod Variables

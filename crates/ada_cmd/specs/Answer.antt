@@ -1,6 +1,6 @@
 -- The answers of the top call: what is put to out and to err, which devices failed, and the status.
-use Rattle.std.specs.Prelude.{◌≡◌, ◌⊎◌, ℕ, List, Bool, true, false, Option, Some, None, IfSome}
-use Rattle.ada_port.specs.Ports.{Texts, Stream, Grows, GrowsByPrefix, Breaks, IsTold, Rose, fetched}
+use Rattle.std.specs.Prelude.{◌≡◌, ◌⊎◌, ⊤, ⊥, ℕ, List, [], Bool, true, false, length, Option, Some, None, option_map, IfSome}
+use Rattle.ada_port.specs.Ports.{Texts, Stream, Grows, GrowsByPrefix, Breaks, IsTold, Rose, bytes_of, fetched}
 use Rattle.driver.specs.Coded.{HasCode}
 use Rattle.driver.specs.Compile.{IsAccepted, IsFaultOf}
 use Rattle.driver.specs.Compiled.{Compiled}
@@ -13,7 +13,9 @@ use Rattle.run_reports.specs.Ends.{values_of}
 use Rattle.run_reports.specs.declared.ends.RunEnd.{RunEnd}
 use Rattle.run_reports.specs.declared.ends.RunEnd.TheVariants as run_end
 use Rattle.command_words.specs.Words.{Asked, Settings, asked}
+use Rattle.command_words.specs.declared.request.Mode.{Mode}
 use Rattle.command_words.specs.declared.request.Mode.TheVariants as mode
+use Rattle.ada_cmd.specs.Soak.{soak_lines, soak_text}
 use Rattle.run_reports.specs.Lines.{ended, usage_line, unreadable_line, accepted_line, read_fault_line, write_fault_line, spent_line, unhandled_line}
 use Rattle.run_reports.specs.Says.{Says, SaysNoMemory, SaysOrLacks}
 use Rattle.run_reports.specs.Vars.{vars_lines}
@@ -44,9 +46,9 @@ pub data Closes (bytes : List ℕ) (given : Status) (out out' err err' : Stream)
   OutFailed : Breaks out out' bytes → Says status.WriteFault write_fault_line given err err' → Closes bytes given out out' err err'
   Lacked : GrowsByPrefix out out' bytes → SaysNoMemory given err err' → Closes bytes given out out' err err'
 
--- The listing of code is put out, or memory ran out before that.
-abbrev pub ListsCode : Code → Status → Stream → Stream → Stream → Stream → Type 0
-ListsCode code given out out' err err' = Closes (listing_of code) given out out' err err' ⊎ ((out' ≡ out) × SaysNoMemory given err err')
+-- the same, where memory may run out before anything is put
+abbrev pub ClosesOrLacks : List ℕ → Status → Stream → Stream → Stream → Stream → Type 0
+ClosesOrLacks bytes given out out' err err' = Closes bytes given out out' err err' ⊎ ((out' ≡ out) × SaysNoMemory given err err')
 
 -- how a run ended, where out is as the run left it; its variables are written where they are asked for
 abbrev pub EndsBy : Compiled → Bool → RunEnd → Status → Stream → Stream → Stream → Stream → Type 0
@@ -67,6 +69,37 @@ pub record RunsUnit (InTells OutTells : Type 0) (c : Compiled) (settings : Setti
   pub runs : Runs InTells OutTells c.program (by_workers settings.plan settings.workers settings.turns) end before.input now.input before.out left
   pub ends : EndsBy c vars end given left now.out before.err now.err
 
+-- How a soak ended: after a normal end its lines are put out, and else nothing. What holds its output fails for want of
+-- memory alone.
+abbrev pub EndsSoak : Compiled → List ℕ → RunEnd → Status → Stream → Stream → Stream → Stream → Type 0
+EndsSoak c lines (run_end.Ended finals) given out out' err err' = ClosesOrLacks lines given out out' err err'
+EndsSoak c lines run_end.WriteFault given out out' err err' = (out' ≡ out) × SaysNoMemory given err err'
+EndsSoak c lines end given out out' err err' = EndsBy c false end given out out' err err'
+
+-- memory that holds output, before there is some
+abbrev pub unwritten : Stream
+unwritten = record { told = Some []; faults = 0 }
+
+-- The unit of a soak's text was run under a setting, while memory held its output, and its end was told.
+pub record RunsSoak (InTells : Type 0) (c : Compiled) (settings : Settings) (statements : ℕ) (text : List ℕ) (given : Status) (before now : Devices) : Type 0 where
+  pub end : RunEnd
+  pub held : Stream
+  pub runs : Runs InTells ⊤ c.program (by_workers settings.plan settings.workers settings.turns) end before.input now.input unwritten held
+  pub ends : EndsSoak c (soak_lines statements (length text) (bytes_of held)) end given before.out now.out before.err now.err
+
+-- a text is fetched in each mode but a soak, of which it is stated
+abbrev pub Fetches : Mode → Type 0
+Fetches (mode.Soak n) = ⊥
+Fetches m = ⊤
+
+abbrev pub text_by : Mode → Option (List ℕ) → Option (List ℕ)
+text_by (mode.Soak n) told = Some (soak_text n)
+text_by m told = option_map fetched told
+
+-- the text that is asked for, where the shelf tells it
+abbrev pub text_of : Asked → Texts → Option (List ℕ)
+text_of q shelf = text_by q.mode (shelf.told q.file)
+
 -- the text that was fetched, of what is told
 abbrev pub IsFetched : Option (List ℕ) → List ℕ → Type 0
 IsFetched told text = IfSome told (λ whole. text ≡ fetched whole)
@@ -85,6 +118,7 @@ pub data AnswersText (InTells OutTells : Type 0) (q : Asked) (text : List ℕ) (
   Lists : (c : Compiled) → IsAccepted text c → q.mode ≡ mode.List → now.input ≡ before.input
       → (code : Code) → HasCode c.program code → Closes (listing_of code) given before.out now.out before.err now.err → AnswersText InTells OutTells q text given before now
   Starts : (c : Compiled) → IsAccepted text c → q.mode ≡ mode.Run → RunsUnit InTells OutTells c q.settings q.vars given before now → AnswersText InTells OutTells q text given before now
+  Soaks : (c : Compiled) → IsAccepted text c → (n : ℕ) → q.mode ≡ mode.Soak n → RunsSoak InTells c q.settings n text given before now → AnswersText InTells OutTells q text given before now
   Lacks : Untouched before now → SaysNoMemory given before.err now.err → AnswersText InTells OutTells q text given before now
 
 -- what becomes of a file, what is asked of it, and its text; where memory runs out before the text is there, nothing does
@@ -100,7 +134,9 @@ pub data AnswersFile (InTells OutTells : Type 0) (q : Asked) (given : Status) (b
 pub data Answers (InTells OutTells : Type 0) (words : List (List ℕ)) (given : Status) (before now : Outside) : Type 0 where
   Wrong : asked words ≡ None → now.shelf ≡ before.shelf → Untouched before.devices now.devices → Says status.Usage usage_line given before.devices.err now.devices.err
       → Answers InTells OutTells words given before now
-  Right : (q : Asked) → asked words ≡ Some q → AnswersFile InTells OutTells q given before now → Answers InTells OutTells words given before now
+  Right : (q : Asked) → asked words ≡ Some q → Fetches q.mode → AnswersFile InTells OutTells q given before now → Answers InTells OutTells words given before now
+  Stated : (q : Asked) → asked words ≡ Some q → (n : ℕ) → q.mode ≡ mode.Soak n → now.shelf ≡ before.shelf
+      → AnswersText InTells OutTells q (soak_text n) given before.devices now.devices → Answers InTells OutTells words given before now
   Unasked : now.shelf ≡ before.shelf → Untouched before.devices now.devices → SaysNoMemory given before.devices.err now.devices.err → Answers InTells OutTells words given before now
 
 -- the line on err for a refusal of the text in a file

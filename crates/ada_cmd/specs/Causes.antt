@@ -1,16 +1,17 @@
 -- Why each status comes, and what comes where something is due.
-use Rattle.std.specs.Prelude.{◌≡◌, ◌⊎◌, ◌++◌, ⊤, ℕ, List, Some, None, Bool, true}
+use Rattle.std.specs.Prelude.{◌≡◌, ◌⊎◌, ◌++◌, ⊤, ⊥, ℕ, List, Some, None, Bool, true, IfSome}
 use Rattle.ada_base.specs.declared.reason.Reason.{Reason}
 use Rattle.ada_meaning.specs.Law.{Ending, Ended, Raised, TurnsSpent, ReadFault, WriteFault, IsPermitted, IsPrefix, Outcome, outcome_of}
 use Rattle.ada_meaning.specs.Programs.{input_of, sequential}
 use Rattle.ada_meaning.specs.Sequential.{IsCalm}
-use Rattle.ada_port.specs.Ports.{Texts, Rose, bytes_of, fetched}
+use Rattle.ada_port.specs.Ports.{Texts, Rose, bytes_of}
 use Rattle.driver.specs.Running.{by_workers}
 use Rattle.driver.specs.Compile.{IsAccepted}
 use Rattle.driver.specs.Compiled.{Compiled}
 use Rattle.command_words.specs.Words.{Asked, asked}
+use Rattle.command_words.specs.declared.request.Mode.{Mode}
 use Rattle.command_words.specs.declared.request.Mode.TheVariants as mode
-use Rattle.ada_cmd.specs.Answer.{Answers, Devices, Outside, IsFetched, Untouched}
+use Rattle.ada_cmd.specs.Answer.{Answers, Devices, Outside, Untouched, text_of}
 use Rattle.run_reports.specs.Says.{number_of}
 use Rattle.run_reports.specs.Vars.{vars_lines}
 use Rattle.run_reports.specs.declared.status.Status.{Status}
@@ -20,11 +21,11 @@ use Rattle.run_reports.specs.declared.status.Status.TheVariants as status
 abbrev pub Answered : Type 0 → Type 0 → List (List ℕ) → ℕ → Outside → Outside → Type 0
 Answered InTells OutTells words number before now = (given : Status) × (number ≡ number_of given) × Answers InTells OutTells words given before now
 
--- the words ask for a file whose text is accepted
+-- the words ask for a text that is accepted
 pub record Asks (words : List (List ℕ)) (shelf : Texts) (q : Asked) (c : Compiled) : Type 0 where
   pub asks : asked words ≡ Some q
   pub text : List ℕ
-  pub has : IsFetched (shelf.told q.file) text
+  pub has : IfSome (text_of q shelf) (λ told. text ≡ told)
   pub accepted : IsAccepted text c
 
 -- On some input a run that is permitted under what is asked for ends so; where the input tells, that is what it tells.
@@ -32,27 +33,38 @@ abbrev pub MayEnd : Type 0 → Asked → Compiled → Devices → Ending → Typ
 MayEnd InTells q c before ending =
     (on : List ℕ) × ((InTells → on ≡ bytes_of before.input) × ((o : Outcome) × ((early : Bool) × IsPermitted c.program (by_workers q.settings.plan q.settings.workers q.settings.turns) on early o × (o.ending ≡ ending))))
 
--- the words ask for a run of an accepted text, and on some input a permitted run of it ends so
-abbrev pub HasEnding : Type 0 → List (List ℕ) → Outside → Ending → Type 0
-HasEnding InTells words before ending = (q : Asked) × (c : Compiled) × Asks words before.shelf q c × (q.mode ≡ mode.Run) × MayEnd InTells q c before.devices ending
+-- the words ask so for an accepted text, and on some input a permitted run of it ends so
+abbrev pub HasRun : (Asked → Type 0) → Type 0 → List (List ℕ) → Outside → Ending → Type 0
+HasRun So InTells words before ending = (q : Asked) × (c : Compiled) × Asks words before.shelf q c × So q × MayEnd InTells q c before.devices ending
 
--- the same of a normal end, and the values of its variables are asked for
-abbrev pub HasVars : Type 0 → List (List ℕ) → Outside → Type 0
-HasVars InTells words before = (q : Asked) × (c : Compiled) × Asks words before.shelf q c × (q.mode ≡ mode.Run) × (q.vars ≡ true) × MayEnd InTells q c before.devices Ended
+-- the text is run, in a soak too
+abbrev pub Executes : Mode → Type 0
+Executes mode.Run = ⊤
+Executes (mode.Soak n) = ⊤
+Executes m = ⊥
+
+abbrev pub HasEnding : Type 0 → List (List ℕ) → Outside → Ending → Type 0
+HasEnding InTells words before ending = HasRun (λ q. Executes q.mode) InTells words before ending
+
+-- behind a normal end lines are put out: of variables that are asked for, or of a soak
+abbrev pub PutsLines : Asked → Type 0
+PutsLines q = ((q.mode ≡ mode.Run) × (q.vars ≡ true)) ⊎ ((n : ℕ) × (q.mode ≡ mode.Soak n))
 
 -- the words ask whether an accepted text is accepted, or for its code
 abbrev pub HasCheck : List (List ℕ) → Outside → Type 0
 HasCheck words before = (q : Asked) × (c : Compiled) × Asks words before.shelf q c × ((q.mode ≡ mode.Check) ⊎ (q.mode ≡ mode.List))
 
--- the words ask for a file, and no text that is told of it is accepted
+-- the words ask for a text, which isn't accepted where it is told
 abbrev pub IsNotAccepted : List (List ℕ) → Outside → Type 0
 IsNotAccepted words before =
-    (q : Asked) × (asked words ≡ Some q) × ((told : List ℕ) (c : Compiled) → before.shelf.told q.file ≡ Some told → IsAccepted (fetched told) c → ⊥)
+    (q : Asked) × (asked words ≡ Some q) × ((text : List ℕ) (c : Compiled) → text_of q before.shelf ≡ Some text → IsAccepted text c → ⊥)
 
--- Out failed; and a permitted run ends by a write fault, or one ends normally whose variables are asked for, or it is asked
--- whether an accepted text is accepted.
+-- Out failed; and a permitted run that puts to it ends by a write fault, or one ends normally behind which lines are put out,
+-- or it is asked whether an accepted text is accepted.
 abbrev pub OutFails : Type 0 → List (List ℕ) → Outside → Outside → Type 0
-OutFails InTells words before now = (HasEnding InTells words before WriteFault ⊎ HasVars InTells words before ⊎ HasCheck words before) × Rose before.devices.out now.devices.out
+OutFails InTells words before now =
+    (HasRun (λ q. q.mode ≡ mode.Run) InTells words before WriteFault ⊎ HasRun PutsLines InTells words before Ended ⊎ HasCheck words before)
+    × Rose before.devices.out now.devices.out
 
 -- why a status is given
 abbrev pub Cause : Type 0 → List (List ℕ) → Outside → Outside → Status → Type 0

@@ -1,2 +1,3 @@
+pub mod Soak
 pub mod Answer
 pub mod Causes

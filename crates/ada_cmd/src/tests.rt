@@ -33,6 +33,12 @@ const TOO_LARGE: &str = "with Ada.Text_IO; use Ada.Text_IO;\nprocedure Main is\n
 
 const USAGE: &str = "usage: ada_cmd MODE FILE [--workers N] [--chunks PLAN] [--turns K] [--vars]\n";
 
+// After one statement the elements are (I + 1) mod 1000, each number below 1,000 once; after two (4 I + 5) mod 1000, each of 1, 5,
+// 9 to 997 four times. In one chunk a thousand iterations and the thousand values of the sum are turns.
+const SOAK_OF_ONE: &str = "statements: 1\nbytes: 257\niterations: 1000\noutput: 499500\n";
+
+const SOAK_OF_TWO: &str = "statements: 2\nbytes: 339\niterations: 2000\noutput: 499000\n";
+
 const TWICE_DECLARED: &str = "t.ada:3:19: E05 declared twice\n";
 
 const OUT_OF_RANGE: &str = "t.ada:3:16: E07 static value out of range\n";
@@ -185,6 +191,20 @@ fn each_text_has_its_output_its_line_and_its_status(rt: HostRuntime) -> Result<(
         ("Run t.ada", FIRST, "", USAGE, 2),
         ("", FIRST, "", USAGE, 2),
         ("run u.ada", FIRST, "", "u.ada: cannot be read\n", 3),
+        ("soak 1 --workers 1", "", SOAK_OF_ONE, "", 0),
+        ("soak 1 --workers 8", "", SOAK_OF_ONE, "", 0),
+        ("soak 2 --workers 1", "", SOAK_OF_TWO, "", 0),
+        ("soak 2 --workers 8 --vars", "", SOAK_OF_TWO, "", 0),
+        ("soak 1 --chunks one --turns 2000", "", SOAK_OF_ONE, "", 0),
+        (
+            "soak 1 --chunks one --turns 1999",
+            "",
+            "",
+            "turns spent: 1999\n",
+            5,
+        ),
+        ("soak t.ada", FIRST, "", USAGE, 2),
+        ("soak 1001", FIRST, "", USAGE, 2),
     ];
     for (words, text, out, err, status) in cases {
         expect(&rt, rt.alloc(), (words, text, NONE), (out, err, status))?;
@@ -246,6 +266,8 @@ fn each_fault_has_its_status(rt: HostRuntime) -> Result<(), Fail> {
         ("run", FIRST, line, "", "usa", 7),
         ("run t.ada", UNDECLARED, line, "", "t.a", 7),
         ("run t.ada", TWICE, both, " 2", "write", 7),
+        ("soak 1", "", fetch, SOAK_OF_ONE, "", 0),
+        ("soak 1", "", both, "st", "write", 7),
     ];
     for (words, text, faults, out, err, status) in cases {
         expect(&rt, rt.alloc(), (words, text, faults), (out, err, status))?;

@@ -13,15 +13,16 @@ ghost use Rattle.driver.specs.Complaints.{Complaint};
 ghost use Rattle.driver.specs.Lines.{line_of};
 ghost use Rattle.command_words.specs.Words.{Asked, asked};
 ghost use Rattle.command_words.specs.declared.request.Mode.TheVariants as modes;
-ghost use Rattle.ada_cmd.specs.Answer.{Answers, Closes, RunsUnit, Untouched, devices, outside};
+ghost use Rattle.ada_cmd.specs.Answer.{Answers, Closes, RunsSoak, RunsUnit, Untouched, devices, outside, text_of};
+ghost use Rattle.ada_cmd.specs.Soak.{soak_text};
 ghost use Rattle.run_reports.specs.Says.{Says, SaysOrLacks};
 ghost use Rattle.ada_cmd.specs.Causes.{Answered, HasCheck, HasEnding, IsNotAccepted, Meets, OutFails, PutsPrefix, PutsVars, PutsVarsPrefix};
 ghost use Rattle.run_reports.specs.Lines.{accepted_line, ended, usage_line};
 ghost use Rattle.run_reports.specs.declared.status.Status.TheVariants as statuses;
 
-use crate::run::{Given, answer_request};
+use crate::run::{Given, answer_request, answer_soak};
 use ada_port::{Pulse, Shelf, Sink, Source};
-use command_words::{WordsFault, read};
+use command_words::{Mode, WordsFault, read};
 use run_reports::{say_out_of_memory, say_usage};
 use std::alloc::Global;
 use std::thread::Threads;
@@ -56,7 +57,12 @@ fn answer_words<
         (outside (F.state shelf.new) (I.state result.input) (O.state result.out) (E.state err.new)) }
 {
     match read(alloc, words) {
-        Ok(request) => answer_request(rt, alloc, request, shelf, input, out, err, pulse),
+        Ok(request) => match request.mode {
+            Mode::Soak(statements) => {
+                answer_soak(rt, alloc, request, statements, input, out, err, pulse)
+            }
+            _ => answer_request(rt, alloc, request, shelf, input, out, err, pulse),
+        },
         Err(WordsFault::Usage) => {
             let status = say_usage(err);
             Given { status, input, out }
@@ -73,8 +79,8 @@ fn answer_words<
 /// 4 where an exception is unhandled, 5 where the turns are spent, 6 for a fault of the input, 7 for a fault of out or err,
 /// and 8 for want of memory.
 ///
-/// The words are `MODE FILE [--workers N] [--chunks PLAN] [--turns K] [--vars]`, where MODE is `check`, `run` or `list`. The text is
-/// fetched, compiled and run. There is an input on which the manual permits, under the plan and so many workers, a run that ends so, with these
+/// The words are `MODE FILE [--workers N] [--chunks PLAN] [--turns K] [--vars]`, where MODE is `check`, `run` or `list`, or `soak` with
+/// a number in the place of FILE. The text, of a soak a stated one, is fetched, compiled and run. There is an input on which the manual permits, under the plan and so many workers, a run that ends so, with these
 /// final variables: the one that the input tells, where it tells, of which what that run didn't take is left. Where out tells,
 /// the bytes written are that run's, and where `--vars` stands there and the run ended normally, a line for each final
 /// variable behind them. Where no device failed and the sequential run on that input is calm, it is that run; and where a
@@ -134,7 +140,14 @@ pub fn run_words<
         Meets (λ given. (I.state result.input ≡ I.state input) × ((code : Code) × HasCode c.program code × Closes (listing_of code) given (O.state out) (O.state result.out) (E.state err.old) (E.state err.new))) result.status
         (outside (F.state shelf.old) (I.state input) (O.state out) (E.state err.old))
         (outside (F.state shelf.new) (I.state result.input) (O.state result.out) (E.state err.new)) }
-    ensures refuses { (q : Asked) (told : List ℕ) (fault : Complaint) → asked (map string_bytes words.now) ≡ Some q → (F.state shelf.old).told q.file ≡ Some told → IsFaultOf (fetched told) fault →
+    // In a soak nothing is fetched, and its text, where it is accepted, is run; after a normal end the lines on that are put out.
+    ensures soaks { (q : Asked) (n : ℕ) (c : Compiled) → asked (map string_bytes words.now) ≡ Some q → q.mode ≡ modes.Soak n → IsAccepted (soak_text n) c →
+        Meets (λ given. RunsSoak ((s : I) → IsTold (I.state s)) c q.settings n (soak_text n) given
+        (devices (I.state input) (O.state out) (E.state err.old)) (devices (I.state result.input) (O.state result.out) (E.state err.new))) result.status
+        (outside (F.state shelf.old) (I.state input) (O.state out) (E.state err.old))
+        (outside (F.state shelf.new) (I.state result.input) (O.state result.out) (E.state err.new)) }
+    ensures soak_fetches_nothing { (q : Asked) (n : ℕ) → asked (map string_bytes words.now) ≡ Some q → q.mode ≡ modes.Soak n → F.state shelf.new ≡ F.state shelf.old }
+    ensures refuses { (q : Asked) (text : List ℕ) (fault : Complaint) → asked (map string_bytes words.now) ≡ Some q → text_of q (F.state shelf.old) ≡ Some text → IsFaultOf text fault →
         Meets (λ given. Untouched (devices (I.state input) (O.state out) (E.state err.old)) (devices (I.state result.input) (O.state result.out) (E.state err.new))
         × SaysOrLacks statuses.Refused (ended (line_of q.file fault)) given (E.state err.old) (E.state err.new)) result.status
         (outside (F.state shelf.old) (I.state input) (O.state out) (E.state err.old))

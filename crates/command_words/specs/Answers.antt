@@ -1,5 +1,5 @@
 -- How what is read answers to what is defined.
-use Rattle.std.specs.Prelude.{◌≡◌, ◌<◌, ◌≤◌, ℕ, false, All, List, Option, Some, None, Result, MatchResult}
+use Rattle.std.specs.Prelude.{◌≡◌, ◌<◌, ◌≤◌, ⊤, ℕ, false, All, List, Option, Some, None, Result, MatchResult}
 use Rattle.ada_base.specs.Cuts as cuts
 use Rattle.clap.specs.Matches.{found_of}
 use Rattle.clap.specs.Walk.{Rule, rows_of, rule_of}
@@ -9,6 +9,7 @@ use Rattle.run_plan.specs.Plans.{HasNoZero, plan_of}
 use Rattle.run_plan.specs.declared.plan.Plan.{Plan}
 use Rattle.run_plan.specs.declared.plan.Setting.{Setting}
 use Rattle.command_words.specs.Words.{Asked, Settings, asked, asked_by}
+use Rattle.command_words.specs.declared.request.Mode.{Mode}
 use Rattle.command_words.specs.declared.request.Request.{Request}
 use Rattle.command_words.specs.declared.request.WordsFault.{WordsFault}
 use Rattle.command_words.specs.declared.request.WordsFault.TheVariants.{Usage}
@@ -25,6 +26,9 @@ GivesWithin low high = Gives (λ n. (low ≤ n) × (n ≤ high)) (λ n. n)
 
 abbrev pub GivesPlan : Option cuts.Plan → Result Plan WordsFault → Type 0
 GivesPlan = Gives HasNoZero plan_of
+
+abbrev pub GivesMode : Option Mode → Result Mode WordsFault → Type 0
+GivesMode = Gives (λ m. ⊤) (λ m. m)
 
 -- sizes of chunks, as a list has them afterwards
 abbrev pub GivesSizes : Option (List ℕ) → Result (Unit {0}) WordsFault → List ℕ → Type 0

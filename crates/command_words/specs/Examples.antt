@@ -65,7 +65,18 @@ forms =
     ∷ row (codes "Run t.ada") None
     ∷ row (codes "runs t.ada") None
     ∷ row (codes "lists t.ada") None
-    ∷ row (codes "soak 1") None
+    ∷ row (codes "soak 1") (request (mode.Soak 1) (codes "soak") (Even 8) 4 1000000000 false)
+    ∷ row (codes "soak --workers 8 0001000 --vars --chunks one") (request (mode.Soak 1000) (codes "soak") One 8 1000000000 true)
+    ∷ row (codes "soak") None
+    ∷ row (codes "soak t.ada") None
+    ∷ row (codes "soak 0") None
+    ∷ row (codes "soak 1001") None
+    ∷ row (codes "soak +1") None
+    ∷ row (codes "soak 00000000000001") None
+    ∷ row (codes "soak 1 --workers 65") None
+    ∷ row (codes "soak 1 1") None
+    ∷ row (codes "soaks 1") None
+    ∷ row (codes "Soak 1") None
     ∷ row (codes "help") None
     ∷ row (codes "run t.ada --help") None
     ∷ row (codes "run t.ada -h") None

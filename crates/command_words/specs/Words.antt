@@ -1,5 +1,5 @@
 -- What the words ask for: MODE FILE [--workers N] [--chunks PLAN] [--turns K] [--vars].
-use Rattle.std.specs.Prelude.{ℕ, Bool, true, false, List, [], ◌∷◌, codes, fold, Option, Some, None, if◌then◌else◌}
+use Rattle.std.specs.Prelude.{ℕ, Bool, true, false, List, [], ◌∷◌, codes, fold, Option, Some, None, option_map, if◌then◌else◌}
 use Rattle.std.specs.Option.{option_map_or}
 use Rattle.std.specs.Str.{bytes_eq}
 use Rattle.ada_base.specs.Cuts.{Plan, Even}
@@ -49,11 +49,25 @@ pub record Asked : Type 0 where
   pub settings : Settings
   pub vars : Bool
 
-abbrev pub mode_named : List ℕ → Option Mode
-mode_named text = if bytes_eq text (codes "check") then Some mode.Check
+-- the most statements of a soak
+abbrev pub most_statements : ℕ
+most_statements = 1000
+
+-- a soak of so many statements, of which the word in the place of a file is the number
+abbrev pub soak_of : List ℕ → Option Mode
+soak_of file = option_map mode.Soak (number 1 most_statements file)
+
+abbrev pub mode_named : List ℕ → List ℕ → Option Mode
+mode_named text file = if bytes_eq text (codes "check") then Some mode.Check
     else if bytes_eq text (codes "run") then Some mode.Run
     else if bytes_eq text (codes "list") then Some mode.List
+    else if bytes_eq text (codes "soak") then soak_of file
     else None
+
+-- the name of the text, which in a soak is stated and not fetched
+abbrev pub name_of : Mode → List ℕ → List ℕ
+name_of (mode.Soak statements) file = codes "soak"
+name_of m file = file
 
 -- an option's value, or its default where it is absent
 abbrev pub value_or : {X : Type 0} → X → (List ℕ → Option X) → Option (List ℕ) → Option X
@@ -88,10 +102,11 @@ settings_by rows = do
 
 abbrev pub asked_by : List Row → Option Asked
 asked_by rows = do
-  m ← first_of (codes "mode") rows >>= mode_named
+  text ← first_of (codes "mode") rows
   file ← first_of (codes "file") rows
+  m ← mode_named text file
   settings ← settings_by rows
-  Some (record { mode = m; file = file; settings = settings; vars = is_true (first_of (codes "vars") rows) })
+  Some (record { mode = m; file = name_of m file; settings = settings; vars = is_true (first_of (codes "vars") rows) })
 
 -- nothing where there is a fault
 abbrev pub faultless : {X : Type 0} → Kinds → Option X → Option X

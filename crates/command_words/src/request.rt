@@ -13,6 +13,8 @@ pub enum Mode {
     Run,
     /// It is compiled, and its code is listed.
     List,
+    /// The stated text of so many statements is compiled and run, and what that took is told.
+    Soak(u32),
 }
 
 /// What right words ask for.
@@ -20,7 +22,7 @@ pub enum Mode {
 pub struct Request<'a> {
     /// What is to be done.
     pub mode: Mode,
-    /// The name of the text.
+    /// The name of the text, which in a soak is stated and not fetched.
     pub file: &'a str,
     /// The plan, the number of workers and the limit of turns.
     pub setting: Setting,

@@ -6,9 +6,9 @@ ghost use Rattle.clap.specs.Simple.{app_of};
 ghost use Rattle.clap.specs.Walk.{first_of, rows_of};
 ghost use Rattle.ada_base.specs.Cuts.{Even};
 ghost use Rattle.command_words.specs.Values.{number as number_in, plan as plan_in};
-ghost use Rattle.command_words.specs.Words.{asked, asked_by, bare, command, flag, is_true, mode_named, option, positional, settings_by, usual_chunks, value_or};
+ghost use Rattle.command_words.specs.Words.{asked, asked_by, bare, command, flag, is_true, mode_named, name_of, option, positional, settings_by, soak_of, usual_chunks, value_or};
 ghost use Rattle.command_words.specs.declared.request.WordsFault.TheVariants.{Usage};
-ghost use Rattle.command_words.specs.Answers.{IsArg, GivesMatches, GivesPlan, GivesRequest, GivesSetting, GivesWithin};
+ghost use Rattle.command_words.specs.Answers.{IsArg, GivesMatches, GivesMode, GivesPlan, GivesRequest, GivesSetting, GivesWithin};
 
 use crate::request::{Mode, Request, WordsFault};
 use crate::values::{number, plan};
@@ -27,6 +27,9 @@ const MOST_WORKERS: u64 = 64;
 const USUAL_TURNS: u64 = 1_000_000_000;
 
 const MOST_TURNS: u64 = 1_099_511_627_776;
+
+// The most statements of a soak.
+const MOST_STATEMENTS: u64 = 1000;
 
 fn positional<'a>(alloc: Global, name: &'a str) -> Arg<'a>
     ensures { IsArg (positional name.entry.now) result }
@@ -108,14 +111,31 @@ fn is_true(text: Option<&str>) -> bool
     }
 }
 
-fn mode_of(text: Option<&str>) -> Option<Mode>
-    ensures { result ≡ option_and_then mode_named (option_map (λ s. s.now) text.entry) }
+fn soak_of(file: &str) -> Result<Mode, WordsFault>
+    ensures { GivesMode (soak_of file.now) result }
 {
-    match text? {
-        "check" => Some(Mode::Check),
-        "run" => Some(Mode::Run),
-        "list" => Some(Mode::List),
-        _ => None,
+    let statements = number(file, 1, MOST_STATEMENTS)?;
+    Ok(Mode::Soak(statements as u32))
+}
+
+fn mode_of(text: &str, file: &str) -> Result<Mode, WordsFault>
+    ensures { GivesMode (mode_named text.now file.now) result }
+{
+    match text {
+        "check" => Ok(Mode::Check),
+        "run" => Ok(Mode::Run),
+        "list" => Ok(Mode::List),
+        "soak" => soak_of(file),
+        _ => Err(WordsFault::Usage),
+    }
+}
+
+fn name_of<'a>(mode: Mode, file: &'a str) -> &'a str
+    ensures { result.now ≡ name_of mode file.now }
+{
+    match mode {
+        Mode::Soak(_) => "soak",
+        _ => file,
     }
 }
 
@@ -155,17 +175,18 @@ fn setting_of(alloc: Global, matches: &ArgMatches<'_>) -> Result<Setting, WordsF
 fn request_of<'a>(alloc: Global, matches: &ArgMatches<'a>) -> Result<Request<'a>, WordsFault>
     ensures { GivesRequest (asked_by (rows_of (found_of matches.now))) result }
 {
-    let Some(mode) = mode_of(value_of(matches, "mode")) else {
+    let Some(text) = value_of(matches, "mode") else {
         return Err(WordsFault::Usage);
     };
     let Some(file) = value_of(matches, "file") else {
         return Err(WordsFault::Usage);
     };
+    let mode = mode_of(text, file)?;
     let setting = setting_of(alloc, matches)?;
     let vars = is_true(value_of(matches, "vars"));
     Ok(Request {
         mode,
-        file,
+        file: name_of(mode, file),
         setting,
         vars,
     })
@@ -174,7 +195,8 @@ fn request_of<'a>(alloc: Global, matches: &ArgMatches<'a>) -> Result<Request<'a>
 /// What the words behind the program's name ask for.
 ///
 /// They are `MODE FILE [--workers N] [--chunks PLAN] [--turns K] [--vars]`, in the forms that `clap` reads, each option
-/// once at the most. `Usage` comes exactly where they aren't.
+/// once at the most. In the mode `soak` a number from 1 to 1,000 stands in the place of FILE. `Usage` comes exactly where they
+/// aren't such words.
 pub fn read<'a>(alloc: Global, words: &'a [String]) -> Result<Request<'a>, WordsFault>
     ensures { GivesRequest (asked (map string_bytes words.now)) result }
 {

@@ -1,5 +1,5 @@
 use Rattle.std.proofs.Common.{refl}
-use Rattle.ada_cmd.specs.Answer.{Checks, Starts}
+use Rattle.ada_cmd.specs.Answer.{Checks, Soaks, Starts}
 use Rattle.ada_cmd.proofs.Answering.{lists_text, refuses_text}
 use Rattle.ada_cmd.proofs.run.answer_text.Goals as goal
 
@@ -11,6 +11,9 @@ returns-in-Check g c = Checks _ c.in-Ok.ensures.accepted c.in-Check.is refl c.sa
 
 pub returns-in-Run : goal.returns-in-Run
 returns-in-Run g c = Starts _ c.in-Ok.ensures.accepted c.in-Run.is c.run_unit.ensures
+
+pub returns-in-Soak : goal.returns-in-Soak
+returns-in-Soak g c = Soaks _ c.in-Ok.ensures.accepted c.in-Soak.statements c.in-Soak.is c.run_soak.ensures
 
 pub returns-in-List : goal.returns-in-List
 returns-in-List g c = lists_text _ c.args.text.now _ c.in-Ok.unit.code c.say_listing-status.result _ _ _ _ _ c.in-Ok.ensures.accepted c.in-List.is c.in-Ok.ensures.built.coded c.say_listing-status.ensures

@@ -29,6 +29,12 @@ returns-clause-checks g c = rw c.number.ensures (causes.checks _ _ _ _ c.answer_
 pub returns-clause-lists : goal.returns-clause-lists
 returns-clause-lists g c = rw c.number.ensures (causes.lists _ _ _ _ c.answer_words-status.ensures)
 
+pub returns-clause-soaks : goal.returns-clause-soaks
+returns-clause-soaks g c = rw c.number.ensures (causes.soaks _ _ _ _ c.answer_words-status.ensures)
+
+pub returns-clause-soak_fetches_nothing : goal.returns-clause-soak_fetches_nothing
+returns-clause-soak_fetches_nothing g c = causes.fetches_nothing _ _ _ _ c.answer_words-status.ensures
+
 pub returns-clause-refuses : goal.returns-clause-refuses
 returns-clause-refuses g c = rw c.number.ensures (causes.refuses _ _ _ _ c.answer_words-status.ensures)
 
