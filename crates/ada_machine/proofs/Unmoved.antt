@@ -1,5 +1,5 @@
 -- A stretch that ends before an instruction, in the state that it was in.
-use Rattle.std.proofs.Common.{◌≡◌, ℕ, ◌≤◌, List, Some, None, reverse, refl, sym, ap, inr, subst}
+use Rattle.std.proofs.Common.{◌≡◌, ℕ, ◌≤◌, List, Some, None, reverse, sym, inr, subst}
 use Rattle.std.specs.Prelude.{◌⊎◌, IsSomeAnd, slice_get, vec_capacity}
 use Rattle.ada_base.specs.Cells.{Cell}
 use Rattle.stack_code.specs.declared.code.Code.{Code}
@@ -15,7 +15,7 @@ use Rattle.ada_machine.specs.States.{state_of, frames_of, Ready, Roomy, Wants, m
 use Rattle.ada_machine.specs.Strides.{Strides}
 
 -- the next instruction asks for more
-pub asks_here : (c : Code) (q : State) (i : Instr) → slice_get c.instrs q.pc ≡ Some i → AsksMore i → IsSomeAnd (slice_get c.instrs q.pc) (λ i. AsksMore i)
+asks_here : (c : Code) (q : State) (i : Instr) → slice_get c.instrs q.pc ≡ Some i → AsksMore i → IsSomeAnd (slice_get c.instrs q.pc) (λ i. AsksMore i)
 asks_here c q i at a = subst (λ o. IsSomeAnd o (λ i. AsksMore i)) (sym at) a
 
 module _ (limit : ℕ) (c : Code) (m m' : Machine) (cells cells' : List Cell) (e : state_of m' cells' ≡ state_of m cells) where

@@ -1,20 +1,18 @@
 use Rattle.std.proofs.Common.{◌≡◌, ◌≤◌, ◌<◌, ◌+◌, reverse, Some, refl, sym, ap, ◌∙◌, arith, subst}
-use Rattle.std.specs.Prelude.{◌^◌, slice_index, EachIndex, IsSomeAnd}
+use Rattle.std.specs.Prelude.{◌⊎◌, ◌^◌, slice_index, EachIndex}
 use Rattle.stack_code.specs.Fits.{Finds}
 use Rattle.stack_code.specs.Deeds.{deed_of}
-use Rattle.stack_code.proofs.Runs.{comes_none, comes_one, comes_on, never_on}
-use Rattle.ada_machine.specs.Played.{IsClear, Onward, Raised, plays, AsksMore}
-use Rattle.ada_machine.specs.States.{state_of, Steps}
-use Rattle.ada_machine.proofs.Readies.{fine_here}
-use Rattle.ada_machine.proofs.Steps.{clear_here, step_plays, step_raises}
 use Rattle.stack_code.specs.declared.instr.Instr.TheVariants as instr
+use Rattle.stack_code.proofs.Runs.{comes_none, comes_one, comes_on, never_on}
 use Rattle.ada_machine.specs.declared.machine.Went.TheVariants as went
+use Rattle.ada_machine.specs.Played.{Exceeds, Overlaps, IsClear, Onward, Raised, plays}
+use Rattle.ada_machine.specs.States.{state_of, Steps}
 use Rattle.ada_machine.proofs.Keeping.{stays_on}
 use Rattle.ada_machine.proofs.Looking.{none_looks, same_looks, onward_none, raised_none, looked_none, looked_step}
-use Rattle.ada_machine.proofs.Walks.{goes_same, raises_same, turn_on, machine_here}
-use Rattle.ada_machine.specs.Played.{Exceeds, Overlaps}
-use Rattle.std.specs.Prelude.{◌⊎◌}
+use Rattle.ada_machine.proofs.Readies.{fine_here}
+use Rattle.ada_machine.proofs.Steps.{clear_here, step_plays, step_raises}
 use Rattle.ada_machine.proofs.Unmoved.{looks_still, beyond_still, more_still}
+use Rattle.ada_machine.proofs.Walks.{goes_same, raises_same, turn_on, machine_here}
 use Rattle.ada_machine.proofs.walking.stride.Goals as goal
 
 pub loop-halt-init : goal.loop-halt-init
@@ -87,7 +85,7 @@ returns-in-Failed g c =
     subst (λ fs. plays (deed_of c.args.code.now m.pc (reverse m.stack.items) m.base fs c.instr_at-instr.result.now) cells ≡ Raised c.in-Failed.reason (reverse c.compute.new.stack.items) cells') c.as_slice.ensures.value c.in-Failed.ensures.deed in
     let s : Steps c.args.limit c.args.code.now went.Raising m cells m' cells' = raises_same c.args.limit c.args.code.now m m' cells cells' i.ready (state_of m' cells') i.within (step_raises c.args.limit c.args.code.now (state_of m cells) c.instr_at-instr.result.now i.calm c.instr_at-instr.ensures.instr c.in-Failed.reason (reverse c.compute.new.stack.items) cells' deed) refl c.compute.ensures.room refl refl refl in
     record {
-      strides = record { came = comes_on c.args.limit c.args.code.now _ _ _ i.came (comes_one c.args.limit c.args.code.now _ _ s.goes); ready = s.ready; within = s.within; ends = omega (arith, i.falls, s.falls) };
+      strides = record { came = comes_on c.args.limit c.args.code.now _ _ _ i.came (comes_one c.args.limit c.args.code.now _ _ s.goes); ready = s.ready; within = s.within; ends = (omega (arith, i.falls, s.falls), refl) };
       halts = i.halts;
       stays = stays_on (g.C.Cells.floor) (g.C.Cells.whole) (g.C.Cells.place) i.stays c.compute.ensures.stays;
       looks = looked_step c.args.limit c.args.code.now (state_of c.args.m.now (g.C.Cells.cells c.args.view.now)) (state_of m cells) (state_of m' cells') c.args.m.now.looks m.looks m.looks i.looks refl s.goes (none_looks c.args.code.now (state_of m cells) c.instr_at-instr.result.now went.Raising m.looks m.looks i.calm c.instr_at-instr.ensures.instr (raised_none (deed_of c.args.code.now m.pc (reverse m.stack.items) m.base m.outward.items c.instr_at-instr.result.now) (state_of m cells) c.in-Failed.reason (reverse c.compute.new.stack.items) cells' deed) refl);
