@@ -13,5 +13,6 @@ pub mod Outcomes
 pub mod Readies
 pub mod Rounding
 pub mod Steps
+pub mod Unmoved
 pub mod Viewing
 pub mod Walks

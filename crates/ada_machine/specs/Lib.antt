@@ -1,4 +1,5 @@
 pub mod Places
 pub mod Played
 pub mod States
+pub mod Strides
 pub mod Viewed

@@ -24,8 +24,7 @@ const MOST_CALLS: u32 = 1000;
 
 const MOST_NESTED: u32 = 16;
 
-#[inline(always)]
-pub(crate) fn turn<H: Halt>(code: &Code, m: &mut Machine, limit: u64, halt: &mut H) -> Went
+fn turn<H: Halt>(code: &Code, m: &mut Machine, limit: u64, halt: &mut H) -> Went
     requires ready { (cells : List Cell) × Ready code.now m.old cells }
     requires calm { m.old.raising ≡ None }
     requires at { slice_get code.now.instrs m.old.pc ≡ Some Instr.Turn }

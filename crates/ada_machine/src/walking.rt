@@ -1,5 +1,5 @@
 // One instruction after another.
-ghost use Rattle.std.specs.Prelude.{◌≡◌, ◌≢◌, ◌+◌, ◌<◌, ◌≤◌, ◌∷◌, ℕ, ℤ, pos, List, Some, None, length, reverse, slice_get, vec_len, vec_capacity, true, false};
+ghost use Rattle.std.specs.Prelude.{◌≡◌, ◌≢◌, ◌+◌, ◌<◌, ◌≤◌, ◌∷◌, ℕ, ℤ, pos, List, Some, None, IsSomeAnd, length, reverse, slice_get, vec_len, vec_capacity, true, false};
 ghost use Rattle.stack_code.specs.Machine.{entry_of, Goes, step, Comes};
 ghost use Rattle.stack_code.specs.Runs.{NeverStuck};
 ghost use Rattle.stack_code.specs.Valid.{IsValid};
@@ -8,11 +8,12 @@ ghost use Rattle.ada_machine.specs.Places.{Stays};
 ghost use Rattle.ada_machine.specs.Played.{AsksMore};
 ghost use Rattle.stack_code.specs.Looks.{looks_of, raise_looks};
 ghost use Rattle.ada_machine.specs.States.{state_of, Ready, Steps, Unwinds, StopsAt, ReadyAfter, LooksBy, Unlooked, TookLooks};
+ghost use Rattle.ada_machine.specs.Strides.{Strides};
 
 use crate::calls::unwind_to;
 use crate::cells::Cells;
 use crate::computing::{Frames, compute};
-use crate::effecting::{effect, turn};
+use crate::effecting::effect;
 use crate::effects::handle;
 use crate::machine::{Machine, Stop, Went};
 use crate::operands::Computed;
@@ -124,47 +125,95 @@ fn unwind<C: Cells, H: Halt>(
     }
 }
 
-// An instruction that asks for more. What it comes to stands in memory of this function, so that `advance`, which is part of
-// the loop, clears none at each instruction.
+/// Why a stretch of instructions ended that need operands, cells and turns alone.
+#[derive(Clone, Copy)]
+pub enum Stretch {
+    /// An exception is being raised.
+    Raises,
+    /// The next instruction asks for more, or a turn isn't begun.
+    More,
+    /// A number of the next instruction isn't in 64 bits, or it would overwrite what it has yet to copy.
+    Beyond,
+}
+
+// Instructions that need operands, cells and turns alone, one after another. Their results stay in registers, and so does
+// the number of the next one, which is written back at the end.
 #[inline(always)]
+fn stride<C: Cells, H: Halt>(
+    code: &Code,
+    m: &mut Machine,
+    view: &mut C,
+    limit: u64,
+    halt: &mut H,
+) -> Stretch
+    requires ready { Ready code.now m.old (C.cells view.old) }
+    requires calm { m.old.raising ≡ None }
+    requires clear { NeverStuck limit code.now (state_of m.old (C.cells view.old)) }
+    requires within { m.old.turns ≤ limit }
+    ensures strides { Strides limit code.now result m.old (C.cells view.old) m.new (C.cells view.new) }
+    ensures halts { (H.kept halt.new ≡ H.kept halt.old) × (H.told halt.old → H.told halt.new) }
+    ensures stays { Stays C.floor C.whole C.place view.old view.new }
+    ensures looks { Unlooked limit code.now None m.old.looks m.new.looks (state_of m.old (C.cells view.old)) (state_of m.new (C.cells view.new)) }
+{
+    let mut pc = m.pc;
+    loop {
+        let instr = instr_at(code, pc);
+        let _height = m.stack.len();
+        match *instr {
+            Instr::Turn => {
+                if halt.asked() {
+                    m.pc = pc;
+                    return Stretch::More;
+                }
+                if m.turns == limit {
+                    m.pc = pc;
+                    return Stretch::More;
+                }
+                m.looks = m.looks.saturating_add(1);
+                m.turns += 1;
+                pc += 1;
+            }
+            _ => match compute(
+                code,
+                instr,
+                pc,
+                &mut m.stack,
+                Frames {
+                    base: m.base,
+                    outward: m.outward.as_slice(),
+                },
+                view,
+            ) {
+                Computed::To(to) => pc = to,
+                Computed::Failed(reason) => {
+                    m.pc = pc;
+                    m.raising = Some(reason);
+                    return Stretch::Raises;
+                }
+                Computed::Beyond => {
+                    m.pc = pc;
+                    return Stretch::Beyond;
+                }
+                Computed::Other => {
+                    m.pc = pc;
+                    return Stretch::More;
+                }
+            },
+        }
+    }
+}
+
+// The next instruction, which asks for more.
 fn proceed<C: Cells, H: Halt>(
     code: &Code,
     m: &mut Machine,
     view: &mut C,
     limit: u64,
     halt: &mut H,
-    instr: Instr,
 ) -> Went
     requires ready { Ready code.now m.old (C.cells view.old) }
     requires calm { m.old.raising ≡ None }
-    requires at { slice_get code.now.instrs m.old.pc ≡ Some instr }
-    requires more { AsksMore instr }
-    requires within { m.old.turns ≤ limit }
-    requires next { m.old.pc < usize.MAX }
-    requires whole { C.whole view.old }
-    requires tops { IsTopped (C.floor view.old) (state_of m.old (C.cells view.old)) }
-    ensures steps { Steps limit code.now result m.old (C.cells view.old) m.new (C.cells view.new) }
-    ensures paused { result ≡ Went.Stopped Stop.Paused → H.told halt.new }
-    ensures halts { (H.kept halt.new ≡ H.kept halt.old) × (H.told halt.old → H.told halt.new) }
-    ensures stays { Stays C.floor C.whole C.place view.old view.new }
-    ensures looks { LooksBy result m.old.looks m.new.looks (looks_of code.now (state_of m.old (C.cells view.old))) }
-{
-    let went = effect(code, m, view, limit, halt, instr);
-    went
-}
-
-// One instruction.
-#[inline(always)]
-fn advance<C: Cells, H: Halt>(
-    code: &Code,
-    m: &mut Machine,
-    view: &mut C,
-    limit: u64,
-    halt: &mut H,
-) -> Went
-    requires ready { Ready code.now m.old (C.cells view.old) }
-    requires calm { m.old.raising ≡ None }
-    requires clear { NeverStuck limit code.now (state_of m.old (C.cells view.old)) }
+    requires more { IsSomeAnd (slice_get code.now.instrs m.old.pc) (λ i. AsksMore i) }
     requires within { m.old.turns ≤ limit }
     requires whole { C.whole view.old }
     requires tops { IsTopped (C.floor view.old) (state_of m.old (C.cells view.old)) }
@@ -174,33 +223,8 @@ fn advance<C: Cells, H: Halt>(
     ensures stays { Stays C.floor C.whole C.place view.old view.new }
     ensures looks { LooksBy result m.old.looks m.new.looks (looks_of code.now (state_of m.old (C.cells view.old))) }
 {
-    let instr = instr_at(code, m.pc);
-    let _height = m.stack.len();
-    match *instr {
-        Instr::Turn => turn(code, m, limit, halt),
-        _ => match compute(
-            code,
-            instr,
-            m.pc,
-            &mut m.stack,
-            Frames {
-                base: m.base,
-                outward: m.outward.as_slice(),
-            },
-            view,
-        ) {
-            Computed::To(to) => {
-                m.pc = to;
-                Went::On
-            }
-            Computed::Failed(reason) => {
-                m.raising = Some(reason);
-                Went::Raising
-            }
-            Computed::Beyond => Went::Stopped(Stop::NoMemory),
-            Computed::Other => proceed(code, m, view, limit, halt, *instr),
-        },
-    }
+    let instr = fetch(code, m.pc);
+    effect(code, m, view, limit, halt, instr)
 }
 
 /// Goes on until something stops the machine.
@@ -225,18 +249,19 @@ pub fn go<C: Cells, H: Halt>(
     ensures stays { Stays C.floor C.whole C.place view.old view.new }
     ensures looks { TookLooks limit code.now result m.old.looks m.new.looks (state_of m.old (C.cells view.old)) (state_of m.new (C.cells view.new)) }
 {
-    match unwind(code, m, view, limit, halt) {
-        Some(stop) => return stop,
-        None => {}
-    }
     loop {
-        match advance(code, m, view, limit, halt) {
-            Went::On => {}
-            Went::Raising => match unwind(code, m, view, limit, halt) {
-                Some(stop) => return stop,
-                None => {}
+        match unwind(code, m, view, limit, halt) {
+            Some(stop) => return stop,
+            None => {}
+        }
+        match stride(code, m, view, limit, halt) {
+            Stretch::Raises => {}
+            Stretch::Beyond => return Stop::NoMemory,
+            Stretch::More => match proceed(code, m, view, limit, halt) {
+                Went::On => {}
+                Went::Raising => {}
+                Went::Stopped(stop) => return stop,
             },
-            Went::Stopped(stop) => return stop,
         }
     }
 }

@@ -1,82 +1,255 @@
-use Rattle.std.proofs.Common.{refl, ◌∙◌}
-use Rattle.stack_code.proofs.Runs.{comes_one, comes_on, never_on}
+use Rattle.std.proofs.Common.{refl, ◌∙◌, arith}
+use Rattle.stack_code.proofs.Runs.{comes_none, comes_one, comes_on, never_on}
 use Rattle.ada_machine.proofs.Walks.{stops_after, stops_later}
 use Rattle.ada_machine.specs.States.{state_of}
-use Rattle.ada_machine.proofs.Looking.{looked_step, looked_run, looked_later, looked_stops}
+use Rattle.ada_machine.proofs.Looking.{looked_none, looked_step, looked_run, looked_later, looked_stops}
 use Rattle.ada_machine.proofs.Keeping.{stays_on, topped_one, topped_comes, topped_stops}
 use Rattle.ada_machine.proofs.walking.go.Goals as goal
 
-pub loop-m-init : goal.loop-m-init
-loop-m-init g c = let u = c.in-None.ensures.unwinds in record { came = u.goes.0; ready = u.ready; calm = u.goes.1; clear = never_on c.args.limit c.args.code.now _ _ u.goes.0 c.requires.clear; looks = c.in-None.ensures.looks; within = u.within; stays = c.unwind.ensures.stays; tops = topped_comes c.args.limit c.args.code.now _ _ c.unwind.ensures.stays.0 _ _ u.goes.0 c.requires.tops; halts = c.unwind.ensures.halts }
+pub loop-stop-init : goal.loop-stop-init
+loop-stop-init g c =
+    let cells = g.C.Cells.cells in
+    let begun = state_of c.args.m.now (cells c.args.view.now) in
+    record {
+      came = comes_none c.args.limit c.args.code.now begun;
+      ready = c.requires.ready;
+      clear = c.requires.clear;
+      within = c.requires.within;
+      looks = looked_none c.args.limit c.args.code.now begun c.args.m.now.looks;
+      stays = (refl, λ w. w, refl);
+      tops = c.requires.tops;
+      halts = (refl, λ t. t);
+    }
 
-pub loop-m-preserved-in-On : goal.loop-m-preserved-in-On
-loop-m-preserved-in-On g c =
-    let i = c.loop-m.invariant in
-    let s = c.in-On.ensures.steps in
-    let one = comes_one c.args.limit c.args.code.now _ _ s.goes.0 in
-    record { came = comes_on c.args.limit c.args.code.now _ _ _ i.came one; ready = s.ready; calm = s.goes.1; clear = never_on c.args.limit c.args.code.now _ _ one i.clear; within = s.within; looks = looked_step c.args.limit c.args.code.now (state_of c.args.m.now (g.C.Cells.cells c.args.view.now)) (state_of c.loop-m.m (g.C.Cells.cells c.loop-m.view)) (state_of c.advance.new.m (g.C.Cells.cells c.advance.new.view)) c.args.m.now.looks c.loop-m.m.looks _ i.looks refl s.goes.0 c.in-On.ensures.looks; stays = stays_on (g.C.Cells.floor) (g.C.Cells.whole) (g.C.Cells.place) i.stays c.advance.ensures.stays; tops = topped_one c.args.limit c.args.code.now _ _ c.advance.ensures.stays.0 _ _ s.goes.0 i.tops; halts = (c.advance.ensures.halts.0 ∙ i.halts.0, λ t. c.advance.ensures.halts.1 (i.halts.1 t)) }
+pub unwind-requires-clause-whole : goal.unwind-requires-clause-whole
+unwind-requires-clause-whole g c = c.loop-stop.invariant.stays.1 c.requires.whole
 
-pub loop-m-smaller-in-On : goal.loop-m-smaller-in-On
-loop-m-smaller-in-On g c = c.in-On.ensures.steps.falls
+pub unwind-requires-clause-tops : goal.unwind-requires-clause-tops
+unwind-requires-clause-tops g c = c.loop-stop.invariant.tops
 
-pub returns-in-Stopped-clause-stops : goal.returns-in-Stopped-clause-stops
-returns-in-Stopped-clause-stops g c = stops_after c.args.limit c.args.code.now c.in-Stopped.stop _ _ _ c.loop-m.invariant.came c.in-Stopped.ensures.steps.goes
+pub returns-in-Some-clause-stops : goal.returns-in-Some-clause-stops
+returns-in-Some-clause-stops g c = stops_later c.args.limit c.args.code.now c.in-Some.stop _ _ _ c.loop-stop.invariant.came c.in-Some.ensures.unwinds.goes
 
-pub returns-in-Some-unwind-clause-stops : goal.returns-in-Some-unwind-clause-stops
-returns-in-Some-unwind-clause-stops g c =
-    let one = comes_on c.args.limit c.args.code.now _ _ _ c.loop-m.invariant.came (comes_one c.args.limit c.args.code.now _ _ c.in-Raising.ensures.steps.goes) in
-    stops_later c.args.limit c.args.code.now c.in-Some-unwind.stop _ _ _ one c.in-Some-unwind.ensures.unwinds.goes
+pub returns-in-Some-clause-halts : goal.returns-in-Some-clause-halts
+returns-in-Some-clause-halts g c =
+    let i = c.loop-stop.invariant in
+    (c.unwind.ensures.halts.0 ∙ i.halts.0, λ t. c.unwind.ensures.halts.1 (i.halts.1 t))
 
-pub loop-m-preserved : goal.loop-m-preserved
-loop-m-preserved g c =
-    let i = c.loop-m.invariant in
-    let u = c.in-None-unwind.ensures.unwinds in
-    let one = comes_on c.args.limit c.args.code.now _ _ _ (comes_one c.args.limit c.args.code.now _ _ c.in-Raising.ensures.steps.goes) u.goes.0 in
-    record { came = comes_on c.args.limit c.args.code.now _ _ _ i.came one; ready = u.ready; calm = u.goes.1; clear = never_on c.args.limit c.args.code.now _ _ one i.clear; within = u.within; looks = looked_run c.args.limit c.args.code.now (state_of c.args.m.now (g.C.Cells.cells c.args.view.now)) (state_of c.advance.new.m (g.C.Cells.cells c.advance.new.view)) (state_of c.unwind-in-Raising.new.m (g.C.Cells.cells c.unwind-in-Raising.new.view)) c.args.m.now.looks c.advance.new.m.looks c.unwind-in-Raising.new.m.looks (looked_step c.args.limit c.args.code.now (state_of c.args.m.now (g.C.Cells.cells c.args.view.now)) (state_of c.loop-m.m (g.C.Cells.cells c.loop-m.view)) (state_of c.advance.new.m (g.C.Cells.cells c.advance.new.view)) c.args.m.now.looks c.loop-m.m.looks _ i.looks refl c.in-Raising.ensures.steps.goes c.in-Raising.ensures.looks) c.in-None-unwind.ensures.looks; stays = stays_on (g.C.Cells.floor) (g.C.Cells.whole) (g.C.Cells.place) (stays_on (g.C.Cells.floor) (g.C.Cells.whole) (g.C.Cells.place) i.stays c.advance.ensures.stays) c.unwind-in-Raising.ensures.stays; tops = topped_comes c.args.limit c.args.code.now _ _ (c.unwind-in-Raising.ensures.stays.0 ∙ c.advance.ensures.stays.0) _ _ one i.tops; halts = (c.unwind-in-Raising.ensures.halts.0 ∙ c.advance.ensures.halts.0 ∙ i.halts.0, λ t. c.unwind-in-Raising.ensures.halts.1 (c.advance.ensures.halts.1 (i.halts.1 t))) }
-
-pub returns-in-Stopped-clause-halts : goal.returns-in-Stopped-clause-halts
-returns-in-Stopped-clause-halts g c = let i = c.loop-m.invariant in (c.advance.ensures.halts.0 ∙ i.halts.0, λ t. c.advance.ensures.halts.1 (i.halts.1 t))
-
-pub returns-in-Some-unwind-clause-halts : goal.returns-in-Some-unwind-clause-halts
-returns-in-Some-unwind-clause-halts g c = let i = c.loop-m.invariant in (c.unwind-in-Raising.ensures.halts.0 ∙ c.advance.ensures.halts.0 ∙ i.halts.0, λ t. c.unwind-in-Raising.ensures.halts.1 (c.advance.ensures.halts.1 (i.halts.1 t)))
-
-pub advance-requires-clause-whole : goal.advance-requires-clause-whole
-advance-requires-clause-whole g c = c.loop-m.invariant.stays.1 c.requires.whole
-
-pub advance-requires-clause-tops : goal.advance-requires-clause-tops
-advance-requires-clause-tops g c = c.loop-m.invariant.tops
-
-pub unwind-requires-in-Raising-clause-whole : goal.unwind-requires-in-Raising-clause-whole
-unwind-requires-in-Raising-clause-whole g c = c.advance.ensures.stays.1 (c.loop-m.invariant.stays.1 c.requires.whole)
-
-pub unwind-requires-in-Raising-clause-tops : goal.unwind-requires-in-Raising-clause-tops
-unwind-requires-in-Raising-clause-tops g c = topped_one c.args.limit c.args.code.now _ _ c.advance.ensures.stays.0 _ _ c.in-Raising.ensures.steps.goes c.loop-m.invariant.tops
-
-pub returns-in-Some-unwind-clause-stays : goal.returns-in-Some-unwind-clause-stays
-returns-in-Some-unwind-clause-stays g c = stays_on (g.C.Cells.floor) (g.C.Cells.whole) (g.C.Cells.place) (stays_on (g.C.Cells.floor) (g.C.Cells.whole) (g.C.Cells.place) c.loop-m.invariant.stays c.advance.ensures.stays) c.unwind-in-Raising.ensures.stays
-
-pub returns-in-Stopped-clause-stays : goal.returns-in-Stopped-clause-stays
-returns-in-Stopped-clause-stays g c = stays_on (g.C.Cells.floor) (g.C.Cells.whole) (g.C.Cells.place) c.loop-m.invariant.stays c.advance.ensures.stays
+pub returns-in-Some-clause-stays : goal.returns-in-Some-clause-stays
+returns-in-Some-clause-stays g c = stays_on (g.C.Cells.floor) (g.C.Cells.whole) (g.C.Cells.place) c.loop-stop.invariant.stays c.unwind.ensures.stays
 
 pub returns-in-Some-clause-tops : goal.returns-in-Some-clause-tops
-returns-in-Some-clause-tops g c = topped_stops c.args.limit c.args.code.now _ _ c.unwind.ensures.stays.0 _ _ c.in-Some.stop c.in-Some.ensures.unwinds.goes c.requires.tops
+returns-in-Some-clause-tops g c = topped_stops c.args.limit c.args.code.now _ _ c.unwind.ensures.stays.0 _ _ c.in-Some.stop c.in-Some.ensures.unwinds.goes c.loop-stop.invariant.tops
 
-pub returns-in-Some-unwind-clause-tops : goal.returns-in-Some-unwind-clause-tops
-returns-in-Some-unwind-clause-tops g c =
-    let one = topped_one c.args.limit c.args.code.now _ _ c.advance.ensures.stays.0 _ _ c.in-Raising.ensures.steps.goes c.loop-m.invariant.tops in
-    topped_stops c.args.limit c.args.code.now _ _ c.unwind-in-Raising.ensures.stays.0 _ _ c.in-Some-unwind.stop c.in-Some-unwind.ensures.unwinds.goes one
+pub returns-in-Some-clause-looks : goal.returns-in-Some-clause-looks
+returns-in-Some-clause-looks g c =
+    let cells = g.C.Cells.cells in
+    let begun = state_of c.args.m.now (cells c.args.view.now) in
+    let here = state_of c.loop-stop.m (cells c.loop-stop.view) in
+    let calmed = state_of c.unwind.new.m (cells c.unwind.new.view) in
+    looked_later c.args.limit c.args.code.now c.in-Some.stop begun here calmed c.args.m.now.looks c.loop-stop.m.looks c.unwind.new.m.looks c.loop-stop.invariant.looks c.in-Some.ensures.looks
+
+pub stride-requires-clause-clear : goal.stride-requires-clause-clear
+stride-requires-clause-clear g c =
+    let i = c.loop-stop.invariant in
+    let u = c.in-None.ensures.unwinds in
+    let calm = comes_on c.args.limit c.args.code.now _ _ _ i.came u.goes.0 in
+    never_on c.args.limit c.args.code.now _ _ calm c.requires.clear
+
+pub returns-in-Beyond-clause-stops : goal.returns-in-Beyond-clause-stops
+returns-in-Beyond-clause-stops g c =
+    let i = c.loop-stop.invariant in
+    let u = c.in-None.ensures.unwinds in
+    let s = c.in-Beyond.ensures.strides in
+    let calm = comes_on c.args.limit c.args.code.now _ _ _ i.came u.goes.0 in
+    let came = comes_on c.args.limit c.args.code.now _ _ _ calm s.came in
+    (came, s.ends)
+
+pub returns-in-Beyond-clause-halts : goal.returns-in-Beyond-clause-halts
+returns-in-Beyond-clause-halts g c =
+    let i = c.loop-stop.invariant in
+    (c.stride.ensures.halts.0 ∙ c.unwind.ensures.halts.0 ∙ i.halts.0, λ t. c.stride.ensures.halts.1 (c.unwind.ensures.halts.1 (i.halts.1 t)))
+
+pub returns-in-Beyond-clause-stays : goal.returns-in-Beyond-clause-stays
+returns-in-Beyond-clause-stays g c =
+    let i = c.loop-stop.invariant in
+    let stays = stays_on (g.C.Cells.floor) (g.C.Cells.whole) (g.C.Cells.place) (stays_on (g.C.Cells.floor) (g.C.Cells.whole) (g.C.Cells.place) i.stays c.unwind.ensures.stays) c.stride.ensures.stays in
+    stays
+
+pub returns-in-Beyond-clause-tops : goal.returns-in-Beyond-clause-tops
+returns-in-Beyond-clause-tops g c =
+    let i = c.loop-stop.invariant in
+    let u = c.in-None.ensures.unwinds in
+    let s = c.in-Beyond.ensures.strides in
+    let tops = topped_comes c.args.limit c.args.code.now _ _ c.stride.ensures.stays.0 _ _ s.came (topped_comes c.args.limit c.args.code.now _ _ c.unwind.ensures.stays.0 _ _ u.goes.0 i.tops) in
+    tops
+
+pub returns-in-Beyond-clause-looks : goal.returns-in-Beyond-clause-looks
+returns-in-Beyond-clause-looks g c =
+    let i = c.loop-stop.invariant in
+    let cells = g.C.Cells.cells in
+    let begun = state_of c.args.m.now (cells c.args.view.now) in
+    let here = state_of c.loop-stop.m (cells c.loop-stop.view) in
+    let calmed = state_of c.unwind.new.m (cells c.unwind.new.view) in
+    let strode = state_of c.stride.new.m (cells c.stride.new.view) in
+    let looked = looked_run c.args.limit c.args.code.now begun here calmed c.args.m.now.looks c.loop-stop.m.looks c.unwind.new.m.looks i.looks c.in-None.ensures.looks in
+    let looks = looked_run c.args.limit c.args.code.now begun calmed strode c.args.m.now.looks c.unwind.new.m.looks c.stride.new.m.looks looked c.stride.ensures.looks in
+    looks
+
+pub proceed-requires-clause-whole : goal.proceed-requires-clause-whole
+proceed-requires-clause-whole g c = c.stride.ensures.stays.1 (c.unwind.ensures.stays.1 (c.loop-stop.invariant.stays.1 c.requires.whole))
+
+pub proceed-requires-clause-tops : goal.proceed-requires-clause-tops
+proceed-requires-clause-tops g c =
+    let i = c.loop-stop.invariant in
+    let u = c.in-None.ensures.unwinds in
+    let s = c.in-More.ensures.strides in
+    let tops = topped_comes c.args.limit c.args.code.now _ _ c.stride.ensures.stays.0 _ _ s.came (topped_comes c.args.limit c.args.code.now _ _ c.unwind.ensures.stays.0 _ _ u.goes.0 i.tops) in
+    tops
+
+pub proceed-requires-clause-more : goal.proceed-requires-clause-more
+proceed-requires-clause-more g c = c.in-More.ensures.strides.ends.2
+
+pub proceed-requires-clause-calm : goal.proceed-requires-clause-calm
+proceed-requires-clause-calm g c = c.in-More.ensures.strides.ends.1
+
+pub loop-stop-preserved-in-Raises : goal.loop-stop-preserved-in-Raises
+loop-stop-preserved-in-Raises g c =
+    let i = c.loop-stop.invariant in
+    let u = c.in-None.ensures.unwinds in
+    let s = c.in-Raises.ensures.strides in
+    let calm = comes_on c.args.limit c.args.code.now _ _ _ i.came u.goes.0 in
+    let came = comes_on c.args.limit c.args.code.now _ _ _ calm s.came in
+    let cells = g.C.Cells.cells in
+    let begun = state_of c.args.m.now (cells c.args.view.now) in
+    let here = state_of c.loop-stop.m (cells c.loop-stop.view) in
+    let calmed = state_of c.unwind.new.m (cells c.unwind.new.view) in
+    let strode = state_of c.stride.new.m (cells c.stride.new.view) in
+    let looked = looked_run c.args.limit c.args.code.now begun here calmed c.args.m.now.looks c.loop-stop.m.looks c.unwind.new.m.looks i.looks c.in-None.ensures.looks in
+    let looks = looked_run c.args.limit c.args.code.now begun calmed strode c.args.m.now.looks c.unwind.new.m.looks c.stride.new.m.looks looked c.stride.ensures.looks in
+    let stays = stays_on (g.C.Cells.floor) (g.C.Cells.whole) (g.C.Cells.place) (stays_on (g.C.Cells.floor) (g.C.Cells.whole) (g.C.Cells.place) i.stays c.unwind.ensures.stays) c.stride.ensures.stays in
+    let tops = topped_comes c.args.limit c.args.code.now _ _ c.stride.ensures.stays.0 _ _ s.came (topped_comes c.args.limit c.args.code.now _ _ c.unwind.ensures.stays.0 _ _ u.goes.0 i.tops) in
+    record {
+      came = came;
+      ready = s.ready;
+      clear = never_on c.args.limit c.args.code.now _ _ came c.requires.clear;
+      within = s.within;
+      looks = looks;
+      stays = stays;
+      tops = tops;
+      halts = (c.stride.ensures.halts.0 ∙ c.unwind.ensures.halts.0 ∙ i.halts.0, λ t. c.stride.ensures.halts.1 (c.unwind.ensures.halts.1 (i.halts.1 t)));
+    }
+
+pub loop-stop-smaller-in-Raises : goal.loop-stop-smaller-in-Raises
+loop-stop-smaller-in-Raises g c = omega (arith, c.in-Raises.ensures.strides.ends.0, c.in-None.ensures.unwinds.falls)
+
+pub loop-stop-preserved-in-On : goal.loop-stop-preserved-in-On
+loop-stop-preserved-in-On g c =
+    let i = c.loop-stop.invariant in
+    let u = c.in-None.ensures.unwinds in
+    let s = c.in-More.ensures.strides in
+    let t = c.in-On.ensures.steps in
+    let calm = comes_on c.args.limit c.args.code.now _ _ _ i.came u.goes.0 in
+    let came = comes_on c.args.limit c.args.code.now _ _ _ calm s.came in
+    let after = comes_on c.args.limit c.args.code.now _ _ _ came (comes_one c.args.limit c.args.code.now _ _ t.goes.0) in
+    let cells = g.C.Cells.cells in
+    let begun = state_of c.args.m.now (cells c.args.view.now) in
+    let here = state_of c.loop-stop.m (cells c.loop-stop.view) in
+    let calmed = state_of c.unwind.new.m (cells c.unwind.new.view) in
+    let strode = state_of c.stride.new.m (cells c.stride.new.view) in
+    let looked = looked_run c.args.limit c.args.code.now begun here calmed c.args.m.now.looks c.loop-stop.m.looks c.unwind.new.m.looks i.looks c.in-None.ensures.looks in
+    let looks = looked_run c.args.limit c.args.code.now begun calmed strode c.args.m.now.looks c.unwind.new.m.looks c.stride.new.m.looks looked c.stride.ensures.looks in
+    let proceeded = state_of c.proceed.new.m (cells c.proceed.new.view) in
+    let stays = stays_on (g.C.Cells.floor) (g.C.Cells.whole) (g.C.Cells.place) (stays_on (g.C.Cells.floor) (g.C.Cells.whole) (g.C.Cells.place) i.stays c.unwind.ensures.stays) c.stride.ensures.stays in
+    let tops = topped_comes c.args.limit c.args.code.now _ _ c.stride.ensures.stays.0 _ _ s.came (topped_comes c.args.limit c.args.code.now _ _ c.unwind.ensures.stays.0 _ _ u.goes.0 i.tops) in
+    record {
+      came = after;
+      ready = t.ready;
+      clear = never_on c.args.limit c.args.code.now _ _ after c.requires.clear;
+      within = t.within;
+      looks = looked_step c.args.limit c.args.code.now begun strode proceeded c.args.m.now.looks c.stride.new.m.looks _ looks refl t.goes.0 c.in-On.ensures.looks;
+      stays = stays_on (g.C.Cells.floor) (g.C.Cells.whole) (g.C.Cells.place) stays c.proceed.ensures.stays;
+      tops = topped_one c.args.limit c.args.code.now _ _ c.proceed.ensures.stays.0 _ _ t.goes.0 tops;
+      halts = (c.proceed.ensures.halts.0 ∙ c.stride.ensures.halts.0 ∙ c.unwind.ensures.halts.0 ∙ i.halts.0, λ t. c.proceed.ensures.halts.1 (c.stride.ensures.halts.1 (c.unwind.ensures.halts.1 (i.halts.1 t))));
+    }
+
+pub loop-stop-smaller-in-On : goal.loop-stop-smaller-in-On
+loop-stop-smaller-in-On g c = omega (arith, c.in-On.ensures.steps.falls, c.in-More.ensures.strides.ends.0, c.in-None.ensures.unwinds.falls)
+
+pub loop-stop-preserved : goal.loop-stop-preserved
+loop-stop-preserved g c =
+    let i = c.loop-stop.invariant in
+    let u = c.in-None.ensures.unwinds in
+    let s = c.in-More.ensures.strides in
+    let t = c.in-Raising.ensures.steps in
+    let calm = comes_on c.args.limit c.args.code.now _ _ _ i.came u.goes.0 in
+    let came = comes_on c.args.limit c.args.code.now _ _ _ calm s.came in
+    let after = comes_on c.args.limit c.args.code.now _ _ _ came (comes_one c.args.limit c.args.code.now _ _ t.goes) in
+    let cells = g.C.Cells.cells in
+    let begun = state_of c.args.m.now (cells c.args.view.now) in
+    let here = state_of c.loop-stop.m (cells c.loop-stop.view) in
+    let calmed = state_of c.unwind.new.m (cells c.unwind.new.view) in
+    let strode = state_of c.stride.new.m (cells c.stride.new.view) in
+    let looked = looked_run c.args.limit c.args.code.now begun here calmed c.args.m.now.looks c.loop-stop.m.looks c.unwind.new.m.looks i.looks c.in-None.ensures.looks in
+    let looks = looked_run c.args.limit c.args.code.now begun calmed strode c.args.m.now.looks c.unwind.new.m.looks c.stride.new.m.looks looked c.stride.ensures.looks in
+    let proceeded = state_of c.proceed.new.m (cells c.proceed.new.view) in
+    let stays = stays_on (g.C.Cells.floor) (g.C.Cells.whole) (g.C.Cells.place) (stays_on (g.C.Cells.floor) (g.C.Cells.whole) (g.C.Cells.place) i.stays c.unwind.ensures.stays) c.stride.ensures.stays in
+    let tops = topped_comes c.args.limit c.args.code.now _ _ c.stride.ensures.stays.0 _ _ s.came (topped_comes c.args.limit c.args.code.now _ _ c.unwind.ensures.stays.0 _ _ u.goes.0 i.tops) in
+    record {
+      came = after;
+      ready = t.ready;
+      clear = never_on c.args.limit c.args.code.now _ _ after c.requires.clear;
+      within = t.within;
+      looks = looked_step c.args.limit c.args.code.now begun strode proceeded c.args.m.now.looks c.stride.new.m.looks _ looks refl t.goes c.in-Raising.ensures.looks;
+      stays = stays_on (g.C.Cells.floor) (g.C.Cells.whole) (g.C.Cells.place) stays c.proceed.ensures.stays;
+      tops = topped_one c.args.limit c.args.code.now _ _ c.proceed.ensures.stays.0 _ _ t.goes tops;
+      halts = (c.proceed.ensures.halts.0 ∙ c.stride.ensures.halts.0 ∙ c.unwind.ensures.halts.0 ∙ i.halts.0, λ t. c.proceed.ensures.halts.1 (c.stride.ensures.halts.1 (c.unwind.ensures.halts.1 (i.halts.1 t))));
+    }
+
+pub loop-stop-smaller : goal.loop-stop-smaller
+loop-stop-smaller g c = omega (arith, c.in-Raising.ensures.steps.falls, c.in-More.ensures.strides.ends.0, c.in-None.ensures.unwinds.falls)
+
+pub returns-in-Stopped-clause-stops : goal.returns-in-Stopped-clause-stops
+returns-in-Stopped-clause-stops g c =
+    let i = c.loop-stop.invariant in
+    let u = c.in-None.ensures.unwinds in
+    let s = c.in-More.ensures.strides in
+    let calm = comes_on c.args.limit c.args.code.now _ _ _ i.came u.goes.0 in
+    let came = comes_on c.args.limit c.args.code.now _ _ _ calm s.came in
+    let stops = stops_after c.args.limit c.args.code.now c.in-Stopped.stop _ _ _ came c.in-Stopped.ensures.steps.goes in
+    stops
+
+pub returns-in-Stopped-clause-halts : goal.returns-in-Stopped-clause-halts
+returns-in-Stopped-clause-halts g c =
+    let i = c.loop-stop.invariant in
+    (c.proceed.ensures.halts.0 ∙ c.stride.ensures.halts.0 ∙ c.unwind.ensures.halts.0 ∙ i.halts.0, λ t. c.proceed.ensures.halts.1 (c.stride.ensures.halts.1 (c.unwind.ensures.halts.1 (i.halts.1 t))))
+
+pub returns-in-Stopped-clause-stays : goal.returns-in-Stopped-clause-stays
+returns-in-Stopped-clause-stays g c =
+    let i = c.loop-stop.invariant in
+    let stays = stays_on (g.C.Cells.floor) (g.C.Cells.whole) (g.C.Cells.place) (stays_on (g.C.Cells.floor) (g.C.Cells.whole) (g.C.Cells.place) i.stays c.unwind.ensures.stays) c.stride.ensures.stays in
+    stays_on (g.C.Cells.floor) (g.C.Cells.whole) (g.C.Cells.place) stays c.proceed.ensures.stays
 
 pub returns-in-Stopped-clause-tops : goal.returns-in-Stopped-clause-tops
 returns-in-Stopped-clause-tops g c =
-    topped_stops c.args.limit c.args.code.now _ _ (stays_on (g.C.Cells.floor) (g.C.Cells.whole) (g.C.Cells.place) c.loop-m.invariant.stays c.advance.ensures.stays).0 _ _ c.in-Stopped.stop (stops_after c.args.limit c.args.code.now c.in-Stopped.stop _ _ _ c.loop-m.invariant.came c.in-Stopped.ensures.steps.goes) c.requires.tops
-
-pub returns-in-Some-clause-looks : goal.returns-in-Some-clause-looks
-returns-in-Some-clause-looks g c = c.in-Some.ensures.looks
-
-pub returns-in-Some-unwind-clause-looks : goal.returns-in-Some-unwind-clause-looks
-returns-in-Some-unwind-clause-looks g c =
-    looked_later c.args.limit c.args.code.now c.in-Some-unwind.stop (state_of c.args.m.now (g.C.Cells.cells c.args.view.now)) (state_of c.advance.new.m (g.C.Cells.cells c.advance.new.view)) (state_of c.unwind-in-Raising.new.m (g.C.Cells.cells c.unwind-in-Raising.new.view)) c.args.m.now.looks c.advance.new.m.looks c.unwind-in-Raising.new.m.looks
-    (looked_step c.args.limit c.args.code.now (state_of c.args.m.now (g.C.Cells.cells c.args.view.now)) (state_of c.loop-m.m (g.C.Cells.cells c.loop-m.view)) (state_of c.advance.new.m (g.C.Cells.cells c.advance.new.view)) c.args.m.now.looks c.loop-m.m.looks _ c.loop-m.invariant.looks refl c.in-Raising.ensures.steps.goes c.in-Raising.ensures.looks) c.in-Some-unwind.ensures.looks
+    let i = c.loop-stop.invariant in
+    let u = c.in-None.ensures.unwinds in
+    let s = c.in-More.ensures.strides in
+    let calm = comes_on c.args.limit c.args.code.now _ _ _ i.came u.goes.0 in
+    let came = comes_on c.args.limit c.args.code.now _ _ _ calm s.came in
+    let stops = stops_after c.args.limit c.args.code.now c.in-Stopped.stop _ _ _ came c.in-Stopped.ensures.steps.goes in
+    let stays = stays_on (g.C.Cells.floor) (g.C.Cells.whole) (g.C.Cells.place) (stays_on (g.C.Cells.floor) (g.C.Cells.whole) (g.C.Cells.place) i.stays c.unwind.ensures.stays) c.stride.ensures.stays in
+    topped_stops c.args.limit c.args.code.now _ _ (stays_on (g.C.Cells.floor) (g.C.Cells.whole) (g.C.Cells.place) stays c.proceed.ensures.stays).0 _ _ c.in-Stopped.stop stops c.requires.tops
 
 pub returns-in-Stopped-clause-looks : goal.returns-in-Stopped-clause-looks
-returns-in-Stopped-clause-looks g c = looked_stops c.args.limit c.args.code.now c.in-Stopped.stop (state_of c.args.m.now (g.C.Cells.cells c.args.view.now)) (state_of c.loop-m.m (g.C.Cells.cells c.loop-m.view)) (state_of c.advance.new.m (g.C.Cells.cells c.advance.new.view)) c.args.m.now.looks c.loop-m.m.looks _ c.loop-m.invariant.looks refl c.in-Stopped.ensures.steps.goes c.in-Stopped.ensures.looks
+returns-in-Stopped-clause-looks g c =
+    let i = c.loop-stop.invariant in
+    let cells = g.C.Cells.cells in
+    let begun = state_of c.args.m.now (cells c.args.view.now) in
+    let here = state_of c.loop-stop.m (cells c.loop-stop.view) in
+    let calmed = state_of c.unwind.new.m (cells c.unwind.new.view) in
+    let strode = state_of c.stride.new.m (cells c.stride.new.view) in
+    let looked = looked_run c.args.limit c.args.code.now begun here calmed c.args.m.now.looks c.loop-stop.m.looks c.unwind.new.m.looks i.looks c.in-None.ensures.looks in
+    let looks = looked_run c.args.limit c.args.code.now begun calmed strode c.args.m.now.looks c.unwind.new.m.looks c.stride.new.m.looks looked c.stride.ensures.looks in
+    let proceeded = state_of c.proceed.new.m (cells c.proceed.new.view) in
+    looked_stops c.args.limit c.args.code.now c.in-Stopped.stop begun strode proceeded c.args.m.now.looks c.stride.new.m.looks _ looks refl c.in-Stopped.ensures.steps.goes c.in-Stopped.ensures.looks

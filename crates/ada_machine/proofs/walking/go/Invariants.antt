@@ -1,4 +1,4 @@
-use Rattle.std.proofs.Common.{◌≡◌, ℕ, ◌≤◌, None}
+use Rattle.std.proofs.Common.{◌≡◌, ℕ, ◌≤◌}
 use Rattle.stack_code.specs.Machine.{Comes}
 use Rattle.stack_code.specs.Runs.{NeverStuck}
 use Rattle.stack_code.specs.Stands.{rank}
@@ -8,11 +8,10 @@ use Rattle.ada_machine.specs.Places.{Stays}
 use Rattle.ada_machine.specs.States.{state_of, Ready, more}
 use Rattle.ada_machine.proofs.walking.go.Given as goal
 
-abbrev pub invariant-loop-m : goal.invariant-loop-m
-invariant-loop-m g l = record {
+abbrev pub invariant-loop-stop : goal.invariant-loop-stop
+invariant-loop-stop g l = record {
   came : Comes l.limit l.code (state_of l.fn.m (g.C.Cells.cells l.fn.view)) (state_of l.m (g.C.Cells.cells l.view));
   ready : Ready l.code l.m (g.C.Cells.cells l.view);
-  calm : l.m.raising ≡ None;
   clear : NeverStuck l.limit l.code (state_of l.m (g.C.Cells.cells l.view));
   within : l.m.turns ≤ l.limit;
   looks : (n : ℕ) × (l.m.looks ≡ more l.fn.m.looks n) × Looks l.limit l.code n (state_of l.fn.m (g.C.Cells.cells l.fn.view)) (state_of l.m (g.C.Cells.cells l.view));
@@ -21,5 +20,5 @@ invariant-loop-m g l = record {
   halts : (g.H.Halt.kept l.halt ≡ g.H.Halt.kept l.fn.halt) × (g.H.Halt.told l.fn.halt → g.H.Halt.told l.halt);
 }
 
-abbrev pub decreases-loop-m : goal.decreases-loop-m
-decreases-loop-m g l = rank l.code l.limit (state_of l.m (g.C.Cells.cells l.view))
+abbrev pub decreases-loop-stop : goal.decreases-loop-stop
+decreases-loop-stop g l = rank l.code l.limit (state_of l.m (g.C.Cells.cells l.view))

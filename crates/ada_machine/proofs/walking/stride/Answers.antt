@@ -1,0 +1,193 @@
+use Rattle.std.proofs.Common.{◌≡◌, ◌≤◌, ◌<◌, ◌+◌, reverse, Some, refl, sym, ap, ◌∙◌, arith, subst}
+use Rattle.std.specs.Prelude.{◌⊎◌, ◌^◌, slice_index, EachIndex}
+use Rattle.stack_code.specs.Fits.{Finds}
+use Rattle.stack_code.specs.Deeds.{deed_of}
+use Rattle.stack_code.specs.declared.instr.Instr.TheVariants as instr
+use Rattle.stack_code.proofs.Runs.{comes_none, comes_one, comes_on, never_on}
+use Rattle.ada_machine.specs.declared.machine.Went.TheVariants as went
+use Rattle.ada_machine.specs.Played.{Exceeds, Overlaps, IsClear, Onward, Raised, plays}
+use Rattle.ada_machine.specs.States.{state_of, Steps}
+use Rattle.ada_machine.proofs.Keeping.{stays_on}
+use Rattle.ada_machine.proofs.Looking.{none_looks, same_looks, onward_none, raised_none, looked_none, looked_step}
+use Rattle.ada_machine.proofs.Readies.{fine_here}
+use Rattle.ada_machine.proofs.Steps.{clear_here, step_plays, step_raises}
+use Rattle.ada_machine.proofs.Unmoved.{looks_still, beyond_still, more_still}
+use Rattle.ada_machine.proofs.Walks.{goes_same, raises_same, turn_on, machine_here}
+use Rattle.ada_machine.proofs.walking.stride.Goals as goal
+
+pub loop-halt-init : goal.loop-halt-init
+loop-halt-init g c = record { came = comes_none c.args.limit c.args.code.now (state_of c.args.m.now (g.C.Cells.cells c.args.view.now)); ready = c.requires.ready; calm = c.requires.calm; clear = c.requires.clear; within = c.requires.within; looks = looked_none c.args.limit c.args.code.now (state_of c.args.m.now (g.C.Cells.cells c.args.view.now)) c.args.m.now.looks; stays = (refl, λ w. w, refl); halts = (refl, λ t. t); falls = omega arith }
+
+pub instr_at-instr-requires : goal.instr_at-instr-requires
+instr_at-instr-requires g c = machine_here c.args.code.now (record c.loop-halt.m { pc = c.loop-halt.pc }) (g.C.Cells.cells c.loop-halt.view) c.loop-halt.invariant.ready
+
+pub compute-requires : goal.compute-requires
+compute-requires g c =
+    let i = c.loop-halt.invariant in
+    let cells = g.C.Cells.cells c.loop-halt.view in
+    let m = record c.loop-halt.m { pc = c.loop-halt.pc } in
+    let at = c.instr_at-instr.ensures.instr in
+    let f = fine_here c.args.code.now i.ready.low i.ready.valid m cells c.instr_at-instr.result.now i.ready.stands i.ready.roomy i.calm at in
+    record {
+      operands = omega (arith, f.operands);
+      room = omega (arith, f.room);
+      there = subst (λ fs. Finds c.args.code.now fs c.instr_at-instr.result.now) (sym c.as_slice.ensures.value) f.there;
+      base = i.ready.roomy.near;
+      near = subst (λ fs. EachIndex fs (λ k. slice_index fs k ≤ 2 ^ 62)) (sym c.as_slice.ensures.value) i.ready.roomy.frames;
+      next = c.instr_at-instr.ensures.near;
+      clear = subst (λ fs. IsClear (deed_of c.args.code.now m.pc (reverse m.stack.items) m.base fs c.instr_at-instr.result.now) cells) (sym c.as_slice.ensures.value)
+          (clear_here c.args.limit c.args.code.now (state_of m cells) c.instr_at-instr.result.now i.calm at i.clear);
+    }
+
+pub loop-halt-preserved : goal.loop-halt-preserved
+loop-halt-preserved g c =
+    let i = c.loop-halt.invariant in
+    let cells = g.C.Cells.cells c.loop-halt.view in
+    let cells' = g.C.Cells.cells c.compute.new.view in
+    let m = record c.loop-halt.m { pc = c.loop-halt.pc } in
+    let m' = record c.loop-halt.m { pc = c.in-To.to; stack = c.compute.new.stack } in
+    let deed : plays (deed_of c.args.code.now m.pc (reverse m.stack.items) m.base m.outward.items c.instr_at-instr.result.now) cells ≡ Onward c.in-To.to (reverse c.compute.new.stack.items) cells' =
+    subst (λ fs. plays (deed_of c.args.code.now m.pc (reverse m.stack.items) m.base fs c.instr_at-instr.result.now) cells ≡ Onward c.in-To.to (reverse c.compute.new.stack.items) cells') c.as_slice.ensures.value c.in-To.ensures.deed in
+    let s : Steps c.args.limit c.args.code.now went.On m cells m' cells' = goes_same c.args.limit c.args.code.now m m' cells cells' i.ready (state_of m' cells') i.within (step_plays c.args.limit c.args.code.now (state_of m cells) c.instr_at-instr.result.now i.calm c.instr_at-instr.ensures.instr c.in-To.to (reverse c.compute.new.stack.items) cells' deed) refl c.compute.ensures.room refl refl refl i.calm in
+    let one = comes_one c.args.limit c.args.code.now _ _ s.goes.0 in
+    record {
+      came = comes_on c.args.limit c.args.code.now _ _ _ i.came one;
+      ready = s.ready;
+      calm = i.calm;
+      clear = never_on c.args.limit c.args.code.now _ _ one i.clear;
+      within = s.within;
+      looks = looked_step c.args.limit c.args.code.now (state_of c.args.m.now (g.C.Cells.cells c.args.view.now)) (state_of m cells) (state_of m' cells') c.args.m.now.looks m.looks m.looks i.looks refl s.goes.0 (none_looks c.args.code.now (state_of m cells) c.instr_at-instr.result.now went.On m.looks m.looks i.calm c.instr_at-instr.ensures.instr (onward_none (deed_of c.args.code.now m.pc (reverse m.stack.items) m.base m.outward.items c.instr_at-instr.result.now) (state_of m cells) c.in-To.to (reverse c.compute.new.stack.items) cells' deed) refl);
+      stays = stays_on (g.C.Cells.floor) (g.C.Cells.whole) (g.C.Cells.place) i.stays c.compute.ensures.stays;
+      halts = i.halts;
+      falls = omega (arith, i.falls, s.falls);
+    }
+
+pub loop-halt-smaller : goal.loop-halt-smaller
+loop-halt-smaller g c =
+    let i = c.loop-halt.invariant in
+    let cells = g.C.Cells.cells c.loop-halt.view in
+    let cells' = g.C.Cells.cells c.compute.new.view in
+    let m = record c.loop-halt.m { pc = c.loop-halt.pc } in
+    let m' = record c.loop-halt.m { pc = c.in-To.to; stack = c.compute.new.stack } in
+    let deed : plays (deed_of c.args.code.now m.pc (reverse m.stack.items) m.base m.outward.items c.instr_at-instr.result.now) cells ≡ Onward c.in-To.to (reverse c.compute.new.stack.items) cells' =
+    subst (λ fs. plays (deed_of c.args.code.now m.pc (reverse m.stack.items) m.base fs c.instr_at-instr.result.now) cells ≡ Onward c.in-To.to (reverse c.compute.new.stack.items) cells') c.as_slice.ensures.value c.in-To.ensures.deed in
+    let s : Steps c.args.limit c.args.code.now went.On m cells m' cells' = goes_same c.args.limit c.args.code.now m m' cells cells' i.ready (state_of m' cells') i.within (step_plays c.args.limit c.args.code.now (state_of m cells) c.instr_at-instr.result.now i.calm c.instr_at-instr.ensures.instr c.in-To.to (reverse c.compute.new.stack.items) cells' deed) refl c.compute.ensures.room refl refl refl i.calm in
+    s.falls
+
+pub returns-in-Failed : goal.returns-in-Failed
+returns-in-Failed g c =
+    let i = c.loop-halt.invariant in
+    let cells = g.C.Cells.cells c.loop-halt.view in
+    let cells' = g.C.Cells.cells c.compute.new.view in
+    let m = record c.loop-halt.m { pc = c.loop-halt.pc } in
+    let m' = record c.loop-halt.m { pc = c.loop-halt.pc; stack = c.compute.new.stack; raising = Some c.in-Failed.reason } in
+    let deed : plays (deed_of c.args.code.now m.pc (reverse m.stack.items) m.base m.outward.items c.instr_at-instr.result.now) cells ≡ Raised c.in-Failed.reason (reverse c.compute.new.stack.items) cells' =
+    subst (λ fs. plays (deed_of c.args.code.now m.pc (reverse m.stack.items) m.base fs c.instr_at-instr.result.now) cells ≡ Raised c.in-Failed.reason (reverse c.compute.new.stack.items) cells') c.as_slice.ensures.value c.in-Failed.ensures.deed in
+    let s : Steps c.args.limit c.args.code.now went.Raising m cells m' cells' = raises_same c.args.limit c.args.code.now m m' cells cells' i.ready (state_of m' cells') i.within (step_raises c.args.limit c.args.code.now (state_of m cells) c.instr_at-instr.result.now i.calm c.instr_at-instr.ensures.instr c.in-Failed.reason (reverse c.compute.new.stack.items) cells' deed) refl c.compute.ensures.room refl refl refl in
+    record {
+      strides = record { came = comes_on c.args.limit c.args.code.now _ _ _ i.came (comes_one c.args.limit c.args.code.now _ _ s.goes); ready = s.ready; within = s.within; ends = (omega (arith, i.falls, s.falls), refl) };
+      halts = i.halts;
+      stays = stays_on (g.C.Cells.floor) (g.C.Cells.whole) (g.C.Cells.place) i.stays c.compute.ensures.stays;
+      looks = looked_step c.args.limit c.args.code.now (state_of c.args.m.now (g.C.Cells.cells c.args.view.now)) (state_of m cells) (state_of m' cells') c.args.m.now.looks m.looks m.looks i.looks refl s.goes (none_looks c.args.code.now (state_of m cells) c.instr_at-instr.result.now went.Raising m.looks m.looks i.calm c.instr_at-instr.ensures.instr (raised_none (deed_of c.args.code.now m.pc (reverse m.stack.items) m.base m.outward.items c.instr_at-instr.result.now) (state_of m cells) c.in-Failed.reason (reverse c.compute.new.stack.items) cells' deed) refl);
+    }
+
+pub loop-halt-preserved-in-Turn : goal.loop-halt-preserved-in-Turn
+loop-halt-preserved-in-Turn g c =
+    let i = c.loop-halt.invariant in
+    let cells = g.C.Cells.cells c.loop-halt.view in
+    let m = record c.loop-halt.m { pc = c.loop-halt.pc } in
+    let m' = record c.loop-halt.m { pc = c.loop-halt.pc + 1; turns = c.loop-halt.m.turns + 1; looks = c.saturating_add-m.result } in
+    let at = c.instr_at-instr.ensures.instr ∙ ap Some c.in-Turn.is in
+    let l : m.turns < c.args.limit = omega (arith, i.within) in
+    let s : Steps c.args.limit c.args.code.now went.On m cells m' cells = goes_same c.args.limit c.args.code.now m m' cells cells i.ready (state_of m' cells) i.within (turn_on c.args.limit c.args.code.now m m' cells cells i.ready i.calm at l) refl refl refl refl refl i.calm in
+    let one = comes_one c.args.limit c.args.code.now _ _ s.goes.0 in
+    record {
+      came = comes_on c.args.limit c.args.code.now _ _ _ i.came one;
+      ready = s.ready;
+      calm = i.calm;
+      clear = never_on c.args.limit c.args.code.now _ _ one i.clear;
+      within = s.within;
+      looks = looked_step c.args.limit c.args.code.now (state_of c.args.m.now (g.C.Cells.cells c.args.view.now)) (state_of m cells) (state_of m' cells) c.args.m.now.looks m.looks m'.looks i.looks refl s.goes.0 (same_looks c.args.code.now (state_of m cells) instr.Turn went.On m.looks m'.looks 1 i.calm at refl c.saturating_add-m.ensures);
+      stays = i.stays;
+      halts = (c.asked.ensures.kept ∙ i.halts.0, λ t. c.asked.ensures.stays (i.halts.1 t));
+      falls = omega (arith, i.falls, s.falls);
+    }
+
+pub loop-halt-smaller-in-Turn : goal.loop-halt-smaller-in-Turn
+loop-halt-smaller-in-Turn g c =
+    let i = c.loop-halt.invariant in
+    let cells = g.C.Cells.cells c.loop-halt.view in
+    let m = record c.loop-halt.m { pc = c.loop-halt.pc } in
+    let m' = record c.loop-halt.m { pc = c.loop-halt.pc + 1; turns = c.loop-halt.m.turns + 1; looks = c.saturating_add-m.result } in
+    let at = c.instr_at-instr.ensures.instr ∙ ap Some c.in-Turn.is in
+    let l : m.turns < c.args.limit = omega (arith, i.within) in
+    let s : Steps c.args.limit c.args.code.now went.On m cells m' cells = goes_same c.args.limit c.args.code.now m m' cells cells i.ready (state_of m' cells) i.within (turn_on c.args.limit c.args.code.now m m' cells cells i.ready i.calm at l) refl refl refl refl refl i.calm in
+    s.falls
+
+pub returns-in-Beyond : goal.returns-in-Beyond
+returns-in-Beyond g c =
+    let i = c.loop-halt.invariant in
+    let cells = g.C.Cells.cells c.loop-halt.view in
+    let cells' = g.C.Cells.cells c.compute.new.view in
+    let m = record c.loop-halt.m { pc = c.loop-halt.pc } in
+    let m' = record c.loop-halt.m { pc = c.loop-halt.pc; stack = c.compute.new.stack } in
+    let d = c.in-Beyond.ensures.deed in
+    let same : state_of m' cells' ≡ state_of m cells = ap (λ st. record (state_of m cells') { stack = st }) d.1 ∙ ap (λ w. state_of m w) d.2 in
+    let wide : Exceeds (deed_of c.args.code.now m.pc (reverse m.stack.items) m.base m.outward.items c.instr_at-instr.result.now) cells ⊎ Overlaps c.instr_at-instr.result.now (reverse m.stack.items) =
+    subst (λ fs. Exceeds (deed_of c.args.code.now m.pc (reverse m.stack.items) m.base fs c.instr_at-instr.result.now) cells ⊎ Overlaps c.instr_at-instr.result.now (reverse m.stack.items)) c.as_slice.ensures.value d.0 in
+    record {
+      strides = beyond_still c.args.limit c.args.code.now m m' cells cells' same c.args.m.now (g.C.Cells.cells c.args.view.now) i.came c.compute.ensures.room i.ready i.within i.calm c.instr_at-instr.result.now c.instr_at-instr.ensures.instr wide;
+      halts = i.halts;
+      stays = stays_on (g.C.Cells.floor) (g.C.Cells.whole) (g.C.Cells.place) i.stays c.compute.ensures.stays;
+      looks = looks_still c.args.limit c.args.code.now m m' cells cells' same (state_of c.args.m.now (g.C.Cells.cells c.args.view.now)) c.args.m.now.looks i.looks;
+    }
+
+pub returns-in-Other : goal.returns-in-Other
+returns-in-Other g c =
+    let i = c.loop-halt.invariant in
+    let cells = g.C.Cells.cells c.loop-halt.view in
+    let cells' = g.C.Cells.cells c.compute.new.view in
+    let m = record c.loop-halt.m { pc = c.loop-halt.pc } in
+    let m' = record c.loop-halt.m { pc = c.loop-halt.pc; stack = c.compute.new.stack } in
+    let d = c.in-Other.ensures.deed in
+    let same : state_of m' cells' ≡ state_of m cells = ap (λ st. record (state_of m cells') { stack = reverse st }) d.1 ∙ ap (λ w. state_of m w) d.2 in
+    record {
+      strides = more_still c.args.limit c.args.code.now m m' cells cells' same c.args.m.now (g.C.Cells.cells c.args.view.now) i.came c.compute.ensures.room i.ready i.within i.calm c.instr_at-instr.result.now c.instr_at-instr.ensures.instr i.falls d.0;
+      halts = i.halts;
+      stays = stays_on (g.C.Cells.floor) (g.C.Cells.whole) (g.C.Cells.place) i.stays c.compute.ensures.stays;
+      looks = looks_still c.args.limit c.args.code.now m m' cells cells' same (state_of c.args.m.now (g.C.Cells.cells c.args.view.now)) c.args.m.now.looks i.looks;
+    }
+
+pub returns-then-asked-clause-strides : goal.returns-then-asked-clause-strides
+returns-then-asked-clause-strides g c =
+    let i = c.loop-halt.invariant in
+    let cells = g.C.Cells.cells c.loop-halt.view in
+    let m = record c.loop-halt.m { pc = c.loop-halt.pc } in
+    let at = c.instr_at-instr.ensures.instr ∙ ap Some c.in-Turn.is in
+    more_still c.args.limit c.args.code.now m m cells cells refl c.args.m.now (g.C.Cells.cells c.args.view.now) i.came refl i.ready i.within i.calm instr.Turn at i.falls tt
+
+pub returns-then-asked-clause-halts : goal.returns-then-asked-clause-halts
+returns-then-asked-clause-halts g c = (c.asked.ensures.kept ∙ c.loop-halt.invariant.halts.0, λ t. c.asked.ensures.stays (c.loop-halt.invariant.halts.1 t))
+
+pub returns-then-asked-clause-stays : goal.returns-then-asked-clause-stays
+returns-then-asked-clause-stays g c = c.loop-halt.invariant.stays
+
+pub returns-then-asked-clause-looks : goal.returns-then-asked-clause-looks
+returns-then-asked-clause-looks g c = c.loop-halt.invariant.looks
+
+pub returns-then-m-limit-clause-strides : goal.returns-then-m-limit-clause-strides
+returns-then-m-limit-clause-strides g c =
+    let i = c.loop-halt.invariant in
+    let cells = g.C.Cells.cells c.loop-halt.view in
+    let m = record c.loop-halt.m { pc = c.loop-halt.pc } in
+    let at = c.instr_at-instr.ensures.instr ∙ ap Some c.in-Turn.is in
+    more_still c.args.limit c.args.code.now m m cells cells refl c.args.m.now (g.C.Cells.cells c.args.view.now) i.came refl i.ready i.within i.calm instr.Turn at i.falls tt
+
+pub returns-then-m-limit-clause-halts : goal.returns-then-m-limit-clause-halts
+returns-then-m-limit-clause-halts g c = (c.asked.ensures.kept ∙ c.loop-halt.invariant.halts.0, λ t. c.asked.ensures.stays (c.loop-halt.invariant.halts.1 t))
+
+pub returns-then-m-limit-clause-stays : goal.returns-then-m-limit-clause-stays
+returns-then-m-limit-clause-stays g c = c.loop-halt.invariant.stays
+
+pub returns-then-m-limit-clause-looks : goal.returns-then-m-limit-clause-looks
+returns-then-m-limit-clause-looks g c = c.loop-halt.invariant.looks

@@ -1,0 +1,24 @@
+-- What a stretch of instructions comes to that need operands, cells and turns alone.
+use Rattle.std.specs.Prelude.{◌≡◌, ℕ, ◌<◌, ◌≤◌, List, None, IsSome, IsSomeAnd, slice_get}
+use Rattle.stack_code.specs.declared.code.Code.{Code}
+use Rattle.stack_code.specs.Machine.{State, Comes}
+use Rattle.stack_code.specs.Stands.{rank}
+use Rattle.ada_base.specs.Cells.{Cell}
+use Rattle.ada_machine.specs.declared.machine.Machine.{Machine}
+use Rattle.ada_machine.specs.declared.walking.Stretch.{Stretch}
+use Rattle.ada_machine.specs.declared.walking.Stretch.TheVariants.{Raises, More, Beyond}
+use Rattle.ada_machine.specs.Played.{AsksMore}
+use Rattle.ada_machine.specs.States.{state_of, Ready, Wants}
+
+-- an exception is being raised, and the rank has fallen; or the next instruction asks for more; or a number of it isn't in 64
+-- bits, or it would overwrite what it has yet to copy
+abbrev pub Reaches : Stretch → Code → State → (rank' rank : ℕ) → Type 0
+Reaches Raises c q r' r = (r' < r) × IsSome q.raising
+Reaches More c q r' r = (r' ≤ r) × (q.raising ≡ None) × IsSomeAnd (slice_get c.instrs q.pc) (λ i. AsksMore i)
+Reaches Beyond c q r' r = Wants c q
+
+pub record Strides (limit : ℕ) (c : Code) (r : Stretch) (m : Machine) (cells : List Cell) (m' : Machine) (cells' : List Cell) : Type 0 where
+  pub came : Comes limit c (state_of m cells) (state_of m' cells')
+  pub ready : Ready c m' cells'
+  pub within : m'.turns ≤ limit
+  pub ends : Reaches r c (state_of m' cells') (rank c limit (state_of m' cells')) (rank c limit (state_of m cells))
