@@ -142,6 +142,7 @@ impl<'a> View<'a> {
     }
 
     /// The value of a cell that it may read. It takes no memory and no search.
+    #[inline(always)]
     pub fn get(&self, at: u64) -> i64
         requires { is_gone (cell_at self.now at) ≡ false }
         ensures { result ≡ value_of (cell_at self.now at) }
@@ -156,6 +157,7 @@ impl<'a> View<'a> {
     }
 
     /// Gives a cell that it may write a value. It takes no memory and no search.
+    #[inline(always)]
     pub fn set(&mut self, at: u64, value: i64)
         requires { is_mine (cell_at self.old at) ≡ true }
         ensures { self.new ≡ stored self.old at value }

@@ -66,6 +66,7 @@ fn zeros(cells: &mut Cells<i64>, base: Base<i64>, many: usize)
 
 impl Part {
     /// The value of a cell that it owns. It takes no memory and no search.
+    #[inline(always)]
     pub fn get(&self, at: u64) -> i64
         requires { owns self.now at ≡ true }
         ensures { cell self.now at ≡ Some result }
@@ -74,6 +75,7 @@ impl Part {
     }
 
     /// Gives a cell that it owns a value. It takes no memory and no search.
+    #[inline(always)]
     pub fn set(&mut self, at: u64, value: i64)
         requires { owns self.old at ≡ true }
         ensures { self.new ≡ stored self.old at value }
@@ -84,6 +86,7 @@ impl Part {
     }
 
     /// The value of a cell that one of two parts of a block owns, by one load: it doesn't ask which of them.
+    #[inline(always)]
     pub fn either(&self, other: &Part, at: u64) -> i64
         requires block { self.now.block ≡ other.now.block }
         requires there { is_there (either_cell self.now other.now at) ≡ true }
