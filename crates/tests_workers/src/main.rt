@@ -7,33 +7,35 @@ mod strips;
 mod tests;
 mod walker;
 
-use ada_workers::NoMemory;
-use std::alloc::AllocError;
 use std::io;
 
-fn held(came: Result<bool, NoMemory>) -> Result<bool, AllocError> {
-    came.map_err(|_| AllocError)
+// Whether it came to its end, and as it should.
+fn holds<E: Drop>(came: Result<bool, E>) -> bool {
+    match came {
+        Ok(held) => held,
+        Err(_) => false,
+    }
 }
 
 fn main(rt: HostRuntime) -> io::Result<()> {
     let alloc = rt.alloc();
-    println!(rt; "cells one and four: {}", strips::strided(alloc)?)?;
-    println!(rt; "empty region: {}", strips::empty_region(alloc)?)?;
-    println!(rt; "columns: {}", strips::columns(alloc)?)?;
-    println!(rt; "two blocks: {}", strips::two_blocks(alloc)?)?;
-    println!(rt; "overlapping rows: {}", strips::overlapping_rows(alloc)?)?;
-    println!(rt; "cells of a region: {}", strips::cells_of_a_region())?;
-    println!(rt; "two seats: {}", boards::two_workers(alloc)?)?;
-    println!(rt; "halt: {}", boards::halt_asks(alloc)?)?;
-    println!(rt; "one worker: {}", held(tests::all_write(&rt, alloc, 1))?)?;
-    println!(rt; "four workers: {}", held(tests::all_write(&rt, alloc, 4))?)?;
-    println!(rt; "64 workers: {}", held(tests::all_write(&rt, alloc, 64))?)?;
-    println!(rt;
-        "left in order: {}",
-        held(tests::leaving_in_order(&rt, alloc))?
-    )?;
-    println!(rt;
-        "left on four: {}",
-        held(tests::leaving_on_four(&rt, alloc))?
-    )
+    let lines = [
+        ("cells one and four", holds(strips::strided(alloc))),
+        ("empty region", holds(strips::empty_region(alloc))),
+        ("columns", holds(strips::columns(alloc))),
+        ("two blocks", holds(strips::two_blocks(alloc))),
+        ("overlapping rows", holds(strips::overlapping_rows(alloc))),
+        ("cells of a region", strips::cells_of_a_region()),
+        ("two seats", holds(boards::two_workers(alloc))),
+        ("halt", holds(boards::halt_asks(alloc))),
+        ("one worker", holds(tests::all_write(&rt, alloc, 1))),
+        ("four workers", holds(tests::all_write(&rt, alloc, 4))),
+        ("64 workers", holds(tests::all_write(&rt, alloc, 64))),
+        ("left in order", holds(tests::leaving_in_order(&rt, alloc))),
+        ("left on four", holds(tests::leaving_on_four(&rt, alloc))),
+    ];
+    for (name, held) in lines.iter() {
+        println!(rt; "{name}: {held}")?;
+    }
+    Ok(())
 }
