@@ -7,35 +7,40 @@ mod strips;
 mod tests;
 mod walker;
 
+use std::alloc::AllocError;
 use std::io;
 
-// Whether it came to its end, and as it should.
-fn holds<E: Drop>(came: Result<bool, E>) -> bool {
+// What a case came to.
+fn told<E: Drop>(came: Result<bool, E>) -> &'static str {
     match came {
-        Ok(held) => held,
-        Err(_) => false,
+        Ok(true) => "true",
+        Ok(false) => "false",
+        Err(_) => "no memory",
     }
 }
 
 fn main(rt: HostRuntime) -> io::Result<()> {
     let alloc = rt.alloc();
     let lines = [
-        ("cells one and four", holds(strips::strided(alloc))),
-        ("empty region", holds(strips::empty_region(alloc))),
-        ("columns", holds(strips::columns(alloc))),
-        ("two blocks", holds(strips::two_blocks(alloc))),
-        ("overlapping rows", holds(strips::overlapping_rows(alloc))),
-        ("cells of a region", strips::cells_of_a_region()),
-        ("two seats", holds(boards::two_workers(alloc))),
-        ("halt", holds(boards::halt_asks(alloc))),
-        ("one worker", holds(tests::all_write(&rt, alloc, 1))),
-        ("four workers", holds(tests::all_write(&rt, alloc, 4))),
-        ("64 workers", holds(tests::all_write(&rt, alloc, 64))),
-        ("left in order", holds(tests::leaving_in_order(&rt, alloc))),
-        ("left on four", holds(tests::leaving_on_four(&rt, alloc))),
+        ("cells one and four", told(strips::strided(alloc))),
+        ("empty region", told(strips::empty_region(alloc))),
+        ("columns", told(strips::columns(alloc))),
+        ("two blocks", told(strips::two_blocks(alloc))),
+        ("overlapping rows", told(strips::overlapping_rows(alloc))),
+        (
+            "cells of a region",
+            told::<AllocError>(Ok(strips::cells_of_a_region())),
+        ),
+        ("two seats", told(boards::two_workers(alloc))),
+        ("halt", told(boards::halt_asks(alloc))),
+        ("one worker", told(tests::all_write(&rt, alloc, 1))),
+        ("four workers", told(tests::all_write(&rt, alloc, 4))),
+        ("64 workers", told(tests::all_write(&rt, alloc, 64))),
+        ("left in order", told(tests::leaving_in_order(&rt, alloc))),
+        ("left on four", told(tests::leaving_on_four(&rt, alloc))),
     ];
-    for (name, held) in lines.iter() {
-        println!(rt; "{name}: {held}")?;
+    for (name, came) in lines.iter() {
+        println!(rt; "{name}: {came}")?;
     }
     Ok(())
 }
