@@ -1,21 +1,22 @@
 -- What is lent to threads and what comes back of it.
 use Rattle.std.proofs.Common.{◌≡◌, ℕ, suc, ◌<◌, inl, inr, true, cond, List, [], ◌∷◌, ◌++◌, length, get_or, Option, Some, None, refl, sym, ◌∙◌, ap, subst}
 use Rattle.atomic_table.specs.Seated.{TableId}
-use Rattle.leave_board.specs.Boards.{Sitting, AllOf, AnyOf, Is, Closes}
+use Rattle.leave_board.specs.Boards.{Sitting, AllOf, AnyOf, Is, Closes, fresh}
 use Rattle.leave_board.specs.Halts.{IsTold}
 use Rattle.cell_strip.specs.declared.region.Region.{Region}
 use Rattle.cell_strip.specs.Regions.{covered}
 use Rattle.cell_strip.specs.Strips.{Block, cell}
 use Rattle.ada_base.specs.Cells.{Cell, Gone}
-use Rattle.cell_memory.specs.Sight.{Sight, mine_or}
+use Rattle.cell_memory.specs.Sight.{Sight, mine_or, taken_back}
 use Rattle.cell_memory.proofs.Views.{length-table}
 use Rattle.ada_workers.specs.Paths.{Runs, Fine}
 use Rattle.ada_workers.specs.Orders.{view_of, lent_of, out_of, all_out, AllFine}
 use Rattle.ada_workers.specs.Tasks.{AllHome, begun, AllFineOver, AllReturned, SeatsTell}
-use Rattle.ada_workers.specs.Joins.{starts_of, regions_of, AllIn, LentOne, LentTo, BacksHome, put_back_of, puts_back, over_of, overs_of, Chose}
+use Rattle.ada_workers.specs.Joins.{starts_of, regions_of, AllIn, LentOne, LentTo, BacksHome, put_back_of, puts_back, over_of, overs_of, with_cells, Chose}
 use Rattle.ada_workers.specs.declared.tasks.Ready.{Ready}
 use Rattle.ada_workers.specs.declared.tasks.Back.{Back}
 use Rattle.ada_workers.specs.declared.construct.Job.{Job}
+use Rattle.ada_workers.specs.declared.construct.Over.{Over}
 
 pub length-all_out : (cs : List Cell) (rss : List (List Region)) → length (all_out cs rss) ≡ length cs
 length-all_out cs [] = refl
@@ -28,6 +29,10 @@ none_told o (inl e) t = no t.0 (sym e ∙ t.1) where
 none_told o (inr e) t = no t.0 (sym e ∙ t.1) where
   no : (t : ℕ) → None ≡ Some t → ⊥
   no t e = cc
+
+pub all_boards : (name : TableId) (ss : List Sitting) → AllOf (λ s. s ≡ fresh name) ss → AllOf (λ s. s.board ≡ name) ss
+all_boards name [] a = tt
+all_boards name (s ∷ ss) a = (ap (λ (x : Sitting). x.board) a.0, all_boards name ss a.1)
 
 module _ {P : Type 0} where
   pub out_snoc : (cs : List Cell) (js : List (Job P)) (j : Job P) → all_out cs (regions_of (js ++ j ∷ [])) ≡ out_of (all_out cs (regions_of js)) j.regions.items
@@ -61,6 +66,13 @@ module _ {P : Type 0} where
   pub overs_snoc : (bs : List (Back P)) (b : Back P) → overs_of (bs ++ b ∷ []) ≡ overs_of bs ++ over_of b ∷ []
   overs_snoc [] b = refl
   overs_snoc (c ∷ bs) b = ap (λ l. over_of c ∷ l) (overs_snoc bs b)
+
+  -- one more is put back
+  pub put_more : (s v w : Sight) (bs : List (Back P)) (b : Back P) → v ≡ with_cells s (puts_back s.cells bs) → w ≡ taken_back v b.lent → w ≡ with_cells s (puts_back s.cells (bs ++ b ∷ []))
+  put_more s v w bs b e f = f ∙ ap (λ (x : Sight). taken_back x b.lent) e ∙ ap (with_cells s) (sym (puts_snoc s.cells bs b))
+
+  pub over_more : (os ps : List (Over P)) (bs : List (Back P)) (b : Back P) → os ≡ overs_of bs → ps ≡ os ++ over_of b ∷ [] → ps ≡ overs_of (bs ++ b ∷ [])
+  over_more os ps bs b e f = f ∙ ap (λ (l : List (Over P)). l ++ over_of b ∷ []) e ∙ sym (overs_snoc bs b)
 
   pub length-puts : (cs : List Cell) (bs : List (Back P)) → length (puts_back cs bs) ≡ length cs
   length-puts cs [] = refl

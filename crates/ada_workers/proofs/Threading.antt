@@ -6,10 +6,11 @@ use Rattle.std.proofs.lemmas.List.{length-map, length-replicate, get_or_append_l
 use Rattle.std.proofs.lemmas.Bool.{cases_lt}
 use Rattle.ada_base.specs.Cells.{Cell, Gone, Mine}
 use Rattle.cell_memory.specs.Sight.{Sight, is_gone, stored, pushed, popped, OwnThere, lower_length}
-use Rattle.ada_workers.specs.Paths.{Ending, AtEnd, Left, Spent, Cut, Stuck, Outcome, Runs, SamePlace}
+use Rattle.ada_workers.specs.Paths.{Ending, AtEnd, Left, Spent, Cut, Stuck, Outcome, Runs, SamePlace, Went}
 use Rattle.ada_workers.specs.Orders.{Start}
 use Rattle.ada_workers.specs.Joins.{starts_of, regions_of}
-use Rattle.ada_workers.specs.Threads.{StaysOn, extend, frame_values, begin_of, begins_of, areas_of, state_of, told, unbegun, Order, before, alone, ordered, FramesFit, Entered, Leaves, Leaving}
+use Rattle.ada_workers.specs.Threads.{SameView, StaysOn, extend, frame_values, begin_of, begins_of, areas_of, state_of, told, unbegun, Order, before, alone, ordered, FramesFit, Entered, Leaves, Leaving}
+use Rattle.ada_workers.specs.declared.path.Stop.{Stop}
 use Rattle.ada_workers.specs.declared.path.Stop.TheVariants as stop
 use Rattle.ada_workers.specs.declared.tasks.State.TheVariants as state
 use Rattle.ada_workers.specs.declared.construct.Over.{Over}
@@ -118,6 +119,15 @@ stays_on s e g l f o a b c =
       there = c.there;
     }
 
+pub stays_out : (s t : Sight) → OwnThere s → SameView s t → StaysOn s t
+stays_out s t there v =
+    record {
+      held = v.held;
+      own = v.own;
+      many = ap length v.cells;
+      there = λ x le lt. ap (λ l. is_gone (get_or l x Gone)) v.cells ∙ there x (omega (arith, v.own, ap length v.cells, le)) (omega (arith, ap length v.cells, lt));
+    }
+
 pub may_leave : (s e g : Sight) (f : Frame) → s.own ≤ length s.cells → Entered s f e → SamePlace e g → Leaves (length s.cells) g
 may_leave s e g f o a b =
     let long : length e.cells ≡ length s.cells + (f.more + 4) = ap length a.cells ∙ length-append s.cells (map Mine (frame_values f)) ∙ omega (arith, length-map (frame_values f) Mine, frame_long f) in
@@ -129,6 +139,15 @@ module _ {P : Type 0} (runs : Runs P) where
   one_over s cs vs ds es q e n v is t long =
       let a : record { path = q; cells = ds; end = e } ≡ alone runs s cs = sym is ∙ ap (λ l. runs s.path None l) v in
       (ap (λ (o : Outcome P). told o) a, t ∙ (λ i. take (long i) ((a i).cells)))
+
+  -- the same of how a path stopped that nothing asked to stop
+  pub over_of_stop : (s : Start P) (cs vs ds es : List Cell) (q : P) (st : Stop) (n : ℕ) → (st ≡ stop.NoMemory → ⊥) → ((k : ℕ) → st ≡ stop.Paused k → ⊥) → vs ≡ cs ++ map Mine s.own → Went runs s.path vs st q ds
+      → es ≡ take n ds → n ≡ length cs → Path (Over P) (record { path = q; state = state.Stopped st }) (told (alone runs s cs)) × (es ≡ take (length cs) (alone runs s cs).cells)
+  over_of_stop s cs vs ds es q stop.Ended n ne np v w t long = one_over s cs vs ds es q AtEnd n v w t long
+  over_of_stop s cs vs ds es q stop.Gone n ne np v w t long = one_over s cs vs ds es q Left n v w t long
+  over_of_stop s cs vs ds es q stop.Spent n ne np v w t long = one_over s cs vs ds es q Spent n v w t long
+  over_of_stop s cs vs ds es q (stop.Paused k) n ne np v w t long = absurd (np k refl)
+  over_of_stop s cs vs ds es q stop.NoMemory n ne np v w t long = absurd (ne refl)
 
   left_only : (e : Ending) → state_of e ≡ state.Stopped stop.Gone → e ≡ Left
   left_only AtEnd h = cc
@@ -168,6 +187,25 @@ module _ {P : Type 0} (runs : Runs P) where
       (λ i. extend ((p ∙ ap (λ (z : Over P). os ++ z ∷ []) is) i) (ordered runs ss (up i) (d i)))
       ∙ (λ i. record { overs = append_assoc os (told (alone runs s cs) ∷ []) (ordered runs ss (suc k) (take (length cs) (alone runs s cs).cells)).overs i; chosen = (ordered runs ss (suc k) (take (length cs) (alone runs s cs).cells)).chosen; cells = (ordered runs ss (suc k) (take (length cs) (alone runs s cs).cells)).cells })
       ∙ ap (extend os) (sym (order_on s ss k cs (λ h. ne (ap (λ (z : Over P). z.state) is ∙ h)))) ∙ e
+
+  order_off : (s : Start P) (ss : List (Start P)) (k : ℕ) (cs : List Cell) → state_of (alone runs s cs).end ≡ state.Stopped stop.Gone
+      → Path (Order P) (ordered runs (s ∷ ss) k cs) (record { overs = told (alone runs s cs) ∷ unbegun ss; chosen = Some k; cells = take (length cs) (alone runs s cs).cells })
+  order_off s ss k cs h = λ i.
+      elim (left_only (alone runs s cs).end h i) as (λ _. Order P) [
+        | Left ↦ record { overs = told (alone runs s cs) ∷ unbegun ss; chosen = Some k; cells = take (length cs) (alone runs s cs).cells }
+        | AtEnd ↦ before (told (alone runs s cs)) (ordered runs ss (suc k) (take (length cs) (alone runs s cs).cells))
+        | Spent ↦ before (told (alone runs s cs)) (ordered runs ss (suc k) (take (length cs) (alone runs s cs).cells))
+        | Cut ↦ before (told (alone runs s cs)) (ordered runs ss (suc k) (take (length cs) (alone runs s cs).cells))
+        | Stuck ↦ before (told (alone runs s cs)) (ordered runs ss (suc k) (take (length cs) (alone runs s cs).cells))
+      ]
+
+  -- the loop's end by a thread that left
+  pub order_left : (all : Order P) (s : Start P) (ss : List (Start P)) (k : ℕ) (cs ds : List Cell) (os ps ws : List (Over P)) (o : Over P)
+      → extend os (ordered runs (s ∷ ss) k cs) ≡ all → o ≡ told (alone runs s cs) → ds ≡ take (length cs) (alone runs s cs).cells → o.state ≡ state.Stopped stop.Gone → ps ≡ os ++ o ∷ [] → ws ≡ ps ++ unbegun ss
+      → Path (Order P) (record { overs = ws; chosen = Some k; cells = ds }) all
+  order_left all s ss k cs ds os ps ws o e is d gone p w =
+      (λ i. record { overs = (w ∙ ap (λ (l : List (Over P)). l ++ unbegun ss) (p ∙ ap (λ (z : Over P). os ++ z ∷ []) is) ∙ append_assoc os (told (alone runs s cs) ∷ []) (unbegun ss)) i; chosen = Some k; cells = d i })
+      ∙ ap (extend os) (sym (order_off s ss k cs (sym (ap (λ (z : Over P). z.state) is) ∙ gone))) ∙ e
 
 pub stays_trans : (s t u : Sight) → StaysOn s t → StaysOn t u → StaysOn s u
 stays_trans s t u a b = record { held = b.held ∙ a.held; own = b.own ∙ a.own; many = b.many ∙ a.many; there = b.there }

@@ -128,26 +128,18 @@ fn run_one<P: Path + Drop, U: Pulse>(
         frame,
         mut path,
     } = thread;
-    if enter(view, frame).is_err() {
+    let Ok(_) = enter(view, frame) else {
         return Err(NoMemory);
-    }
+    };
     pulse.begins(number);
     let stop = path.go(alloc, view, &mut Never);
     leave(view, many);
     match stop {
         Stop::NoMemory => Err(NoMemory),
-        Stop::Paused(_) => unreachable!(),
-        Stop::Ended => Ok(Over {
+        // Not paused, as nothing asks it to stop.
+        _ => Ok(Over {
             path,
-            state: State::Stopped(Stop::Ended),
-        }),
-        Stop::Gone => Ok(Over {
-            path,
-            state: State::Stopped(Stop::Gone),
-        }),
-        Stop::Spent => Ok(Over {
-            path,
-            state: State::Stopped(Stop::Spent),
+            state: State::Stopped(stop),
         }),
     }
 }

@@ -7,33 +7,40 @@ mod strips;
 mod tests;
 mod walker;
 
-use ada_workers::NoMemory;
 use std::alloc::AllocError;
 use std::io;
 
-fn held(came: Result<bool, NoMemory>) -> Result<bool, AllocError> {
-    came.map_err(|_| AllocError)
+// What a case came to.
+fn told<E: Drop>(came: Result<bool, E>) -> &'static str {
+    match came {
+        Ok(true) => "true",
+        Ok(false) => "false",
+        Err(_) => "no memory",
+    }
 }
 
 fn main(rt: HostRuntime) -> io::Result<()> {
     let alloc = rt.alloc();
-    println!(rt; "cells one and four: {}", strips::strided(alloc)?)?;
-    println!(rt; "empty region: {}", strips::empty_region(alloc)?)?;
-    println!(rt; "columns: {}", strips::columns(alloc)?)?;
-    println!(rt; "two blocks: {}", strips::two_blocks(alloc)?)?;
-    println!(rt; "overlapping rows: {}", strips::overlapping_rows(alloc)?)?;
-    println!(rt; "cells of a region: {}", strips::cells_of_a_region())?;
-    println!(rt; "two seats: {}", boards::two_workers(alloc)?)?;
-    println!(rt; "halt: {}", boards::halt_asks(alloc)?)?;
-    println!(rt; "one worker: {}", held(tests::all_write(&rt, alloc, 1))?)?;
-    println!(rt; "four workers: {}", held(tests::all_write(&rt, alloc, 4))?)?;
-    println!(rt; "64 workers: {}", held(tests::all_write(&rt, alloc, 64))?)?;
-    println!(rt;
-        "left in order: {}",
-        held(tests::leaving_in_order(&rt, alloc))?
-    )?;
-    println!(rt;
-        "left on four: {}",
-        held(tests::leaving_on_four(&rt, alloc))?
-    )
+    let lines = [
+        ("cells one and four", told(strips::strided(alloc))),
+        ("empty region", told(strips::empty_region(alloc))),
+        ("columns", told(strips::columns(alloc))),
+        ("two blocks", told(strips::two_blocks(alloc))),
+        ("overlapping rows", told(strips::overlapping_rows(alloc))),
+        (
+            "cells of a region",
+            told::<AllocError>(Ok(strips::cells_of_a_region())),
+        ),
+        ("two seats", told(boards::two_workers(alloc))),
+        ("halt", told(boards::halt_asks(alloc))),
+        ("one worker", told(tests::all_write(&rt, alloc, 1))),
+        ("four workers", told(tests::all_write(&rt, alloc, 4))),
+        ("64 workers", told(tests::all_write(&rt, alloc, 64))),
+        ("left in order", told(tests::leaving_in_order(&rt, alloc))),
+        ("left on four", told(tests::leaving_on_four(&rt, alloc))),
+    ];
+    for (name, came) in lines.iter() {
+        println!(rt; "{name}: {came}")?;
+    }
+    Ok(())
 }

@@ -1,5 +1,8 @@
-use Rattle.ada_workers.proofs.Sharing.{up_le, within, low_dealt, high_dealt, both_ran}
+use Rattle.ada_workers.proofs.Sharing.{one_share, up_le, within, low_dealt, high_dealt, both_ran}
 use Rattle.ada_workers.proofs.dealing.+dealt.Goals as goal
+
+pub run_dealt-work-requires-clause-share : goal.run_dealt-work-requires-clause-share
+run_dealt-work-requires-clause-share g t c = one_share g.T.Duty.number c.args.deal c.args.tasks.now c.even-share.result c.requires.dealt c.if-deal-eq1.true c.even-share.ensures.is c.even-share.ensures.meets
 
 pub run_dealt-overflow_sub-up : goal.run_dealt-overflow_sub-up
 run_dealt-overflow_sub-up g t c = up_le g.T.Duty.number c.args.deal c.args.tasks.now c.requires.dealt c.if-deal-eq1.false c.even-share.result c.even-up.result c.even-share.ensures.is c.even-up.ensures.is
