@@ -224,15 +224,14 @@ pub fn emit(env: &Env<'_>, h: u32, id: u32, out: &mut Emitter)
 #[cycle(emit)]
 #[inline(never)]
 fn part(env: &Env<'_>, h: u32, found: Option<Named>, selections: u32, out: &mut Emitter)
-    ensures { Emits (spec.part_of (env_of env.now) h found (spec.is_whole (selections_at (nodes env.now) selections)) (spec.selected (tables env.now) (env_of env.now) (h + 1) (selections_at (nodes env.now) selections))) out.old out.new }
+    ensures { Emits (spec.part_of (env_of env.now) h found (spec.is_whole (selections_at (nodes env.now) selections)) (spec.read (tables env.now) (env_of env.now) (h + 1) (selections_at (nodes env.now) selections))) out.old out.new }
 {
     if is_whole(env, selections) {
         load(env, h, found, out);
     } else {
         address(env, h, found, out);
         let h1 = out.sum(h, 1);
-        selected(env, h1, selections, out);
-        out.put(env, h1, Instr::Load);
+        read(env, h1, selections, out);
     }
 }
 
@@ -270,6 +269,51 @@ pub fn selected(env: &Env<'_>, h: u32, id: u32, out: &mut Emitter)
                 selected(env, h, cell.rest, out);
             }
         }
+    }
+}
+
+/// What selections lead to from the address on the stack is read.
+#[cycle(emit)]
+#[inline(never)]
+#[tactic(auto, unfolding(lower_emission::specs::Emission::read))]
+fn read(env: &Env<'_>, h: u32, id: u32, out: &mut Emitter)
+    ensures { Emits (spec.read (tables env.now) (env_of env.now) h (selections_at (nodes env.now) id)) out.old out.new }
+{
+    match env.typed.nodes.selections(id) {
+        None => out.put(env, h, Instr::Load),
+        Some(cell) => match env.typed.nodes.selection(cell.first) {
+            None => read(env, h, cell.rest, out),
+            Some(Selection::Field { offset, .. }) => {
+                out.put(env, h, Instr::Field(offset));
+                read(env, h, cell.rest, out);
+            }
+            Some(Selection::Index { index, low, high, stride, .. }) => {
+                let last = is_whole(env, cell.rest);
+                match own_cell(env, index, out) {
+                    Some(own) => {
+                        let fused = if last {
+                            Instr::ItemL(own, low, high, stride)
+                        } else {
+                            Instr::IndexL(own, low, high, stride)
+                        };
+                        out.put(env, h, fused);
+                    }
+                    None => {
+                        emit(env, h, index, out);
+                        let h1 = out.sum(h, 1);
+                        let plain = if last {
+                            Instr::Item(low, high, stride)
+                        } else {
+                            Instr::Index(low, high, stride)
+                        };
+                        out.put(env, h1, plain);
+                    }
+                }
+                if !last {
+                    read(env, h, cell.rest, out);
+                }
+            }
+        },
     }
 }
 

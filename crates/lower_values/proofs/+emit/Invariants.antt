@@ -20,6 +20,9 @@ decreases-exprs::part l = 17179869184 * l.selections + 20
 abbrev pub decreases-exprs::selected : goal.decreases-exprs::selected
 decreases-exprs::selected l = 17179869184 * l.id + 1
 
+abbrev pub decreases-exprs::read : goal.decreases-exprs::read
+decreases-exprs::read l = 17179869184 * l.id + 1
+
 abbrev pub decreases-exprs::two : goal.decreases-exprs::two
 decreases-exprs::two l = 17179869184 * max l.left l.right + 20
 
