@@ -456,7 +456,7 @@ module _ (limit : ℕ) (cuts : ℕ → ℕ → List ℕ) (program : Program) (c 
     -- what selections lead to is read
     reading : (f : Fixed) (calls_do : InnerDo limit cuts program globals mains epar c f calls) → (B : Type 0) → (t : Selections) (y : ℕ → Entity) (from to : ℕ) {g : Ghost} {env : Env} (s : Sight) (h : ℕ) (st : List ℤ) (p : ObjectPart) (o a first total n : ℕ) → p.object ≡ o → Knows limit cuts g f s env → s.scope.entry ≡ x.entry → FittedSelections program globals mains epar s t → Reaches n t 1
         → first ≤ p.offset → p.offset + n ≤ first + total → Spread g (y o) first total a → Stands c (read program s.scope h t) from to
-        → Runs limit c f x g any (stored.bind (Meaning.select ops limit program calls t env p) (λ r. stored.reads (y r.object) r.offset)) (λ d. on f from (pos (a + (p.offset - first)) ∷ st) d) (λ v d. on f to (v ∷ st) d)
+        → Runs limit c f x g any (stored.bind (Meaning.select oper limit program calls t env p) (λ r. stored.reads (y r.object) r.offset)) (λ d. on f from (pos (a + (p.offset - first)) ∷ st) d) (λ v d. on f to (v ∷ st) d)
     reading f calls_do B Whole y from to s h st p o a first total n same k en w reach le room u (j, z) =
         does_returned limit c f x (λ r. stored.reads (y r.object) r.offset) p (reads_at limit cuts program c f x calls globals mains epar calls_do y p o first a total st same le (omega (arith, reach, room)) u (at_entry en j) z)
     reading f calls_do B (Field number offset rest) y from to s h st p o a first total n same k en w (i', r, reach) le room u (j, l) =
