@@ -235,6 +235,38 @@ fn part(env: &Env<'_>, h: u32, found: Option<Named>, selections: u32, out: &mut 
     }
 }
 
+/// The address on the stack is moved by an index.
+#[cycle(emit)]
+#[inline(never)]
+fn indexed(env: &Env<'_>, h: u32, index: u32, low: i64, high: i64, stride: u32, out: &mut Emitter)
+    ensures { Emits (spec.indexed_by (env_of env.now) h (spec.own_cell (env_of env.now) (expr_at (nodes env.now) index)) low high stride (spec.emit (tables env.now) (env_of env.now) h (expr_at (nodes env.now) index))) out.old out.new }
+{
+    match own_cell(env, index, out) {
+        Some(own) => out.put(env, h, Instr::IndexL(own, low, high, stride)),
+        None => {
+            emit(env, h, index, out);
+            let h1 = out.sum(h, 1);
+            out.put(env, h1, Instr::Index(low, high, stride));
+        }
+    }
+}
+
+/// The component at an index from the address on the stack is read.
+#[cycle(emit)]
+#[inline(never)]
+fn item(env: &Env<'_>, h: u32, index: u32, low: i64, high: i64, stride: u32, out: &mut Emitter)
+    ensures { Emits (spec.item_by (env_of env.now) h (spec.own_cell (env_of env.now) (expr_at (nodes env.now) index)) low high stride (spec.emit (tables env.now) (env_of env.now) h (expr_at (nodes env.now) index))) out.old out.new }
+{
+    match own_cell(env, index, out) {
+        Some(own) => out.put(env, h, Instr::ItemL(own, low, high, stride)),
+        None => {
+            emit(env, h, index, out);
+            let h1 = out.sum(h, 1);
+            out.put(env, h1, Instr::Item(low, high, stride));
+        }
+    }
+}
+
 /// The address on the stack is moved by selections.
 #[cycle(emit)]
 #[inline(never)]
@@ -258,14 +290,7 @@ pub fn selected(env: &Env<'_>, h: u32, id: u32, out: &mut Emitter)
                     ..
                 },
             ) => {
-                match own_cell(env, index, out) {
-                    Some(own) => out.put(env, h, Instr::IndexL(own, low, high, stride)),
-                    None => {
-                        emit(env, h, index, out);
-                        let h1 = out.sum(h, 1);
-                        out.put(env, h1, Instr::Index(low, high, stride));
-                    }
-                }
+                indexed(env, h, index, low, high, stride, out);
                 selected(env, h, cell.rest, out);
             }
         }
@@ -287,29 +312,19 @@ fn read(env: &Env<'_>, h: u32, id: u32, out: &mut Emitter)
                 out.put(env, h, Instr::Field(offset));
                 read(env, h, cell.rest, out);
             }
-            Some(Selection::Index { index, low, high, stride, .. }) => {
-                let last = is_whole(env, cell.rest);
-                match own_cell(env, index, out) {
-                    Some(own) => {
-                        let fused = if last {
-                            Instr::ItemL(own, low, high, stride)
-                        } else {
-                            Instr::IndexL(own, low, high, stride)
-                        };
-                        out.put(env, h, fused);
-                    }
-                    None => {
-                        emit(env, h, index, out);
-                        let h1 = out.sum(h, 1);
-                        let plain = if last {
-                            Instr::Item(low, high, stride)
-                        } else {
-                            Instr::Index(low, high, stride)
-                        };
-                        out.put(env, h1, plain);
-                    }
-                }
-                if !last {
+            Some(
+                Selection::Index {
+                    index,
+                    low,
+                    high,
+                    stride,
+                    ..
+                },
+            ) => {
+                if is_whole(env, cell.rest) {
+                    item(env, h, index, low, high, stride, out);
+                } else {
+                    indexed(env, h, index, low, high, stride, out);
                     read(env, h, cell.rest, out);
                 }
             }
