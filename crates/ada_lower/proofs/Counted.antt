@@ -41,8 +41,8 @@ use Rattle.lower_emission.specs.declared.types.Leaving.{Leaving}
 use Rattle.lower_emission.specs.declared.types.Leaving.TheVariants.{ByReturn, ByValue, ByEnd, ByLeave}
 use Rattle.lower_emission.specs.Emits.{Emit, Nothing, One, Seq, Choose, When, Looped, Guarded, Aside, From, listed}
 use Rattle.lower_emission.specs.Scope.{Scope, taking, nested, thread_scope, with_exit, with_entry, root_of, constant_root_of, array_root_of, none, one, load_at, address_at, store_at, address_of}
-use Rattle.lower_emission.specs.Emission.{load_by, load_named, load_where, address, is_whole, part_of, unary_instr, binary_instr, compare_instr, negated_code, counting, bounds_code, folding, combined, doubled, filling, fillings, iterated_scope, turning, entering_next, run_steps, run_turnings, turn_height, turnings, components_of, locating, locating_in, repeating, ends_code, passing, composite_width, width, cells_of, own_cell, indexed_by}
-unfoldable use Rattle.lower_emission.specs.Emission.{emit, selected, passed, put_into, composed, associated, component, filtered, iterated, chunk_code, course_code, threaded}
+use Rattle.lower_emission.specs.Emission.{load_by, load_named, load_where, address, is_whole, part_of, unary_instr, binary_instr, compare_instr, negated_code, counting, bounds_code, folding, combined, doubled, filling, fillings, iterated_scope, turning, entering_next, run_steps, run_turnings, turn_height, turnings, components_of, locating, locating_in, repeating, ends_code, passing, composite_width, width, cells_of, own_cell, indexed_by, item_by}
+unfoldable use Rattle.lower_emission.specs.Emission.{emit, selected, read, passed, put_into, composed, associated, component, filtered, iterated, chunk_code, course_code, threaded}
 use Rattle.lower_emission.specs.Statements.{no_handler, is_end, assigned, chosen, has_reason, handled_by, returning, returning_value, away, exiting, handled_target, image_instr, send_instr, piece_texts, object_here, exits_of, arm_exits, exit_code, exits_code, is_own, left_code, field_defaults, default_of, defaults_within, subtype_or_none, defaulted, declared, arms_code, chunk_by, arm_scope}
 unfoldable use Rattle.lower_emission.specs.Statements.{back_code, piece_values, stmt, all, cases, handling, arm_codes}
 use Rattle.lower_emission.specs.Bodies as code
@@ -182,12 +182,16 @@ module _ (site : ℕ) where
   few_address s h None = flat (λ q. refl)
   few_address s h (Some n) = few_address_of s h n
 
-  few_part : (s : Scope) (h : ℕ) (n : Option Named) (whole : Bool) {moved : Emit} {m : ℕ} → Few moved m → Few (part_of s h n whole moved) m
-  few_part s h n whole f = choice whole (some (few_named s h n)) (after (few_address s h n) (before f (flat (λ q. refl))))
+  few_part : (s : Scope) (h : ℕ) (n : Option Named) (whole : Bool) {part : Emit} {m : ℕ} → Few part m → Few (part_of s h n whole part) m
+  few_part s h n whole f = choice whole (some (few_named s h n)) (after (few_address s h n) f)
 
   few_indexed : (s : Scope) (h : ℕ) (o : Option ℕ) (low high : ℤ) (stride : ℕ) {index : Emit} {m : ℕ} → Few index m → Few (indexed_by s h o low high stride index) m
   few_indexed s h None low high stride f = before f (flat (λ q. refl))
   few_indexed s h (Some n) low high stride f = some (flat (λ q. refl))
+
+  few_item : (s : Scope) (h : ℕ) (o : Option ℕ) (low high : ℤ) (stride : ℕ) {index : Emit} {m : ℕ} → Few index m → Few (item_by s h o low high stride index) m
+  few_item s h None low high stride f = before f (flat (λ q. refl))
+  few_item s h (Some n) low high stride f = some (flat (λ q. refl))
 
   few_unary : (s : Scope) (h : ℕ) (g : Sign) (class : Class) → Few (one s h (unary_instr g class)) 0
   few_unary s h sign.Minus class = flat (λ q. refl)
@@ -332,12 +336,18 @@ module _ (site : ℕ) where
     whole_selected s h (Field number offset rest) e = absurd (true≢false (sym e))
     whole_selected s h (Index at f low high stride rest) e = absurd (true≢false (sym e))
 
+    whole_read : (s : Scope) (h : ℕ) (x : Selections) → is_whole x ≡ true → Few (read program s h x) 0
+    unfolding read
+    whole_read s h Whole e = flat (λ q. refl)
+    whole_read s h (Field number offset rest) e = absurd (true≢false (sym e))
+    whole_read s h (Index at f low high stride rest) e = absurd (true≢false (sym e))
+
     -- a plain value has no fork
     plain_emit : (s : Scope) (h : ℕ) (e : Expr) → is_plain_expr e ≡ true → Few (emit program s h e) 0
     unfolding emit
     plain_emit s h (Static at value literal mentions) w = flat (λ q. refl)
-    plain_emit s h (Variable at r selections scalar) w = few_part s h (root_of s r) (is_whole selections) (whole_selected s (h + 1) selections w)
-    plain_emit s h (Constant at r selections scalar) w = few_part s h (constant_root_of s r) (is_whole selections) (whole_selected s (h + 1) selections w)
+    plain_emit s h (Variable at r selections scalar) w = few_part s h (root_of s r) (is_whole selections) (whole_read s (h + 1) selections w)
+    plain_emit s h (Constant at r selections scalar) w = few_part s h (constant_root_of s r) (is_whole selections) (whole_read s (h + 1) selections w)
     plain_emit s h (Parameter at k) w = few_where s h (s.parameter k)
     plain_emit s h (Target at scalar) w = few_named s h s.target
     plain_emit s h e w = absurd (true≢false (sym w))
@@ -382,8 +392,8 @@ module _ (site : ℕ) where
 
       few_emit : (o : Option ℕ) (s : Scope) (h : ℕ) (e : Expr) → SitedExpr program o e → Few (emit program s h e) (in_expr site e)
       few_emit _ s h (Static at value literal mentions) w = some (flat (λ q. refl))
-      few_emit _ s h (Variable at r selections scalar) w = few_part s h (root_of s r) (is_whole selections) (few_selected _ s (h + 1) selections w)
-      few_emit _ s h (Constant at r selections scalar) w = few_part s h (constant_root_of s r) (is_whole selections) (few_selected _ s (h + 1) selections w)
+      few_emit _ s h (Variable at r selections scalar) w = few_part s h (root_of s r) (is_whole selections) (few_read _ s (h + 1) selections w)
+      few_emit _ s h (Constant at r selections scalar) w = few_part s h (constant_root_of s r) (is_whole selections) (few_read _ s (h + 1) selections w)
       few_emit _ s h (Parameter at k) w = few_where s h (s.parameter k)
       few_emit _ s h (Target at scalar) w = few_named s h s.target
       few_emit _ s h (Group e) w = few_emit _ s h e w
@@ -411,6 +421,12 @@ module _ (site : ℕ) where
       few_selected _ s h Whole w = flat (λ q. refl)
       few_selected _ s h (Field number offset rest) w = after (flat (λ q. refl)) (few_selected _ s h rest w)
       few_selected _ s h (Index at e low high stride rest) w = join (few_indexed s h (own_cell s e) low high stride (few_emit _ s h e w.0)) (few_selected _ s h rest w.1)
+
+      few_read : (o : Option ℕ) (s : Scope) (h : ℕ) (x : Selections) → SitedSelections program o x → Few (read program s h x) (in_selections site x)
+      few_read _ s h Whole w = flat (λ q. refl)
+      few_read _ s h (Field number offset rest) w = after (flat (λ q. refl)) (few_read _ s h rest w)
+      few_read _ s h (Index at e low high stride rest) w =
+          choice (is_whole rest) (less (omega arith) (few_item s h (own_cell s e) low high stride (few_emit _ s h e w.0))) (join (few_indexed s h (own_cell s e) low high stride (few_emit _ s h e w.0)) (few_read _ s h rest w.1))
 
       few_passed : (o : Option ℕ) (s : Scope) (h sub n : ℕ) (x : Actuals) → SitedActuals program o x → Few (passed program s h sub n x) (in_actuals site x)
       few_passed _ s h sub n NoActual w = flat (λ q. refl)

@@ -19,7 +19,7 @@ use Rattle.stack_code.specs.Deeds.{GoesOn}
 use Rattle.ada_lower.specs.Driven.{Dyn, Fixed, Step, on, At}
 use Rattle.ada_lower.specs.Sights.{Emit, Named, Sight, Stands, constant_root_of, item_sight, iterated_sight, none, one, own, passing, range_sight, root_of, taking, ◌⨟◌}
 use Rattle.ada_lower.specs.Emission
-use Rattle.ada_lower.specs.Emission.{emit, selected, binary_instr, unary_instr, compare_instr, Shape, shapes, shapes_cells}
+use Rattle.ada_lower.specs.Emission.{emit, read, selected, binary_instr, unary_instr, compare_instr, Shape, shapes, shapes_cells}
 use Rattle.ada_lower.specs.Fits.{Free, Keeps, Ghost, Ends, Spread, Refers, Knows, Fit}
 use Rattle.ada_lower.specs.Fitted.{Spot, spot, spots, Reaches, Fitted, FittedFold, FittedOptional, FittedSelections, FittedIn, FittedAssociations, FittedComponent, FittedComposite, FittedGiven, FittedRuns}
 use Rattle.ada_lower.proofs.Framework.{any, To, Doing, comes_here, comes_on, comes_goes, does_ret, does_bind, does_seq, does_assoc, does_before, does_returned}
@@ -36,7 +36,7 @@ use Rattle.ada_lower.proofs.Courses.{comes_kept, course_does, fit_uncount, count
 use Rattle.ada_lower.proofs.Sent.{Sent, HaveCells, sent_in, suits_in, all_passed, pieces, aheads, pieces_in, aheads_in, have_cells, AreSuited, also_then}
 use Rattle.ada_lower.proofs.Scattered.{AreFree, scattering, fit_unscattered, fewer_scattered, both_kept}
 use Rattle.ada_lower.proofs.Passing.{Passing, passing_none, passing_more, placing}
-use Rattle.ada_lower.proofs.Indexing.{index_does}
+use Rattle.ada_lower.proofs.Indexing.{index_does, item_does}
 use Rattle.ada_lower.proofs.Names.{root_refers, constant_root_refers, index_below, does_by, does_load, comes_address, comes_number}
 use Rattle.std.proofs.lemmas.Bool.{ne_eqb}
 use Rattle.ada_lower.proofs.Copies.{does_copy}
@@ -44,7 +44,7 @@ use Rattle.ada_lower.proofs.Plain.{s_value}
 use Rattle.ada_meaning.specs.Meaning
 use Rattle.stack_code.specs.declared.instr.Instr.TheVariants as i
 pub use Rattle.ada_lower.proofs.Operands.{does_hold, address_stands, load_stands, named_does, knows_two, fewer_kept_back, fewer_one_more}
-use Rattle.ada_lower.proofs.Operands.{ends_at, push_does, unary_does, compare_deed, choice_does, reads_at, comes_within, comes_negated, rows, ends_ret}
+use Rattle.ada_lower.proofs.Operands.{ends_at, push_does, unary_does, compare_deed, choice_does, reads_at, reads_by, comes_within, comes_negated, rows, ends_ret}
 use Rattle.ada_lower.proofs.Aggregates as aggregates
 pub use Rattle.ada_lower.proofs.Aggregates.{spread_part}
 use Rattle.ada_lower.proofs.Aggregates.{each_plain, all_runs, all_turnings, component_does, zeros_length, fewer_kept, fill_goes, either_do, turn_env, turn_values}
@@ -294,24 +294,20 @@ module _ (limit : ℕ) (cuts : ℕ → ℕ → List ℕ) (program : Program) (c 
     valued f calls_do B (Variable at r selections scalar) from to {g} {env} s h st k en ((n, e, reach), w) l =
         let o : ObjectPart = variable_root r env in
         let u : Refers g f n (VariableOf o.object) o.offset = root_refers r n k e in
-        let (m1, l1, l2) = stands_seq c from to (Emission.address s.scope h (root_of s.scope r)) (selected program s.scope (h + 1) selections ⨟ one s.scope (h + 1) i.Load) l in
-        let (m2, l3, (j, z)) = stands_seq c m1 to (selected program s.scope (h + 1) selections) (one s.scope (h + 1) i.Load) l2 in
+        let (m1, l1, l2) = stands_seq c from to (Emission.address s.scope h (root_of s.scope r)) (read program s.scope (h + 1) selections) l in
         let (j1, z1) = address_stands limit cuts program c f x calls globals mains epar calls_do s h (root_of s.scope r) n from m1 e l1 in
-        does_bind limit c f x
-        (named_does limit cuts program c f x calls globals mains epar calls_do from m1 n (VariableOf o.object) o.offset st u j1 z1 (picked f calls_do B selections m1 m2 s (h + 1) st o u.address o.offset n.cells n.cells 1 k en w reach (le_refl o.offset) (le_refl (o.offset + n.cells)) l3))
-        (λ p is. reads_at limit cuts program c f x calls globals mains epar calls_do (λ y. VariableOf y) p o.object o.offset u.address n.cells st is.0 is.1 is.2 u.spread (at_entry en j) z)
+        named_does limit cuts program c f x calls globals mains epar calls_do from m1 n (VariableOf o.object) o.offset st u j1 z1
+        (reading f calls_do B selections (λ y. VariableOf y) m1 to s (h + 1) st o o.object u.address o.offset n.cells n.cells refl k en w reach (le_refl o.offset) (le_refl (o.offset + n.cells)) u.spread l2)
     valued f calls_do B (Constant at r Whole scalar) from to {g} {env} s h st k en ((n, e, some), w) l =
         does_returned limit c f x (λ p. stored.reads (ConstantOf p.object) p.offset) (constant_root r env)
         (does_load limit c f x s h n (ConstantOf (constant_root r env).object) (constant_root r env).offset st en some (constant_root_refers r n k e) (load_stands limit cuts program c f x calls globals mains epar calls_do s h (constant_root_of s.scope r) n from to e l))
     valued f calls_do B (Constant at r selections scalar) from to {g} {env} s h st k en ((n, e, reach), w) l =
         let o : ObjectPart = constant_root r env in
         let u : Refers g f n (ConstantOf o.object) o.offset = constant_root_refers r n k e in
-        let (m1, l1, l2) = stands_seq c from to (Emission.address s.scope h (constant_root_of s.scope r)) (selected program s.scope (h + 1) selections ⨟ one s.scope (h + 1) i.Load) l in
-        let (m2, l3, (j, z)) = stands_seq c m1 to (selected program s.scope (h + 1) selections) (one s.scope (h + 1) i.Load) l2 in
+        let (m1, l1, l2) = stands_seq c from to (Emission.address s.scope h (constant_root_of s.scope r)) (read program s.scope (h + 1) selections) l in
         let (j1, z1) = address_stands limit cuts program c f x calls globals mains epar calls_do s h (constant_root_of s.scope r) n from m1 e l1 in
-        does_bind limit c f x
-        (named_does limit cuts program c f x calls globals mains epar calls_do from m1 n (ConstantOf o.object) o.offset st u j1 z1 (picked f calls_do B selections m1 m2 s (h + 1) st o u.address o.offset n.cells n.cells 1 k en w reach (le_refl o.offset) (le_refl (o.offset + n.cells)) l3))
-        (λ p is. reads_at limit cuts program c f x calls globals mains epar calls_do (λ y. ConstantOf y) p o.object o.offset u.address n.cells st is.0 is.1 is.2 u.spread (at_entry en j) z)
+        named_does limit cuts program c f x calls globals mains epar calls_do from m1 n (ConstantOf o.object) o.offset st u j1 z1
+        (reading f calls_do B selections (λ y. ConstantOf y) m1 to s (h + 1) st o o.object u.address o.offset n.cells n.cells refl k en w reach (le_refl o.offset) (le_refl (o.offset + n.cells)) u.spread l2)
     valued f calls_do B (Membership class negated e low high) from to {g} {env} s h st k en (room, we, wl, wh) l =
         let (m1, l1, (j1, r1)) = stands_seq c from to (emit program s.scope h e) (Emission.keep s.scope (h + 1) s.scope.free ⨟ emit program (taking 1 s).scope h low ⨟ Emission.keep s.scope (h + 1) (s.scope.free + 1) ⨟ emit program (taking 2 s).scope h high ⨟ Emission.within s.scope h s.scope.free ⨟ Emission.negated_code s.scope h negated) l in
         let (m2, l2, (j2, r2)) = stands_seq c (m1 + 1) to (emit program (taking 1 s).scope h low) (Emission.keep s.scope (h + 1) (s.scope.free + 1) ⨟ emit program (taking 2 s).scope h high ⨟ Emission.within s.scope h s.scope.free ⨟ Emission.negated_code s.scope h negated) r1 in
@@ -448,13 +444,49 @@ module _ (limit : ℕ) (cuts : ℕ → ℕ → List ℕ) (program : Program) (c 
         (picked f calls_do B rest (from + 1) to s h st (Meaning.moved p offset) a first total i' m k en w reach (omega (arith, le)) (omega (arith, room, r)) l)
     picked f calls_do B (Index at e low high stride rest) from to {g} {env} s h st p a first total n m k en w (r, reach) le room l =
         let (m1, l1, l2) = stands_seq c from to (Emission.indexed_by s.scope h (Emission.own_cell s.scope e) low high stride (emit program s.scope h e)) (selected program s.scope h rest) l in
-        index_does limit cuts program c f x calls globals mains epar e from m1 s h at low high stride (a + (p.offset - first)) st _ k en w.0 (λ m l. valued f calls_do B e from m s h (pos (a + (p.offset - first)) ∷ st) k en w.0 l) l1 (λ v is.
+        index_does limit cuts program c f x calls globals mains epar e from m1 s h at low high stride (a + (p.offset - first)) st _ k en w.0 (λ m l. valued f calls_do B e from m s h (pos (a + (p.offset - first)) ∷ st) k en w.0 l) l1 (λ v mid checked.
+        does_bind limit c f x checked (λ _ is.
         let t : ℕ = to_nat (v -ℤ low) in
         let lt : t < count low high = (index_below low v high is).0 in
         let z : a + (p.offset - first) + t * stride ≡ a + (p.offset + t * stride - first) = omega (arith, le) in
         let b : t * stride + stride ≤ count low high * stride = rows limit cuts program c f x calls globals mains epar calls_do t (count low high) stride lt in
         does_before limit c f x (λ d. subst (λ q. To limit c (on f m1 (pos (a + (p.offset - first) + t * stride) ∷ st) d) (on f m1 (pos q ∷ st) d)) z (comes_here limit c _))
-        (picked f calls_do B rest m1 to s h st (Meaning.moved p (t * stride)) a first total stride m k en w.1 reach (omega (arith, le)) (omega (arith, room, r, b)) l2))
+        (picked f calls_do B rest m1 to s h st (Meaning.moved p (t * stride)) a first total stride m k en w.1 reach (omega (arith, le)) (omega (arith, room, r, b)) l2)))
+
+    -- what selections lead to is read
+    reading : (f : Fixed) (calls_do : InnerDo limit cuts program globals mains epar c f calls) → (B : Type 0) → (t : Selections) (y : ℕ → Entity) (from to : ℕ) {g : Ghost} {env : Env} (s : Sight) (h : ℕ) (st : List ℤ) (p : ObjectPart) (o a first total n : ℕ) → p.object ≡ o → Knows limit cuts g f s env → s.scope.entry ≡ x.entry → FittedSelections program globals mains epar s t → Reaches n t 1
+        → first ≤ p.offset → p.offset + n ≤ first + total → Spread g (y o) first total a → Stands c (read program s.scope h t) from to
+        → Runs limit c f x g any (stored.bind (Meaning.select oper limit program calls t env p) (λ r. stored.reads (y r.object) r.offset)) (λ d. on f from (pos (a + (p.offset - first)) ∷ st) d) (λ v d. on f to (v ∷ st) d)
+    reading f calls_do B Whole y from to s h st p o a first total n same k en w reach le room u (j, z) =
+        does_returned limit c f x (λ r. stored.reads (y r.object) r.offset) p (reads_at limit cuts program c f x calls globals mains epar calls_do y p o first a total st same le (omega (arith, reach, room)) u (at_entry en j) z)
+    reading f calls_do B (Field number offset rest) y from to s h st p o a first total n same k en w (i', r, reach) le room u (j, l) =
+        let z : a + (p.offset - first) + offset ≡ a + (p.offset + offset - first) = omega (arith, le) in
+        does_before limit c f x (λ d. comes_goes limit c f (pos (a + (p.offset - first)) ∷ st) (from + 1) (pos (a + (p.offset + offset - first)) ∷ st) d j (ap (λ v. GoesOn (from + 1) (pos v ∷ (st ++ f.below))) z))
+        (reading f calls_do B rest y (from + 1) to s h st (Meaning.moved p offset) o a first total i' same k en w reach (omega (arith, le)) (omega (arith, room, r)) u l)
+    reading f calls_do B (Index at e low high stride Whole) y from to s h st p o a first total n same k en w (r, reach) le room u l =
+        does_assoc limit c f x _ _ _
+        (item_does limit cuts program c f x calls globals mains epar e from to s h at low high stride (a + (p.offset - first)) st _ k en w.0 (λ m l. valued f calls_do B e from m s h (pos (a + (p.offset - first)) ∷ st) k en w.0 l) l (λ v mid last checked reads.
+        does_assoc limit c f x _ _ _
+        (does_bind limit c f x checked (λ _ is.
+        let t : ℕ = to_nat (v -ℤ low) in
+        let lt : t < count low high = (index_below low v high is).0 in
+        let z : a + (p.offset - first) + t * stride ≡ a + (p.offset + t * stride - first) = omega (arith, le) in
+        let b : t * stride + stride ≤ count low high * stride = rows limit cuts program c f x calls globals mains epar calls_do t (count low high) stride lt in
+        does_returned limit c f x (λ r. stored.reads (y r.object) r.offset) (Meaning.moved p (t * stride))
+        (reads_by limit cuts program c f x calls globals mains epar calls_do y (Meaning.moved p (t * stride)) o first a total same (omega (arith, le)) (omega (arith, room, r, b, reach)) u
+        (λ v d seen. reads v d (subst (λ n. value_in (slice_get d.cells n) ≡ Some v) (sym z) seen)))))))
+    reading f calls_do B (Index at e low high stride rest) y from to s h st p o a first total n same k en w (r, reach) le room u l =
+        let (m1, l1, l2) = stands_seq c from to (Emission.indexed_by s.scope h (Emission.own_cell s.scope e) low high stride (emit program s.scope h e)) (read program s.scope h rest) l in
+        does_assoc limit c f x _ _ _
+        (index_does limit cuts program c f x calls globals mains epar e from m1 s h at low high stride (a + (p.offset - first)) st _ k en w.0 (λ m l. valued f calls_do B e from m s h (pos (a + (p.offset - first)) ∷ st) k en w.0 l) l1 (λ v mid checked.
+        does_assoc limit c f x _ _ _
+        (does_bind limit c f x checked (λ _ is.
+        let t : ℕ = to_nat (v -ℤ low) in
+        let lt : t < count low high = (index_below low v high is).0 in
+        let z : a + (p.offset - first) + t * stride ≡ a + (p.offset + t * stride - first) = omega (arith, le) in
+        let b : t * stride + stride ≤ count low high * stride = rows limit cuts program c f x calls globals mains epar calls_do t (count low high) stride lt in
+        does_before limit c f x (λ d. subst (λ q. To limit c (on f m1 (pos (a + (p.offset - first) + t * stride) ∷ st) d) (on f m1 (pos q ∷ st) d)) z (comes_here limit c _))
+        (reading f calls_do B rest y m1 to s h st (Meaning.moved p (t * stride)) o a first total stride same k en w.1 reach (omega (arith, le)) (omega (arith, room, r, b)) u l2)))))
 
     valued_into : (f : Fixed) (calls_do : InnerDo limit cuts program globals mains epar c f calls) → (value : Value) → Into limit cuts program c f x calls globals mains epar calls_do value
     valued_into f calls_do (Number check e) B g j env q goal s h t n st room en from to then (one', w) l go =

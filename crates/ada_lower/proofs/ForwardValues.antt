@@ -21,7 +21,7 @@ use Rattle.stack_code.specs.Stands.{IsTarget}
 use Rattle.lower_emission.specs.Emits.{Emit}
 use Rattle.lower_emission.specs.Scope.{Scope, own, taking, with_exit, with_parameter, with_item, nested, thread_scope, load_at, address_at, load_of, address_of, none, one, ◌⨟◌, root_of, constant_root_of}
 use Rattle.ada_lower.specs.Sights.{Level, Own, Around, Main, Where, Named}
-use Rattle.ada_lower.specs.Emission.{emit, selected, passed, put_into, composed, associated, component, filtered, iterated, chunk_code, course_code, threaded, lost, checked, load_by, load, load_named, load_where, address, is_whole, part_of, unary_instr, binary_instr, compare_instr, falsity, truth, within, negated_code, leaving_by, first_parameter, range_scope, item_scope, counting, bounds_code, ascending, stepping, folding, ranged, combined, doubled, filling, fillings, is_plain, is_repeated, iterated_scope, turning, turnings, entering, entering_next, run_steps, run_turnings, turn_height, components_of, locating, locating_in, repeating, width, composite_width, array_root_of, chunk_scope, raise_above, raise_beyond, ends_code, fork_code, turns_code, items_code, turn_range, turn_component, cells_of, formal_of, passing, own_cell, indexed_by}
+use Rattle.ada_lower.specs.Emission.{emit, read, selected, passed, put_into, composed, associated, component, filtered, iterated, chunk_code, course_code, threaded, lost, checked, load_by, load, load_named, load_where, address, is_whole, part_of, unary_instr, binary_instr, compare_instr, falsity, truth, within, negated_code, leaving_by, first_parameter, range_scope, item_scope, counting, bounds_code, ascending, stepping, folding, ranged, combined, doubled, filling, fillings, is_plain, is_repeated, iterated_scope, turning, turnings, entering, entering_next, run_steps, run_turnings, turn_height, components_of, locating, locating_in, repeating, width, composite_width, array_root_of, chunk_scope, raise_above, raise_beyond, ends_code, fork_code, turns_code, items_code, turn_range, turn_component, cells_of, formal_of, passing, own_cell, indexed_by, item_by}
 use Rattle.ada_lower.proofs.Forward.{BeginsTurn, Also, Fore}
 
 -- the handler and the exits that are known where code is emitted are landmarks
@@ -117,12 +117,16 @@ module _ (l t : ℕ → Type 0) (s : Scope) (k : Known l s) where
   fore_address h None = ((λ n z. absurd z), k.0)
   fore_address h (Some n) = fore_address_of h n
 
-  pub fore_part : (h : ℕ) (o : Option Named) (whole : Bool) (moved : Emit) → Fore l t moved → Fore l t (part_of s h o whole moved)
-  fore_part h o whole moved f = fore_cond whole (load_named s h o) (address s h o ⨟ moved ⨟ one s (h + 1) i.Load) (fore_load_named h o) (fore_address h o, (f, ((λ n z. absurd z), k.0)))
+  pub fore_part : (h : ℕ) (o : Option Named) (whole : Bool) (part : Emit) → Fore l t part → Fore l t (part_of s h o whole part)
+  fore_part h o whole part f = fore_cond whole (load_named s h o) (address s h o ⨟ part) (fore_load_named h o) (fore_address h o, f)
 
   pub fore_indexed : (h : ℕ) (o : Option ℕ) (low high : ℤ) (stride : ℕ) (index : Emit) → Fore l t index → Fore l t (indexed_by s h o low high stride index)
   fore_indexed h None low high stride index f = (f, ((λ n z. absurd z), k.0))
   fore_indexed h (Some n) low high stride index f = ((λ n z. absurd z), k.0)
+
+  pub fore_item : (h : ℕ) (o : Option ℕ) (low high : ℤ) (stride : ℕ) (index : Emit) → Fore l t index → Fore l t (item_by s h o low high stride index)
+  fore_item h None low high stride index f = (f, ((λ n z. absurd z), k.0))
+  fore_item h (Some n) low high stride index f = ((λ n z. absurd z), k.0)
 
   fore_within : (h d : ℕ) → Fore l t (within s h d)
   fore_within h d = (((λ n z. absurd z), k.0), (((λ n z. absurd z), k.0), (((λ n z. absurd z), k.0), (((λ n z. absurd z), k.0), (((λ n z. absurd z), k.0), ((λ n z. absurd z), k.0))))))
@@ -265,8 +269,8 @@ module _ (program : Program) where
 
     pub fore_emit : (l t : ℕ → Type 0) (s : Scope) (h : ℕ) (x : Expr) → Known l s → Fore l t (emit program s h x)
     fore_emit l t s h (Static at value literal mentions) k = ((λ n z. absurd z), k.0)
-    fore_emit l t s h (Variable at r selections scalar) k = fore_part l t s k h (root_of s r) (is_whole selections) (selected program s (h + 1) selections) (fore_selected l t s (h + 1) selections k)
-    fore_emit l t s h (Constant at r selections scalar) k = fore_part l t s k h (constant_root_of s r) (is_whole selections) (selected program s (h + 1) selections) (fore_selected l t s (h + 1) selections k)
+    fore_emit l t s h (Variable at r selections scalar) k = fore_part l t s k h (root_of s r) (is_whole selections) (read program s (h + 1) selections) (fore_read l t s (h + 1) selections k)
+    fore_emit l t s h (Constant at r selections scalar) k = fore_part l t s k h (constant_root_of s r) (is_whole selections) (read program s (h + 1) selections) (fore_read l t s (h + 1) selections k)
     fore_emit l t s h (Parameter at j) k = fore_load_where l t s k h (s.parameter j)
     fore_emit l t s h (Target at scalar) k = fore_load_named l t s k h s.target
     fore_emit l t s h (Group e) k = fore_emit l t s h e k
@@ -332,6 +336,13 @@ module _ (program : Program) where
     fore_selected l t s h Whole k = tt
     fore_selected l t s h (Field number offset rest) k = (((λ n z. absurd z), k.0), fore_selected l t s h rest k)
     fore_selected l t s h (Index at e low high stride rest) k = (fore_indexed l t s k h (own_cell s e) low high stride (emit program s h e) (fore_emit l t s h e k), fore_selected l t s h rest k)
+
+    fore_read : (l t : ℕ → Type 0) (s : Scope) (h : ℕ) (x : Selections) → Known l s → Fore l t (read program s h x)
+    fore_read l t s h Whole k = ((λ n z. absurd z), k.0)
+    fore_read l t s h (Field number offset rest) k = (((λ n z. absurd z), k.0), fore_read l t s h rest k)
+    fore_read l t s h (Index at e low high stride rest) k =
+        fore_cond l t s k (is_whole rest) _ _ (fore_item l t s k h (own_cell s e) low high stride (emit program s h e) (fore_emit l t s h e k))
+        (fore_indexed l t s k h (own_cell s e) low high stride (emit program s h e) (fore_emit l t s h e k), fore_read l t s h rest k)
 
     pub fore_passed : (l t : ℕ → Type 0) (s : Scope) (h sub w : ℕ) (x : Actuals) → Known l s → Fore l t (passed program s h sub w x)
     fore_passed l t s h sub w NoActual k = tt

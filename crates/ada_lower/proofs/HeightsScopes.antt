@@ -34,7 +34,7 @@ use Rattle.lower_emission.specs.declared.types.Level.{Level}
 use Rattle.lower_emission.specs.declared.types.Level.TheVariants.{Own, Around, Main}
 use Rattle.lower_emission.specs.Emits.{Emit}
 use Rattle.lower_emission.specs.Scope.{Scope, own, taking, nested, thread_scope, with_object, with_parameter, with_item, with_target, with_handled, with_exit, with_entry, root_of, constant_root_of, array_root_of, mark, none, one, keep, ◌⨟◌, load_at, address_at, store_at, address_of, outer_level, outer_where, outer_named, moved_where, moved_named}
-use Rattle.lower_emission.specs.Emission.{checked, load_by, load_named, load_where, address, part_of, indexed_by, unary_instr, binary_instr, compare_instr, within, negated_code, leaving_by, counting, bounds_code, ascending, stepping, chunk_scope, raise_above, raise_beyond}
+use Rattle.lower_emission.specs.Emission.{checked, load_by, load_named, load_where, address, part_of, indexed_by, item_by, unary_instr, binary_instr, compare_instr, within, negated_code, leaving_by, counting, bounds_code, ascending, stepping, chunk_scope, raise_above, raise_beyond}
 use Rattle.ada_lower.proofs.Heights.{Place, Here, up, Also, In, Kept, Step, Firm}
 
 abbrev pub at : Scope → ℕ → Place
@@ -46,6 +46,7 @@ IsPlain (i.Push v) = Unit {0}
 IsPlain i.Pop = Unit {0}
 IsPlain i.Dup = Unit {0}
 IsPlain (i.Index low high size) = Unit {0}
+IsPlain (i.Item low high size) = Unit {0}
 IsPlain (i.Field n) = Unit {0}
 IsPlain i.Load = Unit {0}
 IsPlain i.Store = Unit {0}
@@ -227,6 +228,7 @@ module _ (c : Code) where
     plain_step m mk base i.Pop w = record { here = refl; marked = mk; base = base; operands = refl; begun = omega arith; ways = refl; belongs = λ q. tt }
     plain_step m mk base i.Dup w = record { here = refl; marked = mk; base = base; operands = refl; begun = omega arith; ways = refl; belongs = λ q. tt }
     plain_step m mk base (i.Index low high size) w = record { here = refl; marked = mk; base = base; operands = refl; begun = omega arith; ways = refl; belongs = λ q. tt }
+    plain_step m mk base (i.Item low high size) w = record { here = refl; marked = mk; base = base; operands = refl; begun = omega arith; ways = refl; belongs = λ q. tt }
     plain_step m mk base (i.Field n) w = record { here = refl; marked = mk; base = base; operands = refl; begun = omega arith; ways = refl; belongs = λ q. tt }
     plain_step m mk base i.Load w = record { here = refl; marked = mk; base = base; operands = refl; begun = omega arith; ways = refl; belongs = λ q. tt }
     plain_step m mk base i.Store w = record { here = refl; marked = mk; base = base; operands = refl; begun = omega arith; ways = refl; belongs = λ q. tt }
@@ -342,16 +344,23 @@ module _ (c : Code) where
     array_root_fits true r n e = constant_root_fits r n e
     array_root_fits false r n e = root_fits r n e
 
-    pub firm_part : (h : ℕ) (o : Option Named) (whole : Bool) (moved : Emit) → ((n : Named) → o ≡ Some n → Fits s n) → (Kept c moved → Firm c l moved (at s (h + 1)) (at s (h + 1)))
-        → Kept c (part_of s h o whole moved) → Firm c l (part_of s h o whole moved) (at s h) (at s (h + 1))
-    firm_part h o whole moved f g r = firm_cond whole (load_named s h o) (address s h o ⨟ moved ⨟ one s (h + 1) i.Load) (at s h) (at s (h + 1)) (firm_named h o f)
-        (λ r. (at s (h + 1), firm_address h o f r.0, (at s (h + 1), g r.1.0, plain h i.Load tt))) r
+    pub firm_part : (h : ℕ) (o : Option Named) (whole : Bool) (part : Emit) → ((n : Named) → o ≡ Some n → Fits s n) → (Kept c part → Firm c l part (at s (h + 1)) (at s (h + 1)))
+        → Kept c (part_of s h o whole part) → Firm c l (part_of s h o whole part) (at s h) (at s (h + 1))
+    firm_part h o whole part f g r = firm_cond whole (load_named s h o) (address s h o ⨟ part) (at s h) (at s (h + 1)) (firm_named h o f)
+        (λ r. (at s (h + 1), firm_address h o f r.0, g r.1)) r
 
     -- an index, whose code loads the cell where it lies in one
     pub firm_indexed : (h : ℕ) (o : Option ℕ) (low high : ℤ) (stride : ℕ) (index : Emit) → ((n : ℕ) → o ≡ Some n → ◌≡◌ {A = Emit} index (one s (h + 1) (i.LoadL n))) → (Kept c index → Firm c l index (at s (h + 1)) (at s (h + 1 + 1)))
         → Kept c (indexed_by s (h + 1) o low high stride index) → Firm c l (indexed_by s (h + 1) o low high stride index) (at s (h + 1)) (at s (h + 1))
     firm_indexed h None low high stride index is f r = (at s (h + 1 + 1), f r.0, plain h (i.Index low high stride) tt)
     firm_indexed h (Some n) low high stride index is f r =
+        let loads : Firm c l (one s (h + 1) (i.LoadL n)) (at s (h + 1)) (at s (h + 1 + 1)) = subst (λ a. Firm c l a (at s (h + 1)) (at s (h + 1 + 1))) (is n refl) (f (subst (λ a. Kept c a) (sym (is n refl)) r)) in
+        record { here = refl; marked = k.entry; base = h; operands = refl; begun = omega arith; ways = refl; belongs = loads.belongs }
+
+    pub firm_item : (h : ℕ) (o : Option ℕ) (low high : ℤ) (stride : ℕ) (index : Emit) → ((n : ℕ) → o ≡ Some n → ◌≡◌ {A = Emit} index (one s (h + 1) (i.LoadL n))) → (Kept c index → Firm c l index (at s (h + 1)) (at s (h + 1 + 1)))
+        → Kept c (item_by s (h + 1) o low high stride index) → Firm c l (item_by s (h + 1) o low high stride index) (at s (h + 1)) (at s (h + 1))
+    firm_item h None low high stride index is f r = (at s (h + 1 + 1), f r.0, plain h (i.Item low high stride) tt)
+    firm_item h (Some n) low high stride index is f r =
         let loads : Firm c l (one s (h + 1) (i.LoadL n)) (at s (h + 1)) (at s (h + 1 + 1)) = subst (λ a. Firm c l a (at s (h + 1)) (at s (h + 1 + 1))) (is n refl) (f (subst (λ a. Kept c a) (sym (is n refl)) r)) in
         record { here = refl; marked = k.entry; base = h; operands = refl; begun = omega arith; ways = refl; belongs = loads.belongs }
 

@@ -21,11 +21,11 @@ use Rattle.stack_code.proofs.Slacks.{has_map}
 use Rattle.lower_emission.specs.Emits.{Emit}
 use Rattle.lower_emission.specs.Scope.{Scope, own, taking, nested, thread_scope, with_parameter, with_item, root_of, constant_root_of, array_root_of, none, one, keep, looped, from, ◌⨟◌}
 use Rattle.lower_emission.specs.Emission.{is_plain, is_repeated, Shape, lead, shapes, shapes_cells, formal_cell, address, folding, ranged, reducing, combined, leaving_by, first_parameter, range_scope, item_scope, doubled, filling, fillings, iterated_scope, turning, turnings, entering, entering_next, run_steps, run_turnings, turn_height, components_of, locating, locating_in, repeating, is_whole, chunk_scope, ends_code, reduction_kind, fork_code, turn_range, turn_component, cells_of, formals_in, formal_of, passing, composite_width, width, own_cell}
-unfoldable use Rattle.lower_emission.specs.Emission.{emit, selected, passed, put_into, composed, associated, component, filtered, iterated, chunk_code, course_code, threaded}
+unfoldable use Rattle.lower_emission.specs.Emission.{emit, selected, read, passed, put_into, composed, associated, component, filtered, iterated, chunk_code, course_code, threaded}
 use Rattle.ada_lower.specs.Ready.{RunsIn, Calls, ReadyReducer, ReadyExpr, ReadyOptional, ReadySelections, ReadyActuals, ReadyValue, ReadyComposite, ReadyAssociations, ReadyIteration, ReadyChunk}
 use Rattle.lower_emission.proofs.OwnCells.{emit_own}
 use Rattle.ada_lower.proofs.Heights.{Place, Here, Behind, up, Also, In, Told, Kept, Firm}
-use Rattle.ada_lower.proofs.HeightsScopes.{at, Known, in_le, known_taking, known_nested, known_more, known_parameter, known_item, known_leaving, known_thread, known_chunk, plain, firm_own, firm_local, kept_next, firm_keep, firm_cond, firm_indexed, firm_named, firm_where, firm_address, root_fits, constant_root_fits, array_root_fits, firm_part, firm_unary, firm_binary, firm_compare, firm_within, firm_negated, firm_checked, firm_bounds, firm_ascending, firm_raise_above, firm_raise_beyond, firm_counting, firm_call, firm_call_back, firm_stepping}
+use Rattle.ada_lower.proofs.HeightsScopes.{at, Known, in_le, known_taking, known_nested, known_more, known_parameter, known_item, known_leaving, known_thread, known_chunk, plain, firm_own, firm_local, kept_next, firm_keep, firm_cond, firm_indexed, firm_item, firm_named, firm_where, firm_address, root_fits, constant_root_fits, array_root_fits, firm_part, firm_unary, firm_binary, firm_compare, firm_within, firm_negated, firm_checked, firm_bounds, firm_ascending, firm_raise_above, firm_raise_beyond, firm_counting, firm_call, firm_call_back, firm_stepping}
 use Rattle.ada_meaning.specs.Meaning.{most_threads}
 
 -- ---- scopes that differ in names alone
@@ -404,8 +404,8 @@ module _ (c : Code) (program : Program) (subs : (sub : ℕ) (gives : Bool) → C
 
     pub firm_emit : (l : ℕ → Place → Type 0) (s : Scope) (h : ℕ) (x : Expr) → ReadyExpr program x → Known c l s → Kept c (emit program s h x) → Firm c l (emit program s h x) (at s h) (at s (h + 1))
     firm_emit l s h (Static a value literal mentions) w k r = plain c l s k h (i.Push value) tt
-    firm_emit l s h (Variable a q selections scalar) w k r = firm_part c l s k h (root_of s q) (is_whole selections) (selected program s (h + 1) selections) (root_fits c l s k q) (λ r. firm_selected l s h selections w k r) r
-    firm_emit l s h (Constant a q selections scalar) w k r = firm_part c l s k h (constant_root_of s q) (is_whole selections) (selected program s (h + 1) selections) (constant_root_fits c l s k q) (λ r. firm_selected l s h selections w k r) r
+    firm_emit l s h (Variable a q selections scalar) w k r = firm_part c l s k h (root_of s q) (is_whole selections) (read program s (h + 1) selections) (root_fits c l s k q) (λ r. firm_read l s h selections w k r) r
+    firm_emit l s h (Constant a q selections scalar) w k r = firm_part c l s k h (constant_root_of s q) (is_whole selections) (read program s (h + 1) selections) (constant_root_fits c l s k q) (λ r. firm_read l s h selections w k r) r
     firm_emit l s h (Parameter a j) w k r = firm_where c l s k h (s.parameter j) (k.parameter j) r
     firm_emit l s h (Target a scalar) w k r = firm_named c l s k h s.target k.target r
     firm_emit l s h (Group e) w k r = firm_emit l s h e w k r
@@ -487,6 +487,14 @@ module _ (c : Code) (program : Program) (subs : (sub : ℕ) (gives : Bool) → C
     firm_selected l s h Whole w k r = refl
     firm_selected l s h (Field number offset rest) w k (r1, r2) = (at s (h + 1), plain c l s k h (i.Field offset) tt, firm_selected l s h rest w k r2)
     firm_selected l s h (Index a e low high stride rest) w k (r1, r2) = (at s (h + 1), firm_indexed c l s k h (own_cell s e) low high stride (emit program s (h + 1) e) (λ n is. emit_own program s (h + 1) e n is) (λ r. firm_emit l s (h + 1) e w.0 k r) r1, firm_selected l s h rest w.1 k r2)
+
+    firm_read : (l : ℕ → Place → Type 0) (s : Scope) (h : ℕ) (x : Selections) → ReadySelections program x → Known c l s → Kept c (read program s (h + 1) x) → Firm c l (read program s (h + 1) x) (at s (h + 1)) (at s (h + 1))
+    firm_read l s h Whole w k r = plain c l s k h i.Load tt
+    firm_read l s h (Field number offset rest) w k (r1, r2) = (at s (h + 1), plain c l s k h (i.Field offset) tt, firm_read l s h rest w k r2)
+    firm_read l s h (Index a e low high stride rest) w k r =
+        firm_cond c l s k (is_whole rest) _ _ (at s (h + 1)) (at s (h + 1))
+        (λ r. firm_item c l s k h (own_cell s e) low high stride (emit program s (h + 1) e) (λ n is. emit_own program s (h + 1) e n is) (λ r. firm_emit l s (h + 1) e w.0 k r) r)
+        (λ r. (at s (h + 1), firm_indexed c l s k h (own_cell s e) low high stride (emit program s (h + 1) e) (λ n is. emit_own program s (h + 1) e n is) (λ r. firm_emit l s (h + 1) e w.0 k r) r.0, firm_read l s h rest w.1 k r.1)) r
 
     pub firm_passed : (l : ℕ → Place → Type 0) (s : Scope) (h sub n : ℕ) (x : Actuals) → ReadyActuals program sub x → Known c l s → n + shapes_cells (shapes program (formals_in program sub)) ≤ s.free → Kept c (passed program s h sub n x) → Firm c l (passed program s h sub n x) (at s h) (at s h)
     firm_passed l s h sub n NoActual w k le r = refl

@@ -13,17 +13,17 @@ use Rattle.ada_meaning.specs.Meaning.{Env, Passed, Returned, variable_root, cons
 use Rattle.ada_meaning.proofs.Cells.{some_same}
 use Rattle.stack_code.specs.declared.code.Code.{Code}
 use Rattle.stack_code.specs.declared.instr.Instr.TheVariants as i
-use Rattle.stack_code.specs.Deeds.{indexed, pushed}
-use Rattle.lower_emission.specs.Emission.{own_level, own_where, own_named, own_cell, indexed_by}
+use Rattle.stack_code.specs.Deeds.{GoesOn, indexed, item_at, load_from, pushed}
+use Rattle.lower_emission.specs.Emission.{own_level, own_where, own_named, own_cell, indexed_by, item_by}
 use Rattle.ada_lower.specs.Driven.{Dyn, Fixed, Step, on, state_of, driven, At}
 use Rattle.ada_lower.specs.Sights.{Around, Level, Main, Named, Own, Sight, Stands, Where, one}
 use Rattle.ada_lower.specs.Emission.{emit}
 use Rattle.ada_lower.specs.Fits.{Ghost, Ends, Holds, IsAt, Knows, Leads, Refers, place_in, Stands as StandsFor}
 use Rattle.ada_lower.specs.Fitted.{Fitted}
 use Rattle.stack_code.specs.Machine.{done, with_value}
-use Rattle.ada_lower.proofs.Framework.{any, To, comes_as, does_bind, does_ret, does_returned}
+use Rattle.ada_lower.proofs.Framework.{any, To, comes_as, comes_instr, does_before, does_bind, does_ret, does_returned}
 use Rattle.ada_lower.proofs.Memory.{does_read, number_seen}
-use Rattle.ada_lower.proofs.Names.{comes_to, constant_root_refers, does_by, does_index, does_indexed, root_refers}
+use Rattle.ada_lower.proofs.Names.{comes_same, comes_to, constant_root_refers, does_by, does_index, does_indexed, does_item, root_refers}
 use Rattle.ada_lower.proofs.Parts.{Runs}
 use Rattle.ada_lower.proofs.Standing.{stands_seq}
 use Rattle.ada_lower.proofs.Courses.{at_entry}
@@ -43,6 +43,16 @@ module _ (limit : ℕ) (c : Code) (f : Fixed) where
       → To limit c (on f q (pos a ∷ st) d) (comes_to limit c f q (pos a ∷ st) d (pushed q (indexed low high stride (pos a) v) (st ++ f.below)))
   comes_index {q} n low high v stride a st d at z =
       comes_as limit c f (pos a ∷ st) d at (ap (λ o. driven limit c (with_value o (state_of f q (pos a ∷ st) [] None d) (λ v. done limit (pushed q (indexed low high stride (pos a) v) (st ++ f.below)) (state_of f q (pos a ∷ st) [] None d))) d.world) z)
+
+  comes_item : {q : ℕ} {e : Option ℕ} (n : ℕ) (low high v : ℤ) (stride a : ℕ) (st : List ℤ) (d : Dyn) → At c q (i.ItemL n low high stride) e → value_in (slice_get d.cells (f.base + n)) ≡ Some v
+      → To limit c (on f q (pos a ∷ st) d) (comes_to limit c f q (pos a ∷ st) d (item_at q (indexed low high stride (pos a) v) (st ++ f.below)))
+  comes_item {q} n low high v stride a st d at z =
+      comes_as limit c f (pos a ∷ st) d at (ap (λ o. driven limit c (with_value o (state_of f q (pos a ∷ st) [] None d) (λ v. done limit (item_at q (indexed low high stride (pos a) v) (st ++ f.below)) (state_of f q (pos a ∷ st) [] None d))) d.world) z)
+
+  -- a cell is read where an index has led
+  comes_read : (q : ℕ) (su st : List ℤ) (a : ℕ) (v : ℤ) (d : Dyn) → value_in (slice_get d.cells a) ≡ Some v → To limit c (comes_to limit c f q su d (load_from q (st ++ f.below) (pos a))) (on f (q + 1) (v ∷ st) d)
+  comes_read q su st a v d z =
+      comes_same limit c f (ap (λ o. driven limit c (with_value o (state_of f q su [] None d) (λ v. done limit (GoesOn (q + 1) (v ∷ (st ++ f.below))) (state_of f q su [] None d))) d.world) z)
 
 module _ (limit : ℕ) (cuts : ℕ → ℕ → List ℕ) (program : Program) (c : Code) (f : Fixed) (x : Ends) (calls : ℕ → ℕ → Stored (Unit {0}) → List Passed → Stored Returned) (globals : ℕ → Entity → Option Named) (mains : Entity → Bool) (epar : Sight → Expr → Type 0) where
   abbrev evals : Expr → Env → Stored ℤ
@@ -81,24 +91,47 @@ module _ (limit : ℕ) (cuts : ℕ → ℕ → List ℕ) (program : Program) (c 
   own_does {env = env} (Parameter at p) s n is k w reads = number_read (s.scope.parameter p) n (env.parameter p) is (λ w e. k.parameter p w e) reads
   own_does e s n is k w reads = absurd (none-some n is)
 
-  -- an index moves the address on the stack, and what follows goes on there
+  -- An index moves the address on the stack; its check leads there, whatever the step before it.
   pub index_does : {B : Type 0} {g : Ghost} {env : Env} {q : B → Type 0} {goal : B → Dyn → Step} (e : Expr) (from to : ℕ) (s : Sight) (h at : ℕ) (low high : ℤ) (stride a : ℕ) (st : List ℤ) (then : ℤ → Stored B)
       → Knows limit cuts g f s env → s.scope.entry ≡ x.entry → Fitted program globals mains epar s e
       → ((m : ℕ) → Stands c (emit program s.scope h e) from m → Runs limit c f x g any (evals e env) (λ d. on f from (pos a ∷ st) d) (λ v d. on f m (v ∷ pos a ∷ st) d))
       → Stands c (indexed_by s.scope h (own_cell s.scope e) low high stride (emit program s.scope h e)) from to
-      → ((v : ℤ) → between low v high ≡ true → Runs limit c f x g q (then v) (λ d. on f to (pos (a + to_nat (v -ℤ low) * stride) ∷ st) d) goal)
-      → Runs limit c f x g q (stored.bind (evals e env) (λ v. stored.bind (stored.checks IndexCheck at (between low v high)) (λ _. then v))) (λ d. on f from (pos a ∷ st) d) goal
+      → ((v : ℤ) (mid : Dyn → Step) → Runs limit c f x g (λ _. between low v high ≡ true) (stored.checks IndexCheck at (between low v high)) mid (λ _ d. on f to (pos (a + to_nat (v -ℤ low) * stride) ∷ st) d) → Runs limit c f x g q (then v) mid goal)
+      → Runs limit c f x g q (stored.bind (evals e env) then) (λ d. on f from (pos a ∷ st) d) goal
   index_does {B} {g} {env} {q} {goal} e from to s h at low high stride a st then k en w pushes l go = by (own_cell s.scope e) refl l
     where
-      follows : (m : ℕ) → to ≡ m + 1 → (v : ℤ) → between low v high ≡ true → Runs limit c f x g q (then v) (λ d. on f (m + 1) (pos (a + to_nat (v -ℤ low) * stride) ∷ st) d) goal
-      follows m z v is = subst (λ p. Runs limit c f x g q (then v) (λ d. on f p (pos (a + to_nat (v -ℤ low) * stride) ∷ st) d) goal) z (go v is)
+      moves : (v : ℤ) (mid : Dyn → Step) (m : ℕ) → to ≡ m + 1 → Runs limit c f x g (λ _. between low v high ≡ true) (stored.checks IndexCheck at (between low v high)) mid (λ _ d. on f (m + 1) (pos (a + to_nat (v -ℤ low) * stride) ∷ st) d) → Runs limit c f x g q (then v) mid goal
+      moves v mid m z j = go v mid (subst (λ p. Runs limit c f x g (λ _. between low v high ≡ true) (stored.checks IndexCheck at (between low v high)) mid (λ _ d. on f p (pos (a + to_nat (v -ℤ low) * stride) ∷ st) d)) (sym z) j)
 
-      by : (o : Option ℕ) → own_cell s.scope e ≡ o → Stands c (indexed_by s.scope h o low high stride (emit program s.scope h e)) from to
-          → Runs limit c f x g q (stored.bind (evals e env) (λ v. stored.bind (stored.checks IndexCheck at (between low v high)) (λ _. then v))) (λ d. on f from (pos a ∷ st) d) goal
+      by : (o : Option ℕ) → own_cell s.scope e ≡ o → Stands c (indexed_by s.scope h o low high stride (emit program s.scope h e)) from to → Runs limit c f x g q (stored.bind (evals e env) then) (λ d. on f from (pos a ∷ st) d) goal
       by None is l =
           let (m, l1, (j, z)) = stands_seq c from to (emit program s.scope h e) (one s.scope (h + 1) (i.Index low high stride)) l in
-          does_bind limit c f x (pushes m l1) (λ v _.
-          does_bind limit c f x (does_index limit c f x IndexCheck at low high v stride a st (at_entry en j)) (λ _ in_range. follows m z v in_range))
+          does_bind limit c f x (pushes m l1) (λ v _. moves v (λ d. on f m (v ∷ pos a ∷ st) d) m z (does_index limit c f x IndexCheck at low high v stride a st (at_entry en j)))
       by (Some n) is (j, z) =
           does_bind limit c f x (own_does e s n is k w (λ v d seen. comes_index limit c f n low high v stride a st d j seen)) (λ v _.
-          does_bind limit c f x (does_indexed limit c f x IndexCheck at low high v stride a (pos a ∷ st) st (at_entry en j)) (λ _ in_range. follows from z v in_range))
+          moves v (λ d. comes_to limit c f from (pos a ∷ st) d (pushed from (indexed low high stride (pos a) v) (st ++ f.below))) from z (does_indexed limit c f x IndexCheck at low high v stride a (pos a ∷ st) st (at_entry en j)))
+
+  -- An index to a component that is read: its check leads to a step that reads there.
+  pub item_does : {B : Type 0} {g : Ghost} {env : Env} {q : B → Type 0} {goal : B → Dyn → Step} (e : Expr) (from to : ℕ) (s : Sight) (h at : ℕ) (low high : ℤ) (stride a : ℕ) (st : List ℤ) (then : ℤ → Stored B)
+      → Knows limit cuts g f s env → s.scope.entry ≡ x.entry → Fitted program globals mains epar s e
+      → ((m : ℕ) → Stands c (emit program s.scope h e) from m → Runs limit c f x g any (evals e env) (λ d. on f from (pos a ∷ st) d) (λ v d. on f m (v ∷ pos a ∷ st) d))
+      → Stands c (item_by s.scope h (own_cell s.scope e) low high stride (emit program s.scope h e)) from to
+      → ((v : ℤ) (mid last : Dyn → Step) → Runs limit c f x g (λ _. between low v high ≡ true) (stored.checks IndexCheck at (between low v high)) mid (λ _ d. last d)
+          → ((u : ℤ) (d : Dyn) → value_in (slice_get d.cells (a + to_nat (v -ℤ low) * stride)) ≡ Some u → To limit c (last d) (on f to (u ∷ st) d)) → Runs limit c f x g q (then v) mid goal)
+      → Runs limit c f x g q (stored.bind (evals e env) then) (λ d. on f from (pos a ∷ st) d) goal
+  item_does {B} {g} {env} {q} {goal} e from to s h at low high stride a st then k en w pushes l go = by (own_cell s.scope e) refl l
+    where
+      reads : (v : ℤ) (mid : Dyn → Step) (m : ℕ) (su : List ℤ) → to ≡ m + 1
+          → Runs limit c f x g (λ _. between low v high ≡ true) (stored.checks IndexCheck at (between low v high)) mid (λ _ d. comes_to limit c f m su d (load_from m (st ++ f.below) (pos (a + to_nat (v -ℤ low) * stride)))) → Runs limit c f x g q (then v) mid goal
+      reads v mid m su z j = go v mid (λ d. comes_to limit c f m su d (load_from m (st ++ f.below) (pos (a + to_nat (v -ℤ low) * stride)))) j (λ u d seen.
+          subst (λ p. To limit c (comes_to limit c f m su d (load_from m (st ++ f.below) (pos (a + to_nat (v -ℤ low) * stride)))) (on f p (u ∷ st) d)) (sym z) (comes_read limit c f m su st (a + to_nat (v -ℤ low) * stride) u d seen))
+
+      by : (o : Option ℕ) → own_cell s.scope e ≡ o → Stands c (item_by s.scope h o low high stride (emit program s.scope h e)) from to → Runs limit c f x g q (stored.bind (evals e env) then) (λ d. on f from (pos a ∷ st) d) goal
+      by None is l =
+          let (m, l1, (j, z)) = stands_seq c from to (emit program s.scope h e) (one s.scope (h + 1) (i.Item low high stride)) l in
+          does_bind limit c f x (pushes m l1) (λ v _. reads v (λ d. on f m (v ∷ pos a ∷ st) d) m (v ∷ pos a ∷ st) z
+          (does_before limit c f x (λ d. comes_instr limit c f (v ∷ pos a ∷ st) d j) (does_item limit c f x IndexCheck at low high v stride a (v ∷ pos a ∷ st) st (at_entry en j))))
+      by (Some n) is (j, z) =
+          does_bind limit c f x (own_does e s n is k w (λ v d seen. comes_item limit c f n low high v stride a st d j seen)) (λ v _.
+          reads v (λ d. comes_to limit c f from (pos a ∷ st) d (item_at from (indexed low high stride (pos a) v) (st ++ f.below))) from (pos a ∷ st) z
+          (does_item limit c f x IndexCheck at low high v stride a (pos a ∷ st) st (at_entry en j)))

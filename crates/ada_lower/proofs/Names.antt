@@ -14,7 +14,7 @@ use Rattle.stack_code.specs.declared.code.Code.{Code}
 use Rattle.stack_code.specs.declared.instr.Instr.{Instr}
 use Rattle.stack_code.specs.declared.instr.Instr.TheVariants as i
 use Rattle.ada_base.specs.Cells.{value_in}
-use Rattle.stack_code.specs.Deeds.{Deed, GoesOn, deed_of, indexed, pushed, load_of_frame, load_from, cell_of_frame}
+use Rattle.stack_code.specs.Deeds.{Deed, GoesOn, deed_of, indexed, item_at, pushed, load_of_frame, load_from, cell_of_frame}
 use Rattle.stack_code.specs.Machine.{Frame, outward_of, done, with_value}
 use Rattle.ada_lower.specs.Driven.{Dyn, Fixed, Step, on, at, state_of, driven, At}
 use Rattle.ada_lower.specs.Sights.{Around, Level, Main, Named, Own, Sight, Stands, Where, address_at, address_of, constant_root_of, load_at, root_of}
@@ -61,7 +61,7 @@ module _ (limit : ℕ) (c : Code) (f : Fixed) where
   abbrev pub comes_to : ℕ → List ℤ → Dyn → Deed → Step
   comes_to q st d w = driven limit c (done limit w (state_of f q st [] None d)) d.world
 
-  comes_same : {y z : Step} → y ≡ z → To limit c y z
+  pub comes_same : {y z : Step} → y ≡ z → To limit c y z
   comes_same {y} e = subst (λ z. To limit c y z) e (comes_here limit c y)
 
   -- a deed that reads a cell
@@ -120,6 +120,23 @@ module _ (limit : ℕ) (c : Code) (f : Fixed) where
         )
         go false e = does_is limit c f x (Err (Left (Raises reason.ConstraintError))) (check_is kind token false) (λ d.
             comes_on limit c (comes_same (ap (λ w. comes_to q su d w) (ap (λ b. pushed q (cond b (Some (pos a +ℤ ((v -ℤ low) *ℤ pos stride))) None) (st ++ f.below)) e))) (comes_thrown limit c f st reason.ConstraintError d at))
+
+    -- the component at an index is read, where it is in its range
+    pub does_item : {g : Ghost} {q : ℕ} {j : Instr} (kind : CheckKind) (token : ℕ) (low high v : ℤ) (stride a : ℕ) (su st : List ℤ) → At c q j x.entry
+        → Runs limit c f x g (λ _. between low v high ≡ true) (stored.checks kind token (between low v high)) (λ d. comes_to q su d (item_at q (indexed low high stride (pos a) v) (st ++ f.below))) (λ _ d. comes_to q su d (load_from q (st ++ f.below) (pos (a + to_nat (v -ℤ low) * stride))))
+    does_item {g} {q} kind token low high v stride a su st at = go (between low v high) refl
+      where
+        go : (b : Bool) → between low v high ≡ b
+            → Runs limit c f x g (λ _. b ≡ true) (stored.checks kind token b) (λ d. comes_to q su d (item_at q (indexed low high stride (pos a) v) (st ++ f.below))) (λ _ d. comes_to q su d (load_from q (st ++ f.below) (pos (a + to_nat (v -ℤ low) * stride))))
+        go true e = does_is limit c f x (Ok tt) (check_is kind token true) (
+          refl,
+          λ d.
+              comes_same (ap (λ w. comes_to q su d w)
+              (ap (λ b. item_at q (cond b (Some (pos a +ℤ ((v -ℤ low) *ℤ pos stride))) None) (st ++ f.below)) e
+              ∙ ap (λ z. item_at q (Some (pos a +ℤ (z *ℤ pos stride))) (st ++ f.below)) (index_below low v high e).1)),
+        )
+        go false e = does_is limit c f x (Err (Left (Raises reason.ConstraintError))) (check_is kind token false) (λ d.
+            comes_on limit c (comes_same (ap (λ w. comes_to q su d w) (ap (λ b. item_at q (cond b (Some (pos a +ℤ ((v -ℤ low) *ℤ pos stride))) None) (st ++ f.below)) e))) (comes_thrown limit c f st reason.ConstraintError d at))
 
     -- the index is on the stack
     pub does_index : {g : Ghost} {q : ℕ} (kind : CheckKind) (token : ℕ) (low high v : ℤ) (stride a : ℕ) (st : List ℤ) → At c q (i.Index low high stride) x.entry

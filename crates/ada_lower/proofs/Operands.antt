@@ -198,13 +198,19 @@ module _ (limit : ℕ) (cuts : ℕ → ℕ → List ℕ) (program : Program) (c 
   pub load_stands : (s : Sight) (h : ℕ) (o : Option Named) (n : Named) (from to : ℕ) → o ≡ Some n → Stands c (load_named s.scope h o) from to → Stands c (load s.scope h n) from to
   load_stands s h o n from to e l = subst (λ o. Stands c (load_named s.scope h o) from to) e l
 
+  -- a step reads the cell of a part
+  pub reads_by : {g : Ghost} {from : Dyn → Step} {to : ℤ → Dyn → Step} (y : ℕ → Entity) (r : ObjectPart) (o : ℕ) (first a total : ℕ) → r.object ≡ o → first ≤ r.offset → r.offset + 1 ≤ first + total → Spread g (y o) first total a
+      → ((v : ℤ) (d : Dyn) → value_in (slice_get d.cells (a + (r.offset - first))) ≡ Some v → To limit c (from d) (to v d)) → Runs limit c f x g any (stored.reads (y r.object) r.offset) from to
+  reads_by {g} y r o first a total is le lt spread k =
+      let (p, access, here, stands) = spread.cell (r.offset - first) (omega (arith, le, lt)) in
+      let z : first + (r.offset - first) ≡ r.offset = omega (arith, le) in
+      does_read limit c f x (y r.object) r.offset (a + (r.offset - first)) p access (ap (λ u. place_in g (y u) r.offset) is ∙ ap (λ i. place_in g (y o) i) (sym z) ∙ here) stands k
+
   pub reads_at : {g : Ghost} {from to : ℕ} (y : ℕ → Entity) (r : ObjectPart) (o : ℕ) (first a total : ℕ) (st : List ℤ) → r.object ≡ o → first ≤ r.offset → r.offset + 1 ≤ first + total → Spread g (y o) first total a → At c from i.Load x.entry → to ≡ from + 1
       → Runs limit c f x g any (stored.reads (y r.object) r.offset) (λ d. on f from (pos (a + (r.offset - first)) ∷ st) d) (λ v d. on f to (v ∷ st) d)
   reads_at {g} {from} {to} y r o first a total st is le lt spread at e =
-      let (p, access, here, stands) = spread.cell (r.offset - first) (omega (arith, le, lt)) in
-      let z : first + (r.offset - first) ≡ r.offset = omega (arith, le) in
       subst (λ q. Runs limit c f x g any (stored.reads (y r.object) r.offset) (λ d. on f from (pos (a + (r.offset - first)) ∷ st) d) (λ v d. on f q (v ∷ st) d)) (sym e)
-      (does_read limit c f x (y r.object) r.offset (a + (r.offset - first)) p access (ap (λ u. place_in g (y u) r.offset) is ∙ ap (λ i. place_in g (y o) i) (sym z) ∙ here) stands
+      (reads_by y r o first a total is le lt spread
       (λ v d w. Rattle.ada_lower.proofs.Names.comes_loads limit c f (a + (r.offset - first)) v (pos (a + (r.offset - first)) ∷ st) st d at refl w))
 
   -- an address is pushed, and moved on

@@ -65,9 +65,9 @@ abbrev pub address : Scope → ℕ → Option Named → Emit
 address s h None = lost s h
 address s h (Some n) = one s h (address_of n)
 
--- the value of a part of what is named, to which `moved` moves the address
-abbrev pub part_of : Scope → ℕ → Option Named → Bool → (moved : Emit) → Emit
-part_of s h n whole moved = cond whole (load_named s h n) (address s h n ⨟ moved ⨟ one s (h + 1) i.Load)
+-- the value of what is named, or that of a part, which is read by way of the address
+abbrev pub part_of : Scope → ℕ → Option Named → Bool → (part : Emit) → Emit
+part_of s h n whole part = cond whole (load_named s h n) (address s h n ⨟ part)
 
 -- the cell of the own frame in which a value lies that a name gives: a loop parameter's, or that of a variable or constant
 
@@ -94,6 +94,11 @@ own_cell s e = None
 abbrev pub indexed_by : Scope → ℕ → Option ℕ → (low high : ℤ) → (stride : ℕ) → (index : Emit) → Emit
 indexed_by s h None low high stride index = index ⨟ one s (h + 1) (i.Index low high stride)
 indexed_by s h (Some n) low high stride index = one s h (i.IndexL n low high stride)
+
+-- the component at an index from the address on the stack is read
+abbrev pub item_by : Scope → ℕ → Option ℕ → (low high : ℤ) → (stride : ℕ) → (index : Emit) → Emit
+item_by s h None low high stride index = index ⨟ one s (h + 1) (i.Item low high stride)
+item_by s h (Some n) low high stride index = one s h (i.ItemL n low high stride)
 
 -- ---- operators (4.5)
 
@@ -425,8 +430,8 @@ module _ (program : Program) where
     -- pushes the value
     pub emit : Scope → ℕ → Expr → Emit
     emit s h (Static at value literal mentions) = one s h (i.Push value)
-    emit s h (Variable at r selections scalar) = part_of s h (root_of s r) (is_whole selections) (selected s (h + 1) selections)
-    emit s h (Constant at r selections scalar) = part_of s h (constant_root_of s r) (is_whole selections) (selected s (h + 1) selections)
+    emit s h (Variable at r selections scalar) = part_of s h (root_of s r) (is_whole selections) (read s (h + 1) selections)
+    emit s h (Constant at r selections scalar) = part_of s h (constant_root_of s r) (is_whole selections) (read s (h + 1) selections)
     emit s h (Parameter at k) = load_where s h (s.parameter k)
     emit s h (Target at scalar) = load_named s h s.target
     emit s h (Group e) = emit s h e
@@ -457,6 +462,13 @@ module _ (program : Program) where
     selected s h Whole = none
     selected s h (Field number offset rest) = one s h (i.Field offset) ⨟ selected s h rest
     selected s h (Index at e low high stride rest) = indexed_by s h (own_cell s e) low high stride (emit s h e) ⨟ selected s h rest
+
+    -- what selections lead to from the address on the stack is read
+    pub read : Scope → ℕ → Selections → Emit
+    read s h Whole = one s h i.Load
+    read s h (Field number offset rest) = one s h (i.Field offset) ⨟ read s h rest
+    read s h (Index at e low high stride rest) =
+        cond (is_whole rest) (item_by s h (own_cell s e) low high stride (emit s h e)) (indexed_by s h (own_cell s e) low high stride (emit s h e) ⨟ read s h rest)
 
     -- actual parameters go to the cells of their formals, with the addresses of what is copied back (6.4.1)
     pub passed : Scope → ℕ → ℕ → ℕ → Actuals → Emit

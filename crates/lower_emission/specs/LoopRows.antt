@@ -1,11 +1,12 @@
--- Programs with loops (5.5, 5.5.2, 5.7) and a reduction in order (4.5.10), and their code by hand.
+-- Programs with loops (5.5, 5.5.2, 5.7), a reduction in order (4.5.10) and components that are read at indexes (4.1.1), and their
+-- code by hand.
 use Rattle.std.specs.Prelude.{pos, List, [], ◌∷◌, Some, None, true, false}
 use Rattle.ada_base.specs.declared.operation.Base.TheVariants.{Narrow}
 use Rattle.ada_base.specs.declared.operation.Comparison.TheVariants as comparison
 use Rattle.ada_base.specs.declared.operation.Op.TheVariants as op
 use Rattle.typed_tree.specs.declared.expressions.Reducer.TheVariants as reducer
 use Rattle.typed_tree.specs.declared.expressions.Root.TheVariants as root
-use Rattle.typed_tree.specs.Syntax.{Variable, Parameter, Binary, Relation, Reduction, Absent, Present, Whole, Range, Components, NoChunk, NoDecl, DeclareDefault, Exit, Loop, For, End, Then, Program}
+use Rattle.typed_tree.specs.Syntax.{Expr, Variable, Parameter, Binary, Relation, Reduction, Absent, Present, Whole, Index, Array, Range, Components, NoChunk, NoDecl, DeclareDefault, Exit, Loop, For, End, Then, Program}
 use Rattle.ada_meaning.specs.Rows.{integers, integer, number, variable, sum, assign, object_of, made_of, upto, array_of}
 use Rattle.stack_code.specs.declared.instr.Instr.TheVariants as i
 use Rattle.lower_emission.specs.Lines.{Line, main, fits, is_digit, digit, digits, set_to, IsPlain}
@@ -257,5 +258,56 @@ reduces_code =
 abbrev pub Reduces : Type 0
 Reduces = IsPlain reduces reduces_code 4 3
 
+-- A : array (1 .. 2, 1 .. 2) of Integer; X : Integer := 1; for I in 1 .. 2 loop X := A (I, I) + A (X, X); end loop;
+
+abbrev on_diagonal : Expr → Expr
+on_diagonal e = Variable 0 (root.Object 0) (Index 0 e (pos 1) (pos 2) 2 (Index 0 e (pos 1) (pos 2) 1 Whole)) integer
+
+abbrev pub crosses : Program
+crosses = made_of (Array (record { low = pos 1; high = pos 2 } ∷ record { low = pos 1; high = pos 2 } ∷ []) 0 ∷ []) (object_of 1 4 ∷ object_of 0 1 ∷ []) [] (DeclareDefault 0 (set_to 1 1 NoDecl))
+    (Then (For 0 (upto 0 2) (Then (assign 1 (sum (on_diagonal (Parameter 0 0)) (on_diagonal (variable 1)))) End)) End)
+
+abbrev crosses_code : List Line
+crosses_code =
+    main 0 0 (i.Push integer.low)
+    ∷ main 1 1 (i.StoreL 0)
+    ∷ main 2 0 (i.Local 1)
+    ∷ main 3 1 (i.Local 0)
+    ∷ main 4 2 (i.Copy 1)
+    ∷ main 5 0 (i.Local 2)
+    ∷ main 6 1 (i.Local 0)
+    ∷ main 7 2 (i.Copy 2)
+    ∷ main 8 0 (i.Push (pos 1))
+    ∷ main 9 1 fits
+    ∷ main 10 1 (i.StoreL 4)
+    ∷ main 11 0 (i.Push (pos 1))
+    ∷ main 12 1 (i.StoreL 5)
+    ∷ main 13 0 (i.Push (pos 2))
+    ∷ main 14 1 (i.StoreL 6)
+    ∷ main 15 0 (i.LoadL 5)
+    ∷ main 16 1 (i.LoadL 6)
+    ∷ main 17 2 i.Le
+    ∷ main 18 1 (i.JFalse 34)
+    ∷ main 19 0 (i.Jump 21)
+    ∷ main 20 0 (i.Jump 34)
+    ∷ main 21 0 i.Turn
+    ∷ main 22 0 (i.Global 0)
+    ∷ main 23 1 (i.IndexL 5 (pos 1) (pos 2) 2)
+    ∷ main 24 1 (i.ItemL 5 (pos 1) (pos 2) 1)
+    ∷ main 25 1 (i.Global 0)
+    ∷ main 26 2 (i.LoadG 4)
+    ∷ main 27 3 (i.Index (pos 1) (pos 2) 2)
+    ∷ main 28 2 (i.LoadG 4)
+    ∷ main 29 3 (i.Item (pos 1) (pos 2) 1)
+    ∷ main 30 2 (i.Add Narrow)
+    ∷ main 31 1 fits
+    ∷ main 32 1 (i.StoreG 4)
+    ∷ main 33 0 (i.Next 5 6 21)
+    ∷ main 34 0 i.Halt
+    ∷ []
+
+abbrev pub Crosses : Type 0
+Crosses = IsPlain crosses crosses_code 8 3
+
 abbrev pub LoopRows : Type 0
-LoopRows = Counts × Exits × Sums × Descends × Skips × Visits × Reduces
+LoopRows = Counts × Exits × Sums × Descends × Skips × Visits × Reduces × Crosses

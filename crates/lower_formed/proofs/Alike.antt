@@ -18,7 +18,7 @@ use Rattle.lower_emission.specs.Emits.{Emit, Nothing, One, Seq, Choose, When, Lo
 use Rattle.lower_emission.specs.Scope.{Scope, mark_of, moved_named, none, one, thread_scope, with_exit, ◌⨟◌}
 use Rattle.lower_emission.specs.Statements.{away}
 use Rattle.ada_lower.specs.Sights.{Named, Where, array_root_of, constant_root_of, root_of}
-use Rattle.ada_lower.specs.Emission.{address, ascending, bounds_code, chunk_scope, combined, counting, doubled, ends_code, away, exiting, filling, fillings, folding, indexed_by, leaving_by, load_by, load_named, load_where, negated_code, part_of, raise_above, ranged, raise_beyond, stepping, turning, entering, entering_next, run_steps, run_turnings, turnings, within, components_of, locating, locating_in, repeating}
+use Rattle.ada_lower.specs.Emission.{address, ascending, bounds_code, chunk_scope, combined, counting, doubled, ends_code, away, exiting, filling, fillings, folding, indexed_by, item_by, leaving_by, load_by, load_named, load_where, negated_code, part_of, raise_above, ranged, raise_beyond, stepping, turning, entering, entering_next, run_steps, run_turnings, turnings, within, components_of, locating, locating_in, repeating}
 use Rattle.typed_scopes.specs.Scopes.{Around, ArraySeen, ConstantSeen, VariableSeen, with_chunk}
 
 -- ---- code that is alike: with the same marks and instructions, but for places of handlers and aims of jumps
@@ -141,15 +141,22 @@ module _ (T : ℕ → ℕ → Type 0) (v : Around) (s : Scope) (o : Entity → O
       by None = plain
       by (Some n) = plain
 
-  pub a_part : (h : ℕ) (n n' : Option Named) (whole : Bool) (moved moved' : Emit) → n ≡ n' → Alike T moved moved' → Alike T (part_of s h n whole moved) (part_of (prime o x e s) h n' whole moved')
-  a_part h n n' whole moved moved' same f =
-      subst (λ m. Alike T (part_of s h n whole moved) (part_of (prime o x e s) h m whole moved')) same
-      (a_cond T whole (load_named s h n) (address s h n ⨟ moved ⨟ one s (h + 1) i.Load) (load_named (prime o x e s) h n) (address (prime o x e s) h n ⨟ moved' ⨟ one (prime o x e s) (h + 1) i.Load) (a_load h n) (a_address h n n refl, (f, plain)))
+  pub a_part : (h : ℕ) (n n' : Option Named) (whole : Bool) (part part' : Emit) → n ≡ n' → Alike T part part' → Alike T (part_of s h n whole part) (part_of (prime o x e s) h n' whole part')
+  a_part h n n' whole part part' same f =
+      subst (λ m. Alike T (part_of s h n whole part) (part_of (prime o x e s) h m whole part')) same
+      (a_cond T whole (load_named s h n) (address s h n ⨟ part) (load_named (prime o x e s) h n) (address (prime o x e s) h n ⨟ part') (a_load h n) (a_address h n n refl, f))
 
   pub a_indexed : (h : ℕ) (n n' : Option ℕ) (low high : ℤ) (stride : ℕ) (index index' : Emit) → n ≡ n' → Alike T index index' → Alike T (indexed_by s h n low high stride index) (indexed_by (prime o x e s) h n' low high stride index')
   a_indexed h n n' low high stride index index' same f = subst (λ m. Alike T (indexed_by s h n low high stride index) (indexed_by (prime o x e s) h m low high stride index')) same (by n)
     where
       by : (n : Option ℕ) → Alike T (indexed_by s h n low high stride index) (indexed_by (prime o x e s) h n low high stride index')
+      by None = (f, plain)
+      by (Some m) = plain
+
+  pub a_item : (h : ℕ) (n n' : Option ℕ) (low high : ℤ) (stride : ℕ) (index index' : Emit) → n ≡ n' → Alike T index index' → Alike T (item_by s h n low high stride index) (item_by (prime o x e s) h n' low high stride index')
+  a_item h n n' low high stride index index' same f = subst (λ m. Alike T (item_by s h n low high stride index) (item_by (prime o x e s) h m low high stride index')) same (by n)
+    where
+      by : (n : Option ℕ) → Alike T (item_by s h n low high stride index) (item_by (prime o x e s) h n low high stride index')
       by None = (f, plain)
       by (Some m) = plain
 

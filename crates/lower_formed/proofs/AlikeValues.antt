@@ -8,10 +8,10 @@ use Rattle.stack_code.specs.declared.instr.Instr.TheVariants as i
 use Rattle.lower_emission.specs.Emits.{Emit}
 use Rattle.lower_emission.specs.Scope.{Scope, moved_named, nested, none, one, own, taking, thread_scope, with_item, with_parameter, ◌⨟◌}
 use Rattle.ada_lower.specs.Sights.{Named, array_root_of, constant_root_of, root_of}
-use Rattle.ada_lower.specs.Emission.{associated, chunk_code, chunk_scope, component, composed, composite_width, course_code, emit, filtered, first_parameter, folding, is_plain, fillings, turn_height, turnings, is_whole, items_code, own_cell, own_named, iterated, iterated_scope, passed, passing, put_into, range_scope, selected, threaded, turn_item, turns_code, width, is_repeated, repeating}
+use Rattle.ada_lower.specs.Emission.{associated, chunk_code, chunk_scope, component, composed, composite_width, course_code, emit, filtered, first_parameter, folding, is_plain, fillings, turn_height, turnings, is_whole, items_code, own_cell, own_named, iterated, iterated_scope, passed, passing, put_into, range_scope, read, selected, threaded, turn_item, turns_code, width, is_repeated, repeating}
 use Rattle.typed_scopes.specs.Scopes as scopes
 use Rattle.typed_scopes.specs.Scopes.{Around, ScopedActuals, ScopedAssociations, ScopedChunk, ScopedComposite, ScopedExpr, ScopedIn, ScopedIteration, ScopedOptional, ScopedSelections, ScopedValue, with_chunk}
-use Rattle.lower_formed.proofs.Alike.{Alike, Like, a_above, a_address, a_ascending, a_beyond, a_bounds, a_combined, a_cond, a_counting, a_ends, a_fillings, a_folding, a_indexed, a_load, a_negated, a_part, a_stepping, a_turnings, a_where, a_within, array_same, chunk_object, chunk_prime, constant_same, leave, like_chunk, like_thread, marked, plain, prime, root_same, a_repeating}
+use Rattle.lower_formed.proofs.Alike.{Alike, Like, a_above, a_address, a_ascending, a_beyond, a_bounds, a_combined, a_cond, a_counting, a_ends, a_fillings, a_folding, a_indexed, a_item, a_load, a_negated, a_part, a_stepping, a_turnings, a_where, a_within, array_same, chunk_object, chunk_prime, constant_same, leave, like_chunk, like_thread, marked, plain, prime, root_same, a_repeating}
 
 module _ (T : ℕ → ℕ → Type 0) (program : Program) (shown : ℕ → Entity → Bool) where
   -- those of a function are of all modes
@@ -59,8 +59,8 @@ module _ (T : ℕ → ℕ → Type 0) (program : Program) (shown : ℕ → Entit
 
     pub a_emit : (v : Around) (s : Scope) (o : Entity → Option Named) (xs : ℕ → Option ℕ) (en : Option ℕ) (h : ℕ) (e : Expr) → Like T v s o xs en → ScopedExpr program shown v e → Alike T (emit program s h e) (emit program (prime o xs en s) h e)
     a_emit v s o xs en h (Static at value literal mentions) k p = (plain T v s o xs en k)
-    a_emit v s o xs en h (Variable at r x scalar) k p = a_part T v s o xs en k h (root_of s r) (root_of (prime o xs en s) r) (is_whole x) _ _ (root_same T v s o xs en k r p.0) (a_selected v s o xs en (h + 1) x k p.1)
-    a_emit v s o xs en h (Constant at r x scalar) k p = a_part T v s o xs en k h (constant_root_of s r) (constant_root_of (prime o xs en s) r) (is_whole x) _ _ (constant_same T v s o xs en k r p.0) (a_selected v s o xs en (h + 1) x k p.1)
+    a_emit v s o xs en h (Variable at r x scalar) k p = a_part T v s o xs en k h (root_of s r) (root_of (prime o xs en s) r) (is_whole x) _ _ (root_same T v s o xs en k r p.0) (a_read v s o xs en (h + 1) x k p.1)
+    a_emit v s o xs en h (Constant at r x scalar) k p = a_part T v s o xs en k h (constant_root_of s r) (constant_root_of (prime o xs en s) r) (is_whole x) _ _ (constant_same T v s o xs en k r p.0) (a_read v s o xs en (h + 1) x k p.1)
     a_emit v s o xs en h (Parameter at j) k p = a_where T v s o xs en k h (s.parameter j)
     a_emit v s o xs en h (Target at scalar) k p = a_load T v s o xs en k h s.target
     a_emit v s o xs en h (Group e) k p = a_emit v s o xs en h e k p
@@ -129,6 +129,13 @@ module _ (T : ℕ → ℕ → Type 0) (program : Program) (shown : ℕ → Entit
     a_selected v s o xs en h Whole k p = tt
     a_selected v s o xs en h (Field number offset rest) k p = ((plain T v s o xs en k), a_selected v s o xs en h rest k p)
     a_selected v s o xs en h (Index at e low high stride rest) k p = (a_indexed T v s o xs en k h (own_cell s e) (own_cell (prime o xs en s) e) low high stride _ _ (own_same v s o xs en e k p.0) (a_emit v s o xs en h e k p.0), a_selected v s o xs en h rest k p.1)
+
+    a_read : (v : Around) (s : Scope) (o : Entity → Option Named) (xs : ℕ → Option ℕ) (en : Option ℕ) (h : ℕ) (x : Selections) → Like T v s o xs en → ScopedSelections program shown v x → Alike T (read program s h x) (read program (prime o xs en s) h x)
+    a_read v s o xs en h Whole k p = (plain T v s o xs en k)
+    a_read v s o xs en h (Field number offset rest) k p = ((plain T v s o xs en k), a_read v s o xs en h rest k p)
+    a_read v s o xs en h (Index at e low high stride rest) k p =
+        a_cond T (is_whole rest) _ _ _ _ (a_item T v s o xs en k h (own_cell s e) (own_cell (prime o xs en s) e) low high stride _ _ (own_same v s o xs en e k p.0) (a_emit v s o xs en h e k p.0))
+        (a_indexed T v s o xs en k h (own_cell s e) (own_cell (prime o xs en s) e) low high stride _ _ (own_same v s o xs en e k p.0) (a_emit v s o xs en h e k p.0), a_read v s o xs en h rest k p.1)
 
     pub a_passed : (v : Around) (s : Scope) (o : Entity → Option Named) (xs : ℕ → Option ℕ) (en : Option ℕ) (h sub w : ℕ) (fs : List Formal) (x : Actuals) → Like T v s o xs en → ScopedActuals program shown v fs x → Alike T (passed program s h sub w x) (passed program (prime o xs en s) h sub w x)
     a_passed v s o xs en h sub w fs NoActual k p = tt

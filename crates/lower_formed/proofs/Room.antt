@@ -1,5 +1,5 @@
 -- Where code of a value, of an object or of pieces is, the frame has the cells that its scope uses.
-use Rattle.std.proofs.Common.{◌≡◌, ℕ, zero, suc, ◌+◌, ◌≤◌, ℤ, List, [], ◌∷◌, ◌++◌, length, slice_get, Option, Some, None, Bool, true, false, refl, sym, subst, arith}
+use Rattle.std.proofs.Common.{◌≡◌, ℕ, zero, suc, ◌+◌, ◌≤◌, ℤ, List, [], ◌∷◌, ◌++◌, length, slice_get, Option, Some, None, Bool, true, false, cond, refl, sym, subst, true≢false, arith}
 use Rattle.std.proofs.Math.Nat.{le-max_right}
 use Rattle.typed_tree.specs.declared.scalars.Scalar.{Scalar}
 use Rattle.typed_tree.specs.declared.program.Field.{Field as Part}
@@ -8,19 +8,42 @@ use Rattle.ada_meaning.specs.Values.{components, fields, layout_of, layout_withi
 use Rattle.stack_code.specs.declared.code.Around.{Around}
 use Rattle.stack_code.specs.declared.code.SiteKind.{SiteKind}
 use Rattle.lower_emission.specs.Emits.{Emit}
-use Rattle.lower_emission.specs.Scope.{Scope, one}
+use Rattle.lower_emission.specs.Scope.{Scope, one, ◌⨟◌}
 use Rattle.lower_emission.specs.declared.types.Named.{Named}
-use Rattle.ada_lower.specs.Emission.{cells_of, default_of, defaults_within, emit, field_defaults, indexed_by, is_whole, own_cell, part_of, passed, piece_cells, piece_values, put_into, composed, selected, send_instr}
+use Rattle.ada_lower.specs.Emission.{cells_of, default_of, defaults_within, emit, field_defaults, indexed_by, is_whole, item_by, own_cell, part_of, passed, piece_cells, piece_values, put_into, composed, read, selected, send_instr}
 use Rattle.lower_emission.proofs.OwnCells.{emit_own}
 use Rattle.lower_formed.specs.Rooms.{Roomy}
 
 module _ (program : Program) (rows : ℕ → SiteKind → Around → Type 0) (room : Around → ℕ) where
+  whole_room : (s : Scope) (h : ℕ) (x : Selections) → is_whole x ≡ true → Roomy rows room (selected program s h x)
+  unfolding selected
+  whole_room s h Whole e = tt
+  whole_room s h (Field number offset rest) e = absurd (true≢false (sym e))
+  whole_room s h (Index at i' low high stride rest) e = absurd (true≢false (sym e))
+
+  item_room : (s : Scope) (h : ℕ) (o : Option ℕ) (low high : ℤ) (stride : ℕ) (index : Emit) → Roomy rows room (item_by s h o low high stride index) → Roomy rows room (indexed_by s h o low high stride index)
+  item_room s h None low high stride index m = m
+  item_room s h (Some n) low high stride index m = m
+
+  -- code that reads a part has room where the code of its address has
+  read_room : (s : Scope) (h : ℕ) (x : Selections) → Roomy rows room (read program s h x) → Roomy rows room (selected program s h x)
+  unfolding read selected
+  read_room s h Whole m = tt
+  read_room s h (Field number offset rest) m = (m.0, read_room s h rest m.1)
+  read_room s h (Index at e low high stride rest) m = by (is_whole rest) refl (λ r. read_room s h rest r) m
+    where
+      by : (b : Bool) → is_whole rest ≡ b → (Roomy rows room (read program s h rest) → Roomy rows room (selected program s h rest))
+          → Roomy rows room (cond b (item_by s h (own_cell s e) low high stride (emit program s h e)) (indexed_by s h (own_cell s e) low high stride (emit program s h e) ⨟ read program s h rest))
+          → Roomy rows room (indexed_by s h (own_cell s e) low high stride (emit program s h e) ⨟ selected program s h rest)
+      by true is more m = (item_room s h (own_cell s e) low high stride (emit program s h e) m, whole_room s h rest is)
+      by false is more m = (m.0, more m.1)
+
   -- the code of a part of what is named has that of its selections
-  pub part_room : (s u : Scope) (h : ℕ) (o : Option Named) (x : Selections) → Roomy rows room (part_of s h o (is_whole x) (selected program u (h + 1) x)) → Roomy rows room (selected program u (h + 1) x)
+  pub part_room : (s u : Scope) (h : ℕ) (o : Option Named) (x : Selections) → Roomy rows room (part_of s h o (is_whole x) (read program u (h + 1) x)) → Roomy rows room (selected program u (h + 1) x)
   unfolding selected
   part_room s u h o Whole m = tt
-  part_room s u h o (Field number offset rest) m = m.1.0
-  part_room s u h o (Index at e low high stride rest) m = m.1.0
+  part_room s u h o (Field number offset rest) m = read_room u (h + 1) (Field number offset rest) m.1
+  part_room s u h o (Index at e low high stride rest) m = read_room u (h + 1) (Index at e low high stride rest) m.1
 
   -- where an index is, its code has room
   pub index_room : (s : Scope) (h : ℕ) (e : Expr) (low high : ℤ) (stride : ℕ) → Roomy rows room (indexed_by s h (own_cell s e) low high stride (emit program s h e)) → Roomy rows room (emit program s h e)

@@ -37,8 +37,8 @@ use Rattle.lower_emission.specs.declared.types.Leaving.{Leaving}
 use Rattle.lower_emission.specs.declared.types.Leaving.TheVariants.{ByReturn, ByValue, ByEnd, ByLeave}
 use Rattle.lower_emission.specs.Emits.{Emit, Nothing, One, Seq, Choose, When, Looped, Guarded, Aside, From, listed}
 use Rattle.lower_emission.specs.Scope.{Scope, own, taking, nested, thread_scope, with_parameter, with_item, with_target, with_handled, with_exit, with_entry, root_of, constant_root_of, array_root_of, none, one, ◌⨟◌, load_at, address_at, store_at, address_of}
-use Rattle.lower_emission.specs.Emission.{is_plain, Shape, shapes, load_by, load_named, load_where, address, is_whole, part_of, own_cell, indexed_by, unary_instr, binary_instr, compare_instr, within, negated_code, leaving_by, first_parameter, range_scope, item_scope, counting, bounds_code, ascending, stepping, folding, ranged, combined, doubled, filling, fillings, iterated_scope, turnings, entering, entering_next, run_steps, run_turnings, turn_height, chunk_scope, raise_above, raise_beyond, ends_code, turn_range, turn_component, cells_of, passing, composite_width, width, is_repeated, components_of, locating, locating_in, repeating}
-unfoldable use Rattle.lower_emission.specs.Emission.{emit, selected, passed, put_into, composed, associated, component, filtered, iterated, chunk_code, course_code, threaded}
+use Rattle.lower_emission.specs.Emission.{is_plain, Shape, shapes, load_by, load_named, load_where, address, is_whole, part_of, own_cell, indexed_by, item_by, unary_instr, binary_instr, compare_instr, within, negated_code, leaving_by, first_parameter, range_scope, item_scope, counting, bounds_code, ascending, stepping, folding, ranged, combined, doubled, filling, fillings, iterated_scope, turnings, entering, entering_next, run_steps, run_turnings, turn_height, chunk_scope, raise_above, raise_beyond, ends_code, turn_range, turn_component, cells_of, passing, composite_width, width, is_repeated, components_of, locating, locating_in, repeating}
+unfoldable use Rattle.lower_emission.specs.Emission.{emit, selected, read, passed, put_into, composed, associated, component, filtered, iterated, chunk_code, course_code, threaded}
 use Rattle.lower_emission.specs.Statements.{no_handler, is_end, assigned, in_span, chosen, has_reason, handled_by, returning, returning_value, away, exiting, handled_target, image_instr, send_instr, piece_texts, object_here, exits_of, arm_exits, left_by, exits_code, is_own, left_code, field_defaults, default_of, defaults_within, subtype_or_none, defaulted, declared, parallel_for, arms_code, chunk_by, arm_scope, parallel_block}
 unfoldable use Rattle.lower_emission.specs.Statements.{back_code, piece_values, stmt, all, cases, handling, arm_codes}
 use Rattle.lower_emission.specs.Bodies as code
@@ -156,12 +156,16 @@ module _ (program : Program) where
     quiet_address h None = tt
     quiet_address h (Some n) = quiet_address_of h n
 
-    quiet_part : (h : ℕ) (n : Option Named) (whole : Bool) (moved : Emit) → Hushed moved → Hushed (part_of s h n whole moved)
-    quiet_part h n whole moved f = quiet_cond whole (load_named s h n) (address s h n ⨟ moved ⨟ one s (h + 1) i.Load) (quiet_named h n) (quiet_address h n, (f, tt))
+    quiet_part : (h : ℕ) (n : Option Named) (whole : Bool) (part : Emit) → Hushed part → Hushed (part_of s h n whole part)
+    quiet_part h n whole part f = quiet_cond whole (load_named s h n) (address s h n ⨟ part) (quiet_named h n) (quiet_address h n, f)
 
     quiet_indexed : (h : ℕ) (n : Option ℕ) (low high : ℤ) (stride : ℕ) (index : Emit) → Hushed index → Hushed (indexed_by s h n low high stride index)
     quiet_indexed h None low high stride index f = (f, tt)
     quiet_indexed h (Some n) low high stride index f = tt
+
+    quiet_item : (h : ℕ) (n : Option ℕ) (low high : ℤ) (stride : ℕ) (index : Emit) → Hushed index → Hushed (item_by s h n low high stride index)
+    quiet_item h None low high stride index f = (f, tt)
+    quiet_item h (Some n) low high stride index f = tt
 
     quiet_unary : (h : ℕ) (g : Sign) (class : Class) → Hushed (one s h (unary_instr g class))
     quiet_unary h sign.Minus class = tt
@@ -297,8 +301,8 @@ module _ (program : Program) where
 
     quiet_emit : (may : Bool) (s : Scope) (h : ℕ) (x : Expr) → KeepsExpr nonblocking x may → Inside may s → Hushed (emit program s h x)
     quiet_emit may s h (Static a value literal mentions) w k = tt
-    quiet_emit may s h (Variable a r selections scalar) w k = quiet_part s h (root_of s r) (is_whole selections) (selected program s (h + 1) selections) (quiet_selected may s (h + 1) selections w k)
-    quiet_emit may s h (Constant a r selections scalar) w k = quiet_part s h (constant_root_of s r) (is_whole selections) (selected program s (h + 1) selections) (quiet_selected may s (h + 1) selections w k)
+    quiet_emit may s h (Variable a r selections scalar) w k = quiet_part s h (root_of s r) (is_whole selections) (read program s (h + 1) selections) (quiet_read may s (h + 1) selections w k)
+    quiet_emit may s h (Constant a r selections scalar) w k = quiet_part s h (constant_root_of s r) (is_whole selections) (read program s (h + 1) selections) (quiet_read may s (h + 1) selections w k)
     quiet_emit may s h (Parameter a j) w k = quiet_where s h (s.parameter j)
     quiet_emit may s h (Target a scalar) w k = quiet_named s h s.target
     quiet_emit may s h (Group e) w k = quiet_emit may s h e w k
@@ -356,6 +360,13 @@ module _ (program : Program) where
     quiet_selected may s h Whole w k = tt
     quiet_selected may s h (Field number offset rest) w k = (tt, quiet_selected may s h rest w k)
     quiet_selected may s h (Index a e low high stride rest) w k = (quiet_indexed s h (own_cell s e) low high stride (emit program s h e) (quiet_emit may s h e w.0 k), quiet_selected may s h rest w.1 k)
+
+    quiet_read : (may : Bool) (s : Scope) (h : ℕ) (x : Selections) → KeepsSelections nonblocking x may → Inside may s → Hushed (read program s h x)
+    quiet_read may s h Whole w k = tt
+    quiet_read may s h (Field number offset rest) w k = (tt, quiet_read may s h rest w k)
+    quiet_read may s h (Index a e low high stride rest) w k =
+        quiet_cond s (is_whole rest) _ _ (quiet_item s h (own_cell s e) low high stride (emit program s h e) (quiet_emit may s h e w.0 k))
+        (quiet_indexed s h (own_cell s e) low high stride (emit program s h e) (quiet_emit may s h e w.0 k), quiet_read may s h rest w.1 k)
 
     quiet_passed : (may : Bool) (s : Scope) (h sub n : ℕ) (x : Actuals) → KeepsActuals nonblocking x may → Inside may s → Hushed (passed program s h sub n x)
     quiet_passed may s h sub n NoActual w k = tt

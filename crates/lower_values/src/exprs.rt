@@ -224,15 +224,46 @@ pub fn emit(env: &Env<'_>, h: u32, id: u32, out: &mut Emitter)
 #[cycle(emit)]
 #[inline(never)]
 fn part(env: &Env<'_>, h: u32, found: Option<Named>, selections: u32, out: &mut Emitter)
-    ensures { Emits (spec.part_of (env_of env.now) h found (spec.is_whole (selections_at (nodes env.now) selections)) (spec.selected (tables env.now) (env_of env.now) (h + 1) (selections_at (nodes env.now) selections))) out.old out.new }
+    ensures { Emits (spec.part_of (env_of env.now) h found (spec.is_whole (selections_at (nodes env.now) selections)) (spec.read (tables env.now) (env_of env.now) (h + 1) (selections_at (nodes env.now) selections))) out.old out.new }
 {
     if is_whole(env, selections) {
         load(env, h, found, out);
     } else {
         address(env, h, found, out);
         let h1 = out.sum(h, 1);
-        selected(env, h1, selections, out);
-        out.put(env, h1, Instr::Load);
+        read(env, h1, selections, out);
+    }
+}
+
+/// The address on the stack is moved by an index.
+#[cycle(emit)]
+#[inline(never)]
+fn indexed(env: &Env<'_>, h: u32, index: u32, low: i64, high: i64, stride: u32, out: &mut Emitter)
+    ensures { Emits (spec.indexed_by (env_of env.now) h (spec.own_cell (env_of env.now) (expr_at (nodes env.now) index)) low high stride (spec.emit (tables env.now) (env_of env.now) h (expr_at (nodes env.now) index))) out.old out.new }
+{
+    match own_cell(env, index, out) {
+        Some(own) => out.put(env, h, Instr::IndexL(own, low, high, stride)),
+        None => {
+            emit(env, h, index, out);
+            let h1 = out.sum(h, 1);
+            out.put(env, h1, Instr::Index(low, high, stride));
+        }
+    }
+}
+
+/// The component at an index from the address on the stack is read.
+#[cycle(emit)]
+#[inline(never)]
+fn item(env: &Env<'_>, h: u32, index: u32, low: i64, high: i64, stride: u32, out: &mut Emitter)
+    ensures { Emits (spec.item_by (env_of env.now) h (spec.own_cell (env_of env.now) (expr_at (nodes env.now) index)) low high stride (spec.emit (tables env.now) (env_of env.now) h (expr_at (nodes env.now) index))) out.old out.new }
+{
+    match own_cell(env, index, out) {
+        Some(own) => out.put(env, h, Instr::ItemL(own, low, high, stride)),
+        None => {
+            emit(env, h, index, out);
+            let h1 = out.sum(h, 1);
+            out.put(env, h1, Instr::Item(low, high, stride));
+        }
     }
 }
 
@@ -259,17 +290,45 @@ pub fn selected(env: &Env<'_>, h: u32, id: u32, out: &mut Emitter)
                     ..
                 },
             ) => {
-                match own_cell(env, index, out) {
-                    Some(own) => out.put(env, h, Instr::IndexL(own, low, high, stride)),
-                    None => {
-                        emit(env, h, index, out);
-                        let h1 = out.sum(h, 1);
-                        out.put(env, h1, Instr::Index(low, high, stride));
-                    }
-                }
+                indexed(env, h, index, low, high, stride, out);
                 selected(env, h, cell.rest, out);
             }
         }
+    }
+}
+
+/// What selections lead to from the address on the stack is read.
+#[cycle(emit)]
+#[inline(never)]
+#[tactic(auto, unfolding(lower_emission::specs::Emission::read))]
+fn read(env: &Env<'_>, h: u32, id: u32, out: &mut Emitter)
+    ensures { Emits (spec.read (tables env.now) (env_of env.now) h (selections_at (nodes env.now) id)) out.old out.new }
+{
+    match env.typed.nodes.selections(id) {
+        None => out.put(env, h, Instr::Load),
+        Some(cell) => match env.typed.nodes.selection(cell.first) {
+            None => read(env, h, cell.rest, out),
+            Some(Selection::Field { offset, .. }) => {
+                out.put(env, h, Instr::Field(offset));
+                read(env, h, cell.rest, out);
+            }
+            Some(
+                Selection::Index {
+                    index,
+                    low,
+                    high,
+                    stride,
+                    ..
+                },
+            ) => {
+                if is_whole(env, cell.rest) {
+                    item(env, h, index, low, high, stride, out);
+                } else {
+                    indexed(env, h, index, low, high, stride, out);
+                    read(env, h, cell.rest, out);
+                }
+            }
+        },
     }
 }
 

@@ -17,8 +17,17 @@ decreases-reductions::reduction l = 17179869184 * l.id + 5
 abbrev pub decreases-exprs::part : goal.decreases-exprs::part
 decreases-exprs::part l = 17179869184 * l.selections + 20
 
+abbrev pub decreases-exprs::indexed : goal.decreases-exprs::indexed
+decreases-exprs::indexed l = 17179869184 * l.index + 20
+
+abbrev pub decreases-exprs::item : goal.decreases-exprs::item
+decreases-exprs::item l = 17179869184 * l.index + 20
+
 abbrev pub decreases-exprs::selected : goal.decreases-exprs::selected
 decreases-exprs::selected l = 17179869184 * l.id + 1
+
+abbrev pub decreases-exprs::read : goal.decreases-exprs::read
+decreases-exprs::read l = 17179869184 * l.id + 1
 
 abbrev pub decreases-exprs::two : goal.decreases-exprs::two
 decreases-exprs::two l = 17179869184 * max l.left l.right + 20
