@@ -117,7 +117,7 @@ module _ (limit : ℕ) (cuts : ℕ → ℕ → List ℕ) (program : Program) (c 
       → ((m : ℕ) → Stands c (emit program s.scope h e) from m → Runs limit c f x g any (evals e env) (λ d. on f from (pos a ∷ st) d) (λ v d. on f m (v ∷ pos a ∷ st) d))
       → Stands c (item_by s.scope h (own_cell s.scope e) low high stride (emit program s.scope h e)) from to
       → ((v : ℤ) (mid last : Dyn → Step) → Runs limit c f x g (λ _. between low v high ≡ true) (stored.checks IndexCheck at (between low v high)) mid (λ _ d. last d)
-          → ((u : ℤ) (d : Dyn) → value_in (slice_get d.cells (a + to_nat (v -ℤ low) * stride)) ≡ Some u → To limit c (last d) (on f to (u ∷ st) d)) → Runs limit c f x g q (then v) mid goal)
+      → ((u : ℤ) (d : Dyn) → value_in (slice_get d.cells (a + to_nat (v -ℤ low) * stride)) ≡ Some u → To limit c (last d) (on f to (u ∷ st) d)) → Runs limit c f x g q (then v) mid goal)
       → Runs limit c f x g q (stored.bind (evals e env) then) (λ d. on f from (pos a ∷ st) d) goal
   item_does {B} {g} {env} {q} {goal} e from to s h at low high stride a st then k en w pushes l go = by (own_cell s.scope e) refl l
     where
