@@ -1,14 +1,16 @@
 -- The text of a soak, and a run of it whose output memory holds.
-use Rattle.std.proofs.Common.{◌≡◌, ◌∙◌, ℕ, suc, List, [], ◌++◌, ap, append_assoc, refl, sym}
+use Rattle.std.proofs.Common.{◌≡◌, ◌∙◌, ℕ, suc, List, [], ◌++◌, ap, append_assoc, inl, refl, subst, sym}
 use Rattle.std.specs.Prelude.{⊤}
 use Rattle.ada_meaning.specs.Programs.{Setting}
 use Rattle.ada_port.specs.Ports.{Stream}
 use Rattle.typed_tree.specs.Syntax.{Program}
 use Rattle.driver.specs.Running.{Runs}
 use Rattle.run_reports.specs.declared.ends.RunEnd.{RunEnd}
+use Rattle.run_reports.specs.declared.status.Status.{Status}
+use Rattle.command_words.specs.Words.{Asked}
 use Rattle.command_words.specs.declared.request.Mode.{Mode}
 use Rattle.command_words.specs.declared.request.Mode.TheVariants as mode
-use Rattle.ada_cmd.specs.Answer.{Fetches}
+use Rattle.ada_cmd.specs.Answer.{AnswersText, Closes, ClosesOrLacks, Devices, Fetches}
 use Rattle.ada_cmd.specs.Soak.{back, front, soak_text, statement, statements}
 
 pub whole_text : (n number : ℕ) (text : List ℕ) → number ≡ n → text ≡ front ++ statements number → text ++ back ≡ soak_text n
@@ -24,6 +26,13 @@ pub joined : (l₀ l₁ l₂ l₃ l₄ l₅ a b c d e : List ℕ) → l₀ ≡ [
 joined l₀ l₁ l₂ l₃ l₄ l₅ a b c d e none first second third fourth fifth =
     fifth ∙ ap (λ l. l ++ e) (fourth ∙ ap (λ l. l ++ d) (third ∙ ap (λ l. l ++ c) (second ∙ ap (λ l. l ++ b) (first ∙ ap (λ l. l ++ a) none))))
     ∙ append_assoc ((a ++ b) ++ c) d e ∙ append_assoc (a ++ b) c (d ++ e) ∙ append_assoc a b (c ++ (d ++ e))
+
+-- what becomes of these bytes and of this text is what becomes of the same ones
+pub same_lines : (lines due : List ℕ) (given : Status) (o o' e e' : Stream) → lines ≡ due → Closes lines given o o' e e' → ClosesOrLacks due given o o' e e'
+same_lines lines due given o o' e e' is closes = inl (subst (λ (l : List ℕ). Closes l given o o' e e') is closes)
+
+pub same_text : {InTells OutTells : Type 0} (q : Asked) (text due : List ℕ) (given : Status) (before now : Devices) → text ≡ due → AnswersText InTells OutTells q text given before now → AnswersText InTells OutTells q due given before now
+same_text {InTells} {OutTells} q text due given before now is answers = subst (λ (t : List ℕ). AnswersText InTells OutTells q t given before now) is answers
 
 -- what tells its bytes needs no premise
 pub held_runs : {InTells OutTells : Type 0} (p : Program) (set : Setting) (end : RunEnd) (input input' out out' : Stream) → OutTells → Runs InTells OutTells p set end input input' out out' → Runs InTells ⊤ p set end input input' out out'

@@ -1,5 +1,5 @@
 -- The answers of the top call: what is put to out and to err, which devices failed, and the status.
-use Rattle.std.specs.Prelude.{◌≡◌, ◌⊎◌, ⊤, ⊥, ℕ, List, [], Bool, true, false, length, Option, Some, None, option_map, IfSome}
+use Rattle.std.specs.Prelude.{◌≡◌, ◌⊎◌, ⊤, ℕ, List, [], Bool, true, false, length, Option, Some, None, option_map, IfSome}
 use Rattle.ada_port.specs.Ports.{Texts, Stream, Grows, GrowsByPrefix, Breaks, IsTold, Rose, bytes_of, fetched}
 use Rattle.driver.specs.Coded.{HasCode}
 use Rattle.driver.specs.Compile.{IsAccepted, IsFaultOf}

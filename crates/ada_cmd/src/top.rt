@@ -79,14 +79,15 @@ fn answer_words<
 /// 4 where an exception is unhandled, 5 where the turns are spent, 6 for a fault of the input, 7 for a fault of out or err,
 /// and 8 for want of memory.
 ///
-/// The words are `MODE FILE [--workers N] [--chunks PLAN] [--turns K] [--vars]`, where MODE is `check`, `run` or `list`, or `soak` with
-/// a number in the place of FILE. The text, of a soak a stated one, is fetched, compiled and run. There is an input on which the manual permits, under the plan and so many workers, a run that ends so, with these
-/// final variables: the one that the input tells, where it tells, of which what that run didn't take is left. Where out tells,
-/// the bytes written are that run's, and where `--vars` stands there and the run ended normally, a line for each final
-/// variable behind them. Where no device failed and the sequential run on that input is calm, it is that run; and where a
-/// fault or want of memory stopped the run, its output is a prefix of that run's. A line to err says why the status isn't 0.
-/// Once a device has failed it is not asked again. The threads of outermost parallel constructs run on so many workers as the
-/// words say, and the pulse is told of each thread that begins.
+/// The words are `MODE FILE [--workers N] [--chunks PLAN] [--turns K] [--vars]`, where MODE is `check`, `run` or `list`, or
+/// `soak` with a number in the place of FILE. The text, which is fetched, or in a soak stated, is compiled and run. There is an
+/// input on which the manual permits, under the plan and so many workers, a run that ends so, with these final variables: the
+/// one that the input tells, where it tells, of which what that run didn't take is left. Where out tells, the bytes written
+/// are that run's, and where `--vars` stands there and the run ended normally, a line for each final variable behind them; in a
+/// soak they are four lines on that run, after a normal end alone. Where no device failed and the sequential run on that input
+/// is calm, it is that run; and where a fault or want of memory stopped the run, its output is a prefix of that run's. A line
+/// to err says why the status isn't 0. Once a device has failed it is not asked again. The threads of outermost parallel
+/// constructs run on so many workers as the words say, and the pulse is told of each thread that begins.
 pub fn run_words<
     R: Threads + Sync,
     F: Shelf,

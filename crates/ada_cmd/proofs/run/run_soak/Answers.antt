@@ -11,6 +11,6 @@ returns g c =
     record {
       end = ran.end;
       held = grown_of ran.out;
-      runs = held_runs (program c.args.unit.now.typed) (setting_of c.args.setting) ran.end _ _ _ _ (λ s. refl) (rw c.new-held.ensures at c.execute-end.ensures);
+      runs = held_runs (program c.args.unit.now.typed) (setting_of c.args.setting) ran.end _ (g.I.Source.state ran.input) _ (grown_of ran.out) (λ s. refl) (rw c.new-held.ensures at c.execute-end.ensures);
       ends = rw c.bytes.ensures at c.say_soak-status.ensures;
     }
