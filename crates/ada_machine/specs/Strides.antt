@@ -12,9 +12,8 @@ use Rattle.ada_machine.specs.declared.walking.Stretch.TheVariants.{Raises, More,
 use Rattle.ada_machine.specs.Played.{AsksMore}
 use Rattle.ada_machine.specs.States.{state_of, Ready, Wants}
 
--- an exception is being raised, and the rank has fallen; or the next instruction asks for more, or is a look that
--- isn't taken; or a number of it isn't in 64
--- bits, or it would overwrite what it has yet to copy
+-- an exception is being raised, and the rank has fallen; or the next instruction asks for more; or it looks, and the look isn't
+-- taken; or a number of it isn't in 64 bits, or it would overwrite what it has yet to copy
 abbrev pub Reaches : Stretch → (limit : ℕ) → Code → State → (rank' rank : ℕ) → Type 0
 Reaches Raises limit c q r' r = (r' < r) × IsSome q.raising
 Reaches More limit c q r' r = (r' ≤ r) × (q.raising ≡ None) × IsSomeAnd (slice_get c.instrs q.pc) (λ i. AsksMore i)
