@@ -5,6 +5,7 @@ pub mod Changes
 pub mod Classes
 pub mod Doings
 pub mod Frames
+pub mod Heeding
 pub mod Holders
 pub mod Keeping
 pub mod Looking

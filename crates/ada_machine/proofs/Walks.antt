@@ -25,6 +25,10 @@ use Rattle.ada_machine.proofs.Steps.{step_is, steps_on, steps_raising}
 pub machine_here : (c : Code) (m : Machine) (cells : List Cell) → Ready c m cells → m.pc < length c.instrs
 machine_here c m cells r = let w = slice_get_within c.spots m.pc r.stands.spot r.stands.at in omega (arith, w, r.valid.spots)
 
+-- a turn that isn't begun yet
+pub turn_looks : (limit : ℕ) (c : Code) (m : Machine) (cells : List Cell) → m.raising ≡ None → slice_get c.instrs m.pc ≡ Some Turn → IsAtLook limit c (state_of m cells)
+turn_looks limit c m cells n e = step_is limit c (record (state_of m cells) { left = Some 0 }) Turn n e
+
 module _ (limit : ℕ) (c : Code) (m m' : Machine) (cells cells' : List Cell) (r : Ready c m cells) where
   -- it stays ready, with the frames that it had
   pub ready_same : (t : State) → step limit c (state_of m cells) ≡ Goes t → state_of m' cells' ≡ t → vec_capacity m'.stack ≡ vec_capacity m.stack → t.base ≡ m.base → t.waiting ≡ frames_of m.waiting.items → t.outward ≡ m.outward.items → Ready c m' cells'

@@ -21,6 +21,7 @@ use Rattle.stack_code.specs.Answers.{IsIo}
 use Rattle.stack_code.specs.Looks.{counting, Looks, Looks_to}
 use Rattle.stack_code.specs.Runs.{IsAtLook}
 use Rattle.stack_code.specs.Stands.{IsCall, IsForward, Stands, Forked, rank}
+use Rattle.leave_board.specs.Halts.{Heeds}
 use Rattle.ada_machine.specs.declared.machine.Machine.{Machine}
 use Rattle.ada_machine.specs.declared.machine.Waiting.{Waiting}
 use Rattle.stack_code.specs.declared.code.Around.TheVariants.{Sub, Site}
@@ -152,6 +153,19 @@ abbrev pub LooksBy : Went → (old new k : ℕ) → Type 0
 LooksBy (went.Stopped stop.Paused) old new k = new ≡ old
 LooksBy (went.Stopped stop.NoMemory) old new k = new ≡ old
 LooksBy w old new k = new ≡ more old k
+
+-- where it didn't pause, who is told at the end was told at the start, and no look was passed since
+abbrev pub HeedsAt : Stop → (told told' : Type 0) (looks looks' : ℕ) → Type 0
+HeedsAt stop.Paused told told' looks looks' = Unit {0}
+HeedsAt s told told' looks looks' = Heeds told told' looks looks'
+
+abbrev pub HeedsBy : Went → (told told' : Type 0) (looks looks' : ℕ) → Type 0
+HeedsBy (went.Stopped s) told told' looks looks' = HeedsAt s told told' looks looks'
+HeedsBy w told told' looks looks' = Heeds told told' looks looks'
+
+abbrev pub HeedsThen : Option Stop → (told told' : Type 0) (looks looks' : ℕ) → Type 0
+HeedsThen None told told' looks looks' = Heeds told told' looks looks'
+HeedsThen (Some s) told told' looks looks' = HeedsAt s told told' looks looks'
 
 module _ (limit : ℕ) (c : Code) where
   abbrev pub StopsAt : Stop → State → State → Type 0

@@ -7,7 +7,7 @@ ghost use Rattle.ada_machine.specs.Places.{Stays};
 ghost use Rattle.ada_machine.specs.Played.{AsksMore};
 ghost use Rattle.stack_code.specs.Looks.{looks_of, kept_looks};
 ghost use Rattle.stack_code.specs.Machine.{failed, on};
-ghost use Rattle.ada_machine.specs.States.{state_of, more, Ready, Steps, LooksBy};
+ghost use Rattle.ada_machine.specs.States.{state_of, more, Ready, Steps, LooksBy, HeedsBy};
 
 use crate::calls::{enter, enter_at, return_to};
 use crate::cells::Cells;
@@ -33,6 +33,7 @@ fn turn<H: Halt>(code: &Code, m: &mut Machine, limit: u64, halt: &mut H) -> Went
     ensures steps { (cells : List Cell) → Ready code.now m.old cells → Steps limit code.now result m.old cells m.new cells }
     ensures paused { result ≡ Went.Stopped Stop.Paused → H.told halt.new }
     ensures halts { (H.kept halt.new ≡ H.kept halt.old) × (H.told halt.old → H.told halt.new) }
+    ensures heeds { HeedsBy result (H.told halt.old) (H.told halt.new) m.old.looks m.new.looks }
     ensures looks { LooksBy result m.old.looks m.new.looks 1 }
 {
     let _ = code;
@@ -73,6 +74,7 @@ fn nest<H: Halt>(code: &Code, m: &mut Machine, limit: u64, halt: &mut H) -> Went
     ensures steps { (cells : List Cell) → Ready code.now m.old cells → Steps limit code.now result m.old cells m.new cells }
     ensures paused { result ≡ Went.Stopped Stop.Paused → H.told halt.new }
     ensures halts { (H.kept halt.new ≡ H.kept halt.old) × (H.told halt.old → H.told halt.new) }
+    ensures heeds { HeedsBy result (H.told halt.old) (H.told halt.new) m.old.looks m.new.looks }
     ensures looks { LooksBy result m.old.looks m.new.looks 1 }
 {
     let _ = code;
@@ -316,6 +318,7 @@ fn call<C: Cells, H: Halt>(
     ensures steps { Steps limit code.now result m.old (C.cells view.old) m.new (C.cells view.new) }
     ensures paused { result ≡ Went.Stopped Stop.Paused → H.told halt.new }
     ensures halts { (H.kept halt.new ≡ H.kept halt.old) × (H.told halt.old → H.told halt.new) }
+    ensures heeds { HeedsBy result (H.told halt.old) (H.told halt.new) m.old.looks m.new.looks }
     ensures stays { Stays C.floor C.whole C.place view.old view.new }
     ensures looks { LooksBy result m.old.looks m.new.looks 1 }
 {
@@ -377,6 +380,7 @@ fn call_at<C: Cells, H: Halt>(
     ensures steps { Steps limit code.now result m.old (C.cells view.old) m.new (C.cells view.new) }
     ensures paused { result ≡ Went.Stopped Stop.Paused → H.told halt.new }
     ensures halts { (H.kept halt.new ≡ H.kept halt.old) × (H.told halt.old → H.told halt.new) }
+    ensures heeds { HeedsBy result (H.told halt.old) (H.told halt.new) m.old.looks m.new.looks }
     ensures stays { Stays C.floor C.whole C.place view.old view.new }
     ensures looks { LooksBy result m.old.looks m.new.looks 1 }
 {
@@ -434,6 +438,7 @@ fn call_to<C: Cells, H: Halt>(
     ensures steps { Steps limit code.now result m.old (C.cells view.old) m.new (C.cells view.new) }
     ensures paused { result ≡ Went.Stopped Stop.Paused → H.told halt.new }
     ensures halts { (H.kept halt.new ≡ H.kept halt.old) × (H.told halt.old → H.told halt.new) }
+    ensures heeds { HeedsBy result (H.told halt.old) (H.told halt.new) m.old.looks m.new.looks }
     ensures stays { Stays C.floor C.whole C.place view.old view.new }
     ensures looks { LooksBy result m.old.looks m.new.looks 1 }
 {
@@ -554,6 +559,7 @@ fn combine<C: Cells, H: Halt>(
     ensures steps { Steps limit code.now result m.old (C.cells view.old) m.new (C.cells view.new) }
     ensures paused { result ≡ Went.Stopped Stop.Paused → H.told halt.new }
     ensures halts { (H.kept halt.new ≡ H.kept halt.old) × (H.told halt.old → H.told halt.new) }
+    ensures heeds { HeedsBy result (H.told halt.old) (H.told halt.new) m.old.looks m.new.looks }
     ensures stays { Stays C.floor C.whole C.place view.old view.new }
     ensures looks { LooksBy result m.old.looks m.new.looks (kept_looks (reverse m.old.kept.items)) }
 {
@@ -614,6 +620,7 @@ pub(crate) fn effect<C: Cells, H: Halt>(
     ensures steps { Steps limit code.now result m.old (C.cells view.old) m.new (C.cells view.new) }
     ensures paused { result ≡ Went.Stopped Stop.Paused → H.told halt.new }
     ensures halts { (H.kept halt.new ≡ H.kept halt.old) × (H.told halt.old → H.told halt.new) }
+    ensures heeds { HeedsBy result (H.told halt.old) (H.told halt.new) m.old.looks m.new.looks }
     ensures stays { Stays C.floor C.whole C.place view.old view.new }
     ensures looks { LooksBy result m.old.looks m.new.looks (looks_of code.now (state_of m.old (C.cells view.old))) }
 {

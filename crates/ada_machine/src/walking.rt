@@ -7,8 +7,8 @@ ghost use Rattle.stack_code.specs.Tops.{IsTopped};
 ghost use Rattle.ada_machine.specs.Places.{Stays};
 ghost use Rattle.ada_machine.specs.Played.{AsksMore};
 ghost use Rattle.stack_code.specs.Looks.{looks_of, raise_looks};
-ghost use Rattle.ada_machine.specs.States.{state_of, Ready, Steps, Unwinds, StopsAt, ReadyAfter, LooksBy, Unlooked, TookLooks};
-ghost use Rattle.ada_machine.specs.Strides.{Strides};
+ghost use Rattle.ada_machine.specs.States.{state_of, Ready, Steps, Unwinds, StopsAt, ReadyAfter, LooksBy, Unlooked, TookLooks, HeedsAt, HeedsBy, HeedsThen};
+ghost use Rattle.ada_machine.specs.Strides.{Strides, HeedsAlong};
 
 use crate::calls::unwind_to;
 use crate::cells::Cells;
@@ -73,6 +73,7 @@ fn raise<C: Cells, H: Halt>(
     ensures steps { Steps limit code.now result m.old (C.cells view.old) m.new (C.cells view.new) }
     ensures paused { result ≡ Went.Stopped Stop.Paused → H.told halt.new }
     ensures halts { (H.kept halt.new ≡ H.kept halt.old) × (H.told halt.old → H.told halt.new) }
+    ensures heeds { HeedsBy result (H.told halt.old) (H.told halt.new) m.old.looks m.new.looks }
     ensures stays { Stays C.floor C.whole C.place view.old view.new }
     ensures looks { LooksBy result m.old.looks m.new.looks (raise_looks (entry_of code.now.unwind m.old.pc)) }
 {
@@ -110,6 +111,7 @@ fn unwind<C: Cells, H: Halt>(
     ensures unwinds { Unwinds limit code.now result m.old (C.cells view.old) m.new (C.cells view.new) }
     ensures paused { result ≡ Some Stop.Paused → H.told halt.new }
     ensures halts { (H.kept halt.new ≡ H.kept halt.old) × (H.told halt.old → H.told halt.new) }
+    ensures heeds { HeedsThen result (H.told halt.old) (H.told halt.new) m.old.looks m.new.looks }
     ensures stays { Stays C.floor C.whole C.place view.old view.new }
     ensures looks { Unlooked limit code.now result m.old.looks m.new.looks (state_of m.old (C.cells view.old)) (state_of m.new (C.cells view.new)) }
 {
@@ -132,6 +134,8 @@ pub enum Stretch {
     Raises,
     /// The next instruction asks for more, or a turn isn't begun.
     More,
+    /// The halt asked for it, before a turn.
+    Paused,
     /// A number of the next instruction isn't in 64 bits, or it would overwrite what it has yet to copy.
     Beyond,
 }
@@ -152,6 +156,7 @@ fn stride<C: Cells, H: Halt>(
     requires within { m.old.turns ≤ limit }
     ensures strides { Strides limit code.now result m.old (C.cells view.old) m.new (C.cells view.new) }
     ensures halts { (H.kept halt.new ≡ H.kept halt.old) × (H.told halt.old → H.told halt.new) }
+    ensures heeds { HeedsAlong result (H.told halt.old) (H.told halt.new) m.old.looks m.new.looks }
     ensures stays { Stays C.floor C.whole C.place view.old view.new }
     ensures looks { Unlooked limit code.now None m.old.looks m.new.looks (state_of m.old (C.cells view.old)) (state_of m.new (C.cells view.new)) }
 {
@@ -163,7 +168,7 @@ fn stride<C: Cells, H: Halt>(
             Instr::Turn => {
                 if halt.asked() {
                     m.pc = pc;
-                    return Stretch::More;
+                    return Stretch::Paused;
                 }
                 if m.turns == limit {
                     m.pc = pc;
@@ -220,6 +225,7 @@ fn proceed<C: Cells, H: Halt>(
     ensures steps { Steps limit code.now result m.old (C.cells view.old) m.new (C.cells view.new) }
     ensures paused { result ≡ Went.Stopped Stop.Paused → H.told halt.new }
     ensures halts { (H.kept halt.new ≡ H.kept halt.old) × (H.told halt.old → H.told halt.new) }
+    ensures heeds { HeedsBy result (H.told halt.old) (H.told halt.new) m.old.looks m.new.looks }
     ensures stays { Stays C.floor C.whole C.place view.old view.new }
     ensures looks { LooksBy result m.old.looks m.new.looks (looks_of code.now (state_of m.old (C.cells view.old))) }
 {
@@ -246,6 +252,7 @@ pub fn go<C: Cells, H: Halt>(
     ensures within { m.new.turns ≤ limit }
     ensures paused { result ≡ Stop.Paused → H.told halt.new }
     ensures halts { (H.kept halt.new ≡ H.kept halt.old) × (H.told halt.old → H.told halt.new) }
+    ensures heeds { HeedsAt result (H.told halt.old) (H.told halt.new) m.old.looks m.new.looks }
     ensures stays { Stays C.floor C.whole C.place view.old view.new }
     ensures looks { TookLooks limit code.now result m.old.looks m.new.looks (state_of m.old (C.cells view.old)) (state_of m.new (C.cells view.new)) }
 {
@@ -256,6 +263,7 @@ pub fn go<C: Cells, H: Halt>(
         }
         match stride(code, m, view, limit, halt) {
             Stretch::Raises => {}
+            Stretch::Paused => return Stop::Paused,
             Stretch::Beyond => return Stop::NoMemory,
             Stretch::More => match proceed(code, m, view, limit, halt) {
                 Went::On => {}

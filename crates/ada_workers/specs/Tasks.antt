@@ -30,11 +30,13 @@ abbrev pub Did : {P : Type 0} → Runs P → Task P → Task P → State → Typ
 Did runs t u state.NotBegun = (u.path ≡ t.path) × (u.view.cells ≡ t.view.cells) × IsTold u.watch.seen
 Did runs t u (state.Stopped s) = Went runs t.path t.view.cells s u.path u.view.cells × (IsAsked s ⊎ (s ≡ stop.Gone) → IsTold u.watch.seen)
 
+-- what a worker did with a thread: where the thread's seat had seen a leaver, it wasn't begun
 pub record TaskRan {P : Type 0} (runs : Runs P) (t u : Task P) : Type 0 where
   pub number : u.number ≡ t.number
   pub board : u.watch.board ≡ t.watch.board
   pub place : SamePlace t.view u.view
   pub did : Did runs t u u.state
+  pub heeds : IsTold t.watch.seen → u.state ≡ state.NotBegun
   pub first : (k : ℕ) → u.watch.first ≡ Some k → (k ≡ t.number) × (u.state ≡ state.Stopped stop.Gone)
 
 abbrev pub AllHome : {P : Type 0} → Block → List (Ready P) → Type 0

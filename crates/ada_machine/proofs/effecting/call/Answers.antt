@@ -2,6 +2,7 @@ use Rattle.std.proofs.Common.{◌<◌, arith}
 use Rattle.stack_code.specs.declared.instr.Instr.TheVariants as instr
 use Rattle.ada_machine.proofs.Doings as doings
 use Rattle.ada_machine.proofs.Doings.{fine_at, sub_there}
+use Rattle.ada_machine.proofs.Heeding.{unheard}
 use Rattle.ada_machine.proofs.effecting.call.Goals as goal
 
 pub returns-then-asked-clause-steps : goal.returns-then-asked-clause-steps
@@ -36,3 +37,18 @@ returns-then-m-ge-MOST_CALLS-clause-steps g c =
     let t = doings.call_takes c.args.limit c.args.code.now c.args.m.now (g.C.Cells.cells c.args.view.now) c.requires.calm c.args.number c.sub_of-callee.result c.requires.at c.sub_of-callee.ensures c.requires.ready c.requires.within in
     let less : c.args.m.now.turns < c.args.limit = omega (arith, c.requires.within) in
     doings.call_raises c.args.limit c.args.code.now c.args.m.now (g.C.Cells.cells c.args.view.now) c.requires.calm c.args.number c.sub_of-callee.result c.requires.at c.sub_of-callee.ensures c.requires.ready c.requires.within c.fail.new.m (g.C.Cells.cells c.args.view.now) _ less (omega arith) (omega (arith, t)) (c.fail.ensures.state (g.C.Cells.cells c.args.view.now)) c.fail.ensures.same.0
+
+pub returns-then-asked-clause-heeds : goal.returns-then-asked-clause-heeds
+returns-then-asked-clause-heeds g c = tt
+
+pub returns-then-m-limit-clause-heeds : goal.returns-then-m-limit-clause-heeds
+returns-then-m-limit-clause-heeds g c = unheard _ _ _ _ c.asked.result c.if-asked.false c.asked.ensures.heard
+
+pub returns-then-m-ge-MOST_CALLS-clause-heeds : goal.returns-then-m-ge-MOST_CALLS-clause-heeds
+returns-then-m-ge-MOST_CALLS-clause-heeds g c = unheard _ _ _ _ c.asked.result c.if-asked.false c.asked.ensures.heard
+
+pub returns-in-Ok-clause-heeds : goal.returns-in-Ok-clause-heeds
+returns-in-Ok-clause-heeds g c = unheard _ _ _ _ c.asked.result c.if-asked.false c.asked.ensures.heard
+
+pub returns-in-Err-clause-heeds : goal.returns-in-Err-clause-heeds
+returns-in-Err-clause-heeds g c = unheard _ _ _ _ c.asked.result c.if-asked.false c.asked.ensures.heard

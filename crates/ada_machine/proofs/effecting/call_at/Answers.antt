@@ -3,6 +3,7 @@ use Rattle.std.proofs.lemmas.Option.{slice_get_within}
 use Rattle.stack_code.specs.declared.instr.Instr.TheVariants as instr
 use Rattle.ada_machine.proofs.Doings as doings
 use Rattle.ada_machine.proofs.Doings.{sub_at, window_by}
+use Rattle.ada_machine.proofs.Heeding.{unheard}
 use Rattle.ada_machine.proofs.effecting.call_at.Goals as goal
 
 pub returns-then-asked-clause-steps : goal.returns-then-asked-clause-steps
@@ -36,3 +37,18 @@ returns-in-Ok-clause-steps g c =
 
 pub returns-in-Err-clause-steps : goal.returns-in-Err-clause-steps
 returns-in-Err-clause-steps g c = doings.still c.args.limit c.args.code.now c.args.m.now c.enter_at.new.m (g.C.Cells.cells c.args.view.now) (g.C.Cells.cells c.enter_at.new.view) c.requires.ready c.requires.within c.requires.calm (instr.CallAt c.args.window.sub c.args.window.cell) c.requires.at (omega arith) c.in-Err.ensures.err c.enter_at.ensures.room
+
+pub returns-then-asked-clause-heeds : goal.returns-then-asked-clause-heeds
+returns-then-asked-clause-heeds g c = tt
+
+pub returns-then-m-limit-clause-heeds : goal.returns-then-m-limit-clause-heeds
+returns-then-m-limit-clause-heeds g c = unheard _ _ _ _ c.asked.result c.if-asked.false c.asked.ensures.heard
+
+pub returns-then-m-ge-MOST_CALLS-clause-heeds : goal.returns-then-m-ge-MOST_CALLS-clause-heeds
+returns-then-m-ge-MOST_CALLS-clause-heeds g c = unheard _ _ _ _ c.asked.result c.if-asked.false c.asked.ensures.heard
+
+pub returns-in-Ok-clause-heeds : goal.returns-in-Ok-clause-heeds
+returns-in-Ok-clause-heeds g c = unheard _ _ _ _ c.asked.result c.if-asked.false c.asked.ensures.heard
+
+pub returns-in-Err-clause-heeds : goal.returns-in-Err-clause-heeds
+returns-in-Err-clause-heeds g c = unheard _ _ _ _ c.asked.result c.if-asked.false c.asked.ensures.heard

@@ -7,6 +7,7 @@ use Rattle.stack_code.specs.Deeds.{truth}
 use Rattle.stack_code.specs.Machine.{State}
 use Rattle.ada_machine.proofs.Doings as doings
 use Rattle.ada_machine.proofs.Doings.{fine_at, top, sub_to, return_by}
+use Rattle.ada_machine.proofs.Heeding.{unheard}
 use Rattle.ada_machine.proofs.effecting.call_to.Goals as goal
 
 pub returns-then-asked-clause-steps : goal.returns-then-asked-clause-steps
@@ -87,3 +88,21 @@ returns-in-Err-clause-steps g c =
     doings.still c.args.limit c.args.code.now m _ cells (g.C.Cells.cells c.enter_at.new.view) c.requires.ready c.requires.within c.requires.calm (instr.CallTo b.sub b.cell b.to) c.requires.at (subst IsTrueOnTop (sym c.take-fit.ensures.top) fit, (omega arith))
     (ap (λ (s : State). record s { stack = reverse c.put.new.stack.items }) c.in-Err.ensures.err ∙ ap (λ (xs : List ℤ). record (state_of m cells) { stack = xs }) all)
     (omega (arith, c.enter_at.ensures.room, c.put.ensures.room, c.take-fit.ensures.room))
+
+pub returns-then-asked-clause-heeds : goal.returns-then-asked-clause-heeds
+returns-then-asked-clause-heeds g c = tt
+
+pub returns-then-m-limit-clause-heeds : goal.returns-then-m-limit-clause-heeds
+returns-then-m-limit-clause-heeds g c = unheard _ _ _ _ c.asked.result c.if-asked.false c.asked.ensures.heard
+
+pub returns-then-m-ge-MOST_CALLS-clause-heeds : goal.returns-then-m-ge-MOST_CALLS-clause-heeds
+returns-then-m-ge-MOST_CALLS-clause-heeds g c = unheard _ _ _ _ c.asked.result c.if-asked.false c.asked.ensures.heard
+
+pub returns-in-Ok-clause-heeds : goal.returns-in-Ok-clause-heeds
+returns-in-Ok-clause-heeds g c = unheard _ _ _ _ c.asked.result c.if-asked.false c.asked.ensures.heard
+
+pub returns-in-Err-clause-heeds : goal.returns-in-Err-clause-heeds
+returns-in-Err-clause-heeds g c = unheard _ _ _ _ c.asked.result c.if-asked.false c.asked.ensures.heard
+
+pub returns-then-not-truth-clause-heeds : goal.returns-then-not-truth-clause-heeds
+returns-then-not-truth-clause-heeds g c = unheard _ _ _ _ c.asked.result c.if-asked.false c.asked.ensures.heard

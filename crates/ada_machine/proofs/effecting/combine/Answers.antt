@@ -7,6 +7,7 @@ use Rattle.ada_machine.specs.States.{state_of, IsMore}
 use Rattle.stack_code.specs.declared.instr.Instr.TheVariants as instr
 use Rattle.ada_machine.proofs.Doings as doings
 use Rattle.ada_machine.proofs.Doings.{fine_at, sub_with, not_empty}
+use Rattle.ada_machine.proofs.Heeding.{unheard}
 use Rattle.ada_machine.proofs.effecting.combine.Goals as goal
 
 pub returns-then-len-eq0-clause-steps : goal.returns-then-len-eq0-clause-steps
@@ -72,3 +73,24 @@ returns-then-is_err-clause-steps g c =
     let cells = g.C.Cells.cells c.args.view.now in
     doings.still c.args.limit c.args.code.now c.args.m.now _ cells cells c.requires.ready c.requires.within c.requires.calm (instr.Combine c.args.number) c.requires.at (subst IsMore (sym (not_empty c.args.m.now.kept.items (λ e. omega (arith, e))).2) tt, (omega arith))
     (ap (λ (xs : List ℤ). record (state_of c.args.m.now cells) { stack = reverse xs }) c.reserve.ensures.items) (omega (arith, c.reserve.ensures.capacity))
+
+pub returns-then-asked-clause-heeds : goal.returns-then-asked-clause-heeds
+returns-then-asked-clause-heeds g c = tt
+
+pub returns-then-m-limit-clause-heeds : goal.returns-then-m-limit-clause-heeds
+returns-then-m-limit-clause-heeds g c = unheard _ _ _ _ c.asked.result c.if-asked.false c.asked.ensures.heard
+
+pub returns-then-m-ge-MOST_CALLS-clause-heeds : goal.returns-then-m-ge-MOST_CALLS-clause-heeds
+returns-then-m-ge-MOST_CALLS-clause-heeds g c = unheard _ _ _ _ c.asked.result c.if-asked.false c.asked.ensures.heard
+
+pub returns-in-Ok-clause-heeds : goal.returns-in-Ok-clause-heeds
+returns-in-Ok-clause-heeds g c = unheard _ _ _ _ c.asked.result c.if-asked.false c.asked.ensures.heard
+
+pub returns-in-Err-clause-heeds : goal.returns-in-Err-clause-heeds
+returns-in-Err-clause-heeds g c = unheard _ _ _ _ c.asked.result c.if-asked.false c.asked.ensures.heard
+
+pub returns-then-len-eq0-clause-heeds : goal.returns-then-len-eq0-clause-heeds
+returns-then-len-eq0-clause-heeds g c = λ t. (t, refl)
+
+pub returns-then-is_err-clause-heeds : goal.returns-then-is_err-clause-heeds
+returns-then-is_err-clause-heeds g c = unheard _ _ _ _ c.asked.result c.if-asked.false c.asked.ensures.heard

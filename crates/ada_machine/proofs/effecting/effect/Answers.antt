@@ -6,6 +6,7 @@ use Rattle.ada_machine.specs.declared.machine.Stop.TheVariants as stop
 use Rattle.ada_machine.specs.declared.machine.Went.TheVariants as went
 use Rattle.ada_machine.specs.States.{state_of}
 use Rattle.ada_machine.proofs.Looking.{quiet_looks, same_looks, call_looks, window_looks, return_looks, combine_looks}
+use Rattle.ada_machine.proofs.Heeding.{quiet_heeds}
 use Rattle.ada_machine.proofs.effecting.effect.Goals as goal
 
 pub returns-in-Turn-clause-steps : goal.returns-in-Turn-clause-steps
@@ -130,3 +131,81 @@ returns-in-Again-clause-steps g c = c.again.ensures.steps (g.C.Cells.cells c.arg
 
 pub returns-in-Again-clause-looks : goal.returns-in-Again-clause-looks
 returns-in-Again-clause-looks g c = quiet_looks c.args.code.now (state_of c.args.m.now (g.C.Cells.cells c.args.view.now)) (instr.Again c.in-Again.to) c.again.result _ _ c.requires.calm (c.requires.at ∙ ap Some c.in-Again.is) tt c.again.ensures.looks
+
+pub returns-in-Turn-clause-heeds : goal.returns-in-Turn-clause-heeds
+returns-in-Turn-clause-heeds g c = c.turn.ensures.heeds
+
+pub returns-in-Call-clause-heeds : goal.returns-in-Call-clause-heeds
+returns-in-Call-clause-heeds g c = c.call.ensures.heeds
+
+pub returns-in-CallAt-clause-heeds : goal.returns-in-CallAt-clause-heeds
+returns-in-CallAt-clause-heeds g c = c.call_at.ensures.heeds
+
+pub returns-in-CallTo-clause-heeds : goal.returns-in-CallTo-clause-heeds
+returns-in-CallTo-clause-heeds g c = c.call_to.ensures.heeds
+
+pub returns-in-Nest-clause-heeds : goal.returns-in-Nest-clause-heeds
+returns-in-Nest-clause-heeds g c = c.nest.ensures.heeds
+
+pub returns-in-Combine-clause-heeds : goal.returns-in-Combine-clause-heeds
+returns-in-Combine-clause-heeds g c = c.combine.ensures.heeds
+
+pub returns-in-Part-clause-heeds : goal.returns-in-Part-clause-heeds
+returns-in-Part-clause-heeds g c = quiet_heeds c.draw.result _ _ _ c.draw.ensures.looks
+
+pub returns-in-Repeat-clause-heeds : goal.returns-in-Repeat-clause-heeds
+returns-in-Repeat-clause-heeds g c = quiet_heeds c.repeat.result _ _ _ c.repeat.ensures.looks
+
+pub returns-in-Again-clause-heeds : goal.returns-in-Again-clause-heeds
+returns-in-Again-clause-heeds g c = quiet_heeds c.again.result _ _ _ c.again.ensures.looks
+
+pub returns-in-Ret-clause-heeds : goal.returns-in-Ret-clause-heeds
+returns-in-Ret-clause-heeds g c = quiet_heeds c.return_plain.result _ _ _ c.return_plain.ensures.looks
+
+pub returns-in-RetV-clause-heeds : goal.returns-in-RetV-clause-heeds
+returns-in-RetV-clause-heeds g c = quiet_heeds c.return_value.result _ _ _ c.return_value.ensures.looks
+
+pub returns-in-LeaveV-clause-heeds : goal.returns-in-LeaveV-clause-heeds
+returns-in-LeaveV-clause-heeds g c = quiet_heeds c.leave_with.result _ _ _ c.leave_with.ensures.looks
+
+pub returns-in-Fork-clause-heeds : goal.returns-in-Fork-clause-heeds
+returns-in-Fork-clause-heeds g c = quiet_heeds c.fork.result _ _ _ c.fork.ensures.looks
+
+pub returns-in-Unnest-clause-heeds : goal.returns-in-Unnest-clause-heeds
+returns-in-Unnest-clause-heeds g c = quiet_heeds c.unnest.result _ _ _ c.unnest.ensures.looks
+
+pub returns-in-Words-clause-heeds : goal.returns-in-Words-clause-heeds
+returns-in-Words-clause-heeds g c = quiet_heeds c.words.result _ _ _ c.words.ensures.looks
+
+pub returns-in-Img-clause-heeds : goal.returns-in-Img-clause-heeds
+returns-in-Img-clause-heeds g c = quiet_heeds c.put_image.result _ _ _ c.put_image.ensures.looks
+
+pub returns-in-Bool-clause-heeds : goal.returns-in-Bool-clause-heeds
+returns-in-Bool-clause-heeds g c = quiet_heeds c.put_truth.result _ _ _ c.put_truth.ensures.looks
+
+pub returns-in-Wide-clause-heeds : goal.returns-in-Wide-clause-heeds
+returns-in-Wide-clause-heeds g c = quiet_heeds c.put_padded.result _ _ _ c.put_padded.ensures.looks
+
+pub returns-in-Send-clause-heeds : goal.returns-in-Send-clause-heeds
+returns-in-Send-clause-heeds g c = quiet_heeds c.send.result _ _ _ c.send.ensures.looks
+
+pub returns-in-SendLn-clause-heeds : goal.returns-in-SendLn-clause-heeds
+returns-in-SendLn-clause-heeds g c = quiet_heeds c.send_line.result _ _ _ c.send_line.ensures.looks
+
+pub returns-in-EndV-clause-heeds : goal.returns-in-EndV-clause-heeds
+returns-in-EndV-clause-heeds g c = quiet_heeds c.end_with.result _ _ _ c.end_with.ensures.looks
+
+pub returns-in-Exit-clause-heeds : goal.returns-in-Exit-clause-heeds
+returns-in-Exit-clause-heeds g c = λ t. (t, refl)
+
+pub returns-in-Leave-clause-heeds : goal.returns-in-Leave-clause-heeds
+returns-in-Leave-clause-heeds g c = λ t. (t, refl)
+
+pub returns-in-Get-clause-heeds : goal.returns-in-Get-clause-heeds
+returns-in-Get-clause-heeds g c = λ t. (t, refl)
+
+pub returns-in-End-clause-heeds : goal.returns-in-End-clause-heeds
+returns-in-End-clause-heeds g c = λ t. (t, refl)
+
+pub returns-in-Halt-clause-heeds : goal.returns-in-Halt-clause-heeds
+returns-in-Halt-clause-heeds g c = λ t. (t, refl)

@@ -4,6 +4,9 @@ use Rattle.ada_machine.proofs.Walks.{stops_after, stops_later}
 use Rattle.ada_machine.specs.States.{state_of}
 use Rattle.ada_machine.proofs.Looking.{looked_none, looked_step, looked_run, looked_later, looked_stops}
 use Rattle.ada_machine.proofs.Keeping.{stays_on, topped_one, topped_comes, topped_stops}
+use Rattle.stack_code.proofs.Looks.{looks_cut}
+use Rattle.leave_board.proofs.Heeding.{heeds_on}
+use Rattle.ada_machine.proofs.Heeding.{heeds_later}
 use Rattle.ada_machine.proofs.walking.go.Goals as goal
 
 pub loop-stop-init : goal.loop-stop-init
@@ -19,6 +22,7 @@ loop-stop-init g c =
       stays = (refl, λ w. w, refl);
       tops = c.requires.tops;
       halts = (refl, λ t. t);
+      heeds = λ t. (t, refl);
     }
 
 pub unwind-requires-clause-whole : goal.unwind-requires-clause-whole
@@ -96,6 +100,46 @@ returns-in-Beyond-clause-looks g c =
     let looks = looked_run c.args.limit c.args.code.now begun calmed strode c.args.m.now.looks c.unwind.new.m.looks c.stride.new.m.looks looked c.stride.ensures.looks in
     looks
 
+pub returns-in-Paused-clause-stops : goal.returns-in-Paused-clause-stops
+returns-in-Paused-clause-stops g c =
+    let i = c.loop-stop.invariant in
+    let u = c.in-None.ensures.unwinds in
+    let s = c.in-Paused.ensures.strides in
+    let calm = comes_on c.args.limit c.args.code.now _ _ _ i.came u.goes.0 in
+    let came = comes_on c.args.limit c.args.code.now _ _ _ calm s.came in
+    (came, s.ends)
+
+pub returns-in-Paused-clause-halts : goal.returns-in-Paused-clause-halts
+returns-in-Paused-clause-halts g c =
+    let i = c.loop-stop.invariant in
+    (c.stride.ensures.halts.0 ∙ c.unwind.ensures.halts.0 ∙ i.halts.0, λ t. c.stride.ensures.halts.1 (c.unwind.ensures.halts.1 (i.halts.1 t)))
+
+pub returns-in-Paused-clause-stays : goal.returns-in-Paused-clause-stays
+returns-in-Paused-clause-stays g c =
+    let i = c.loop-stop.invariant in
+    let stays = stays_on (g.C.Cells.floor) (g.C.Cells.whole) (g.C.Cells.place) (stays_on (g.C.Cells.floor) (g.C.Cells.whole) (g.C.Cells.place) i.stays c.unwind.ensures.stays) c.stride.ensures.stays in
+    stays
+
+pub returns-in-Paused-clause-tops : goal.returns-in-Paused-clause-tops
+returns-in-Paused-clause-tops g c =
+    let i = c.loop-stop.invariant in
+    let u = c.in-None.ensures.unwinds in
+    let s = c.in-Paused.ensures.strides in
+    let tops = topped_comes c.args.limit c.args.code.now _ _ c.stride.ensures.stays.0 _ _ s.came (topped_comes c.args.limit c.args.code.now _ _ c.unwind.ensures.stays.0 _ _ u.goes.0 i.tops) in
+    tops
+
+pub returns-in-Paused-clause-looks : goal.returns-in-Paused-clause-looks
+returns-in-Paused-clause-looks g c =
+    let i = c.loop-stop.invariant in
+    let cells = g.C.Cells.cells in
+    let begun = state_of c.args.m.now (cells c.args.view.now) in
+    let here = state_of c.loop-stop.m (cells c.loop-stop.view) in
+    let calmed = state_of c.unwind.new.m (cells c.unwind.new.view) in
+    let strode = state_of c.stride.new.m (cells c.stride.new.view) in
+    let looked = looked_run c.args.limit c.args.code.now begun here calmed c.args.m.now.looks c.loop-stop.m.looks c.unwind.new.m.looks i.looks c.in-None.ensures.looks in
+    let looks = looked_run c.args.limit c.args.code.now begun calmed strode c.args.m.now.looks c.unwind.new.m.looks c.stride.new.m.looks looked c.stride.ensures.looks in
+    (looks.0, looks.1, (looks.2, looks_cut c.args.limit c.args.code.now looks.0 begun strode looks.2 c.in-Paused.ensures.strides.ends))
+
 pub proceed-requires-clause-whole : goal.proceed-requires-clause-whole
 proceed-requires-clause-whole g c = c.stride.ensures.stays.1 (c.unwind.ensures.stays.1 (c.loop-stop.invariant.stays.1 c.requires.whole))
 
@@ -138,6 +182,7 @@ loop-stop-preserved-in-Raises g c =
       stays = stays;
       tops = tops;
       halts = (c.stride.ensures.halts.0 ∙ c.unwind.ensures.halts.0 ∙ i.halts.0, λ t. c.stride.ensures.halts.1 (c.unwind.ensures.halts.1 (i.halts.1 t)));
+      heeds = heeds_on _ _ _ _ _ _ (heeds_on _ _ _ _ _ _ i.heeds c.in-None.ensures.heeds) c.in-Raises.ensures.heeds;
     }
 
 pub loop-stop-smaller-in-Raises : goal.loop-stop-smaller-in-Raises
@@ -171,6 +216,7 @@ loop-stop-preserved-in-On g c =
       stays = stays_on (g.C.Cells.floor) (g.C.Cells.whole) (g.C.Cells.place) stays c.proceed.ensures.stays;
       tops = topped_one c.args.limit c.args.code.now _ _ c.proceed.ensures.stays.0 _ _ t.goes.0 tops;
       halts = (c.proceed.ensures.halts.0 ∙ c.stride.ensures.halts.0 ∙ c.unwind.ensures.halts.0 ∙ i.halts.0, λ t. c.proceed.ensures.halts.1 (c.stride.ensures.halts.1 (c.unwind.ensures.halts.1 (i.halts.1 t))));
+      heeds = heeds_on _ _ _ _ _ _ (heeds_on _ _ _ _ _ _ (heeds_on _ _ _ _ _ _ i.heeds c.in-None.ensures.heeds) c.in-More.ensures.heeds) c.in-On.ensures.heeds;
     }
 
 pub loop-stop-smaller-in-On : goal.loop-stop-smaller-in-On
@@ -204,6 +250,7 @@ loop-stop-preserved g c =
       stays = stays_on (g.C.Cells.floor) (g.C.Cells.whole) (g.C.Cells.place) stays c.proceed.ensures.stays;
       tops = topped_one c.args.limit c.args.code.now _ _ c.proceed.ensures.stays.0 _ _ t.goes tops;
       halts = (c.proceed.ensures.halts.0 ∙ c.stride.ensures.halts.0 ∙ c.unwind.ensures.halts.0 ∙ i.halts.0, λ t. c.proceed.ensures.halts.1 (c.stride.ensures.halts.1 (c.unwind.ensures.halts.1 (i.halts.1 t))));
+      heeds = heeds_on _ _ _ _ _ _ (heeds_on _ _ _ _ _ _ (heeds_on _ _ _ _ _ _ i.heeds c.in-None.ensures.heeds) c.in-More.ensures.heeds) c.in-Raising.ensures.heeds;
     }
 
 pub loop-stop-smaller : goal.loop-stop-smaller
@@ -253,3 +300,24 @@ returns-in-Stopped-clause-looks g c =
     let looks = looked_run c.args.limit c.args.code.now begun calmed strode c.args.m.now.looks c.unwind.new.m.looks c.stride.new.m.looks looked c.stride.ensures.looks in
     let proceeded = state_of c.proceed.new.m (cells c.proceed.new.view) in
     looked_stops c.args.limit c.args.code.now c.in-Stopped.stop begun strode proceeded c.args.m.now.looks c.stride.new.m.looks _ looks refl c.in-Stopped.ensures.steps.goes c.in-Stopped.ensures.looks
+
+pub returns-in-Some-clause-heeds : goal.returns-in-Some-clause-heeds
+returns-in-Some-clause-heeds g c = heeds_later c.in-Some.stop _ _ _ _ _ _ c.loop-stop.invariant.heeds c.in-Some.ensures.heeds
+
+pub returns-in-Beyond-clause-heeds : goal.returns-in-Beyond-clause-heeds
+returns-in-Beyond-clause-heeds g c = heeds_on _ _ _ _ _ _ (heeds_on _ _ _ _ _ _ c.loop-stop.invariant.heeds c.in-None.ensures.heeds) c.in-Beyond.ensures.heeds
+
+pub returns-in-Paused-clause-heeds : goal.returns-in-Paused-clause-heeds
+returns-in-Paused-clause-heeds g c = tt
+
+pub returns-in-Paused-clause-paused : goal.returns-in-Paused-clause-paused
+returns-in-Paused-clause-paused g c = λ e. c.in-Paused.ensures.heeds
+
+pub returns-in-Paused-clause-ready : goal.returns-in-Paused-clause-ready
+returns-in-Paused-clause-ready g c = c.in-Paused.ensures.strides.ready
+
+pub returns-in-Paused-clause-within : goal.returns-in-Paused-clause-within
+returns-in-Paused-clause-within g c = c.in-Paused.ensures.strides.within
+
+pub returns-in-Stopped-clause-heeds : goal.returns-in-Stopped-clause-heeds
+returns-in-Stopped-clause-heeds g c = heeds_later c.in-Stopped.stop _ _ _ _ _ _ (heeds_on _ _ _ _ _ _ (heeds_on _ _ _ _ _ _ c.loop-stop.invariant.heeds c.in-None.ensures.heeds) c.in-More.ensures.heeds) c.in-Stopped.ensures.heeds

@@ -2,6 +2,8 @@ use Rattle.std.proofs.Common.{refl, sym, ap, ◌∙◌, arith}
 use Rattle.stack_code.specs.Looks.{raise_looks}
 use Rattle.ada_machine.specs.States.{more}
 use Rattle.ada_machine.proofs.Walks.{raises_same, handled_on, handled_depth, handled_room, handled_nest, raising_floor, unwound_ready}
+use Rattle.leave_board.proofs.Heeding.{heeds_same}
+use Rattle.ada_machine.proofs.Heeding.{unheard}
 use Rattle.ada_machine.proofs.walking.raise.Goals as goal
 
 pub handle-requires-clause-depth : goal.handle-requires-clause-depth
@@ -34,3 +36,15 @@ returns-then-is_empty-clause-looks g c = ap (λ o. more c.args.m.now.looks (rais
 
 pub returns-else-is_empty-clause-looks : goal.returns-else-is_empty-clause-looks
 returns-else-is_empty-clause-looks g c = c.unwind_to.ensures.looks ∙ ap (λ o. more c.args.m.now.looks (raise_looks o)) (sym (sym c.holder.ensures ∙ c.in-None.is))
+
+pub returns-then-asked-clause-heeds : goal.returns-then-asked-clause-heeds
+returns-then-asked-clause-heeds g c = tt
+
+pub returns-else-asked-clause-heeds : goal.returns-else-asked-clause-heeds
+returns-else-asked-clause-heeds g c = unheard _ _ _ _ c.asked.result c.if-asked.false c.asked.ensures.heard
+
+pub returns-then-is_empty-clause-heeds : goal.returns-then-is_empty-clause-heeds
+returns-then-is_empty-clause-heeds g c = λ t. (t, refl)
+
+pub returns-else-is_empty-clause-heeds : goal.returns-else-is_empty-clause-heeds
+returns-else-is_empty-clause-heeds g c = heeds_same _ _ _ c.unwind_to.ensures.looks

@@ -12,11 +12,12 @@ use Rattle.ada_machine.proofs.Looking.{none_looks, same_looks, onward_none, rais
 use Rattle.ada_machine.proofs.Readies.{fine_here}
 use Rattle.ada_machine.proofs.Steps.{clear_here, step_plays, step_raises}
 use Rattle.ada_machine.proofs.Unmoved.{looks_still, beyond_still, more_still}
-use Rattle.ada_machine.proofs.Walks.{goes_same, raises_same, turn_on, machine_here}
+use Rattle.ada_machine.proofs.Walks.{goes_same, raises_same, turn_on, turn_looks, machine_here}
+use Rattle.ada_machine.proofs.Heeding.{unheard}
 use Rattle.ada_machine.proofs.walking.stride.Goals as goal
 
 pub loop-halt-init : goal.loop-halt-init
-loop-halt-init g c = record { came = comes_none c.args.limit c.args.code.now (state_of c.args.m.now (g.C.Cells.cells c.args.view.now)); ready = c.requires.ready; calm = c.requires.calm; clear = c.requires.clear; within = c.requires.within; looks = looked_none c.args.limit c.args.code.now (state_of c.args.m.now (g.C.Cells.cells c.args.view.now)) c.args.m.now.looks; stays = (refl, λ w. w, refl); halts = (refl, λ t. t); falls = omega arith }
+loop-halt-init g c = record { came = comes_none c.args.limit c.args.code.now (state_of c.args.m.now (g.C.Cells.cells c.args.view.now)); ready = c.requires.ready; calm = c.requires.calm; clear = c.requires.clear; within = c.requires.within; looks = looked_none c.args.limit c.args.code.now (state_of c.args.m.now (g.C.Cells.cells c.args.view.now)) c.args.m.now.looks; stays = (refl, λ w. w, refl); halts = (refl, λ t. t); heeds = λ t. (t, refl); falls = omega arith }
 
 pub instr_at-instr-requires : goal.instr_at-instr-requires
 instr_at-instr-requires g c = machine_here c.args.code.now (record c.loop-halt.m { pc = c.loop-halt.pc }) (g.C.Cells.cells c.loop-halt.view) c.loop-halt.invariant.ready
@@ -59,6 +60,7 @@ loop-halt-preserved g c =
       looks = looked_step c.args.limit c.args.code.now (state_of c.args.m.now (g.C.Cells.cells c.args.view.now)) (state_of m cells) (state_of m' cells') c.args.m.now.looks m.looks m.looks i.looks refl s.goes.0 (none_looks c.args.code.now (state_of m cells) c.instr_at-instr.result.now went.On m.looks m.looks i.calm c.instr_at-instr.ensures.instr (onward_none (deed_of c.args.code.now m.pc (reverse m.stack.items) m.base m.outward.items c.instr_at-instr.result.now) (state_of m cells) c.in-To.to (reverse c.compute.new.stack.items) cells' deed) refl);
       stays = stays_on (g.C.Cells.floor) (g.C.Cells.whole) (g.C.Cells.place) i.stays c.compute.ensures.stays;
       halts = i.halts;
+      heeds = i.heeds;
       falls = omega (arith, i.falls, s.falls);
     }
 
@@ -87,6 +89,7 @@ returns-in-Failed g c =
     record {
       strides = record { came = comes_on c.args.limit c.args.code.now _ _ _ i.came (comes_one c.args.limit c.args.code.now _ _ s.goes); ready = s.ready; within = s.within; ends = (omega (arith, i.falls, s.falls), refl) };
       halts = i.halts;
+      heeds = i.heeds;
       stays = stays_on (g.C.Cells.floor) (g.C.Cells.whole) (g.C.Cells.place) i.stays c.compute.ensures.stays;
       looks = looked_step c.args.limit c.args.code.now (state_of c.args.m.now (g.C.Cells.cells c.args.view.now)) (state_of m cells) (state_of m' cells') c.args.m.now.looks m.looks m.looks i.looks refl s.goes (none_looks c.args.code.now (state_of m cells) c.instr_at-instr.result.now went.Raising m.looks m.looks i.calm c.instr_at-instr.ensures.instr (raised_none (deed_of c.args.code.now m.pc (reverse m.stack.items) m.base m.outward.items c.instr_at-instr.result.now) (state_of m cells) c.in-Failed.reason (reverse c.compute.new.stack.items) cells' deed) refl);
     }
@@ -110,6 +113,7 @@ loop-halt-preserved-in-Turn g c =
       looks = looked_step c.args.limit c.args.code.now (state_of c.args.m.now (g.C.Cells.cells c.args.view.now)) (state_of m cells) (state_of m' cells) c.args.m.now.looks m.looks m'.looks i.looks refl s.goes.0 (same_looks c.args.code.now (state_of m cells) instr.Turn went.On m.looks m'.looks 1 i.calm at refl c.saturating_add-m.ensures);
       stays = i.stays;
       halts = (c.asked.ensures.kept ∙ i.halts.0, λ t. c.asked.ensures.stays (i.halts.1 t));
+      heeds = unheard _ _ _ _ c.asked.result c.if-asked.false c.asked.ensures.heard;
       falls = omega (arith, i.falls, s.falls);
     }
 
@@ -138,6 +142,7 @@ returns-in-Beyond g c =
     record {
       strides = beyond_still c.args.limit c.args.code.now m m' cells cells' same c.args.m.now (g.C.Cells.cells c.args.view.now) i.came c.compute.ensures.room i.ready i.within i.calm c.instr_at-instr.result.now c.instr_at-instr.ensures.instr wide;
       halts = i.halts;
+      heeds = i.heeds;
       stays = stays_on (g.C.Cells.floor) (g.C.Cells.whole) (g.C.Cells.place) i.stays c.compute.ensures.stays;
       looks = looks_still c.args.limit c.args.code.now m m' cells cells' same (state_of c.args.m.now (g.C.Cells.cells c.args.view.now)) c.args.m.now.looks i.looks;
     }
@@ -154,6 +159,7 @@ returns-in-Other g c =
     record {
       strides = more_still c.args.limit c.args.code.now m m' cells cells' same c.args.m.now (g.C.Cells.cells c.args.view.now) i.came c.compute.ensures.room i.ready i.within i.calm c.instr_at-instr.result.now c.instr_at-instr.ensures.instr i.falls d.0;
       halts = i.halts;
+      heeds = i.heeds;
       stays = stays_on (g.C.Cells.floor) (g.C.Cells.whole) (g.C.Cells.place) i.stays c.compute.ensures.stays;
       looks = looks_still c.args.limit c.args.code.now m m' cells cells' same (state_of c.args.m.now (g.C.Cells.cells c.args.view.now)) c.args.m.now.looks i.looks;
     }
@@ -161,10 +167,9 @@ returns-in-Other g c =
 pub returns-then-asked-clause-strides : goal.returns-then-asked-clause-strides
 returns-then-asked-clause-strides g c =
     let i = c.loop-halt.invariant in
-    let cells = g.C.Cells.cells c.loop-halt.view in
     let m = record c.loop-halt.m { pc = c.loop-halt.pc } in
     let at = c.instr_at-instr.ensures.instr ∙ ap Some c.in-Turn.is in
-    more_still c.args.limit c.args.code.now m m cells cells refl c.args.m.now (g.C.Cells.cells c.args.view.now) i.came refl i.ready i.within i.calm instr.Turn at i.falls tt
+    record { came = i.came; ready = i.ready; within = i.within; ends = turn_looks c.args.limit c.args.code.now m (g.C.Cells.cells c.loop-halt.view) i.calm at }
 
 pub returns-then-asked-clause-halts : goal.returns-then-asked-clause-halts
 returns-then-asked-clause-halts g c = (c.asked.ensures.kept ∙ c.loop-halt.invariant.halts.0, λ t. c.asked.ensures.stays (c.loop-halt.invariant.halts.1 t))
@@ -191,3 +196,9 @@ returns-then-m-limit-clause-stays g c = c.loop-halt.invariant.stays
 
 pub returns-then-m-limit-clause-looks : goal.returns-then-m-limit-clause-looks
 returns-then-m-limit-clause-looks g c = c.loop-halt.invariant.looks
+
+pub returns-then-asked-clause-heeds : goal.returns-then-asked-clause-heeds
+returns-then-asked-clause-heeds g c = c.asked.ensures.told c.if-asked.true
+
+pub returns-then-m-limit-clause-heeds : goal.returns-then-m-limit-clause-heeds
+returns-then-m-limit-clause-heeds g c = unheard _ _ _ _ c.asked.result c.if-asked.false c.asked.ensures.heard

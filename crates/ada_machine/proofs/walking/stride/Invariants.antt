@@ -3,6 +3,7 @@ use Rattle.stack_code.specs.Machine.{Comes}
 use Rattle.stack_code.specs.Runs.{NeverStuck}
 use Rattle.stack_code.specs.Stands.{rank}
 use Rattle.stack_code.specs.Looks.{Looks}
+use Rattle.leave_board.specs.Halts.{Heeds}
 use Rattle.ada_machine.specs.Places.{Stays}
 use Rattle.ada_machine.specs.States.{state_of, Ready, more}
 use Rattle.ada_machine.proofs.walking.stride.Given as goal
@@ -17,6 +18,7 @@ invariant-loop-halt g l = record {
   looks : (n : ℕ) × (l.m.looks ≡ more l.fn.m.looks n) × Looks l.limit l.code n (state_of l.fn.m (g.C.Cells.cells l.fn.view)) (state_of (record l.m { pc = l.pc }) (g.C.Cells.cells l.view));
   stays : Stays g.C.Cells.floor g.C.Cells.whole g.C.Cells.place l.fn.view l.view;
   halts : (g.H.Halt.kept l.halt ≡ g.H.Halt.kept l.fn.halt) × (g.H.Halt.told l.fn.halt → g.H.Halt.told l.halt);
+  heeds : Heeds (g.H.Halt.told l.fn.halt) (g.H.Halt.told l.halt) l.fn.m.looks l.m.looks;
   falls : rank l.code l.limit (state_of (record l.m { pc = l.pc }) (g.C.Cells.cells l.view)) ≤ rank l.code l.limit (state_of l.fn.m (g.C.Cells.cells l.fn.view));
 }
 

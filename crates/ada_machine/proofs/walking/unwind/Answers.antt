@@ -6,10 +6,12 @@ use Rattle.ada_machine.proofs.Keeping.{stays_on, topped_one}
 use Rattle.ada_machine.specs.declared.machine.Went.TheVariants as went
 use Rattle.ada_machine.specs.States.{more, LooksBy}
 use Rattle.ada_machine.proofs.Looking.{looked_none, looked_step, looked_stops, looks_raising}
+use Rattle.leave_board.proofs.Heeding.{heeds_on}
+use Rattle.ada_machine.proofs.Heeding.{heeds_later}
 use Rattle.ada_machine.proofs.walking.unwind.Goals as goal
 
 pub loop-m-init : goal.loop-m-init
-loop-m-init g c = record { came = comes_none c.args.limit c.args.code.now (state_of c.args.m.now (g.C.Cells.cells c.args.view.now)); ready = c.requires.ready; within = c.requires.within; looks = looked_none c.args.limit c.args.code.now (state_of c.args.m.now (g.C.Cells.cells c.args.view.now)) c.args.m.now.looks; stays = (refl, λ w. w, refl); tops = c.requires.tops; halts = (refl, λ t. t); falls = omega arith }
+loop-m-init g c = record { came = comes_none c.args.limit c.args.code.now (state_of c.args.m.now (g.C.Cells.cells c.args.view.now)); ready = c.requires.ready; within = c.requires.within; looks = looked_none c.args.limit c.args.code.now (state_of c.args.m.now (g.C.Cells.cells c.args.view.now)) c.args.m.now.looks; stays = (refl, λ w. w, refl); tops = c.requires.tops; halts = (refl, λ t. t); heeds = λ t. (t, refl); falls = omega arith }
 
 pub returns-in-None-clause-unwinds : goal.returns-in-None-clause-unwinds
 returns-in-None-clause-unwinds g c = let i = c.loop-m.invariant in record { goes = (i.came, c.in-None.is); ready = i.ready; within = i.within; falls = i.falls }
@@ -26,6 +28,7 @@ loop-m-preserved-in-On g c =
       tops = topped_one c.args.limit c.args.code.now _ _ c.raise.ensures.stays.0 _ _ s.goes.0 i.tops;
       looks = looked_step c.args.limit c.args.code.now (state_of c.args.m.now (g.C.Cells.cells c.args.view.now)) (state_of c.loop-m.m (g.C.Cells.cells c.loop-m.view)) (state_of c.raise.new.m (g.C.Cells.cells c.raise.new.view)) c.args.m.now.looks c.loop-m.m.looks _ i.looks refl s.goes.0 (c.in-On.ensures.looks ∙ ap (more c.loop-m.m.looks) (sym (looks_raising c.args.code.now (state_of c.loop-m.m (g.C.Cells.cells c.loop-m.view)) c.in-Some.reason c.in-Some.is)));
       halts = (c.raise.ensures.halts.0 ∙ i.halts.0, λ t. c.raise.ensures.halts.1 (i.halts.1 t));
+      heeds = heeds_on _ _ _ _ _ _ i.heeds c.in-On.ensures.heeds;
       falls = omega (arith, i.falls, s.falls);
     }
 
@@ -41,6 +44,7 @@ loop-m-preserved g c =
       tops = topped_one c.args.limit c.args.code.now _ _ c.raise.ensures.stays.0 _ _ s.goes i.tops;
       looks = looked_step c.args.limit c.args.code.now (state_of c.args.m.now (g.C.Cells.cells c.args.view.now)) (state_of c.loop-m.m (g.C.Cells.cells c.loop-m.view)) (state_of c.raise.new.m (g.C.Cells.cells c.raise.new.view)) c.args.m.now.looks c.loop-m.m.looks _ i.looks refl s.goes (c.in-Raising.ensures.looks ∙ ap (more c.loop-m.m.looks) (sym (looks_raising c.args.code.now (state_of c.loop-m.m (g.C.Cells.cells c.loop-m.view)) c.in-Some.reason c.in-Some.is)));
       halts = (c.raise.ensures.halts.0 ∙ i.halts.0, λ t. c.raise.ensures.halts.1 (i.halts.1 t));
+      heeds = heeds_on _ _ _ _ _ _ i.heeds c.in-Raising.ensures.heeds;
       falls = omega (arith, i.falls, s.falls);
     }
 
@@ -79,3 +83,9 @@ returns-in-None-clause-looks g c = c.loop-m.invariant.looks
 pub returns-in-Stopped-clause-looks : goal.returns-in-Stopped-clause-looks
 returns-in-Stopped-clause-looks g c = looked_stops c.args.limit c.args.code.now c.in-Stopped.stop (state_of c.args.m.now (g.C.Cells.cells c.args.view.now)) (state_of c.loop-m.m (g.C.Cells.cells c.loop-m.view)) (state_of c.raise.new.m (g.C.Cells.cells c.raise.new.view)) c.args.m.now.looks c.loop-m.m.looks _ c.loop-m.invariant.looks refl c.in-Stopped.ensures.steps.goes
     (subst (LooksBy (went.Stopped c.in-Stopped.stop) c.loop-m.m.looks c.raise.new.m.looks) (sym (looks_raising c.args.code.now (state_of c.loop-m.m (g.C.Cells.cells c.loop-m.view)) c.in-Some.reason c.in-Some.is)) c.in-Stopped.ensures.looks)
+
+pub returns-in-None-clause-heeds : goal.returns-in-None-clause-heeds
+returns-in-None-clause-heeds g c = c.loop-m.invariant.heeds
+
+pub returns-in-Stopped-clause-heeds : goal.returns-in-Stopped-clause-heeds
+returns-in-Stopped-clause-heeds g c = heeds_later c.in-Stopped.stop _ _ _ _ _ _ c.loop-m.invariant.heeds c.in-Stopped.ensures.heeds

@@ -3,6 +3,7 @@ use Rattle.stack_code.specs.Machine.{Comes}
 use Rattle.stack_code.specs.Stands.{rank}
 use Rattle.stack_code.specs.Looks.{Looks}
 use Rattle.stack_code.specs.Tops.{IsTopped}
+use Rattle.leave_board.specs.Halts.{Heeds}
 use Rattle.ada_machine.specs.Places.{Stays}
 use Rattle.ada_machine.specs.States.{state_of, Ready, more}
 use Rattle.ada_machine.proofs.walking.unwind.Given as goal
@@ -16,6 +17,7 @@ invariant-loop-m g l = record {
   stays : Stays g.C.Cells.floor g.C.Cells.whole g.C.Cells.place l.fn.view l.view;
   tops : IsTopped (g.C.Cells.floor l.view) (state_of l.m (g.C.Cells.cells l.view));
   halts : (g.H.Halt.kept l.halt ≡ g.H.Halt.kept l.fn.halt) × (g.H.Halt.told l.fn.halt → g.H.Halt.told l.halt);
+  heeds : Heeds (g.H.Halt.told l.fn.halt) (g.H.Halt.told l.halt) l.fn.m.looks l.m.looks;
   falls : rank l.code l.limit (state_of l.m (g.C.Cells.cells l.view)) ≤ rank l.code l.limit (state_of l.fn.m (g.C.Cells.cells l.fn.view));
 }
 
