@@ -1,11 +1,12 @@
 #!/usr/bin/env bash
 # Runs the Ada compiler on the words that it is given, wherever the user stands: the proved program once `ada build` has
-# built it from these sources, and until then the same sources, compiled without a proof at each use. The words, the
-# input, the output and the status pass through; 125 says that the compiler could not be built. Where err is a terminal a
-# refusal is followed by its line of the text and by what the rule asks, and there are the words `help` and `explain`.
+# built it from these sources by Rattle's own compiler, whose program is the faster one, and until then the same sources,
+# compiled without a proof at each use. The words, the input, the output and the status pass through; 125 says that the
+# compiler could not be built. Where err is a terminal a refusal is followed by its line of the text and by what the rule
+# asks, and there are the words `help` and `explain`.
 here=$(cd "$(dirname "$(readlink -f "${BASH_SOURCE[0]}")")" && pwd) || exit 125
 crate=$here/crates/ada_cmd
-program=$crate/out/ada_cmd
+program=$crate/out/ada_cmd.by-rattle
 rules=$here/docs/LANGUAGE.md
 
 is_built() {
@@ -133,8 +134,8 @@ trap 'rm -rf "$work"' EXIT
 # Proves every crate below the program, and the program, and builds it.
 build() {
   say "proving and building; with nothing kept this takes about an hour on two cores"
-  if (cd "$crate" && rt run -- run data/t.ada) >"$work/log" 2>&1 </dev/null; then
-    touch "$program"
+  if (cd "$crate" && rt run --backend rattle -- run data/t.ada) >"$work/log" 2>&1 </dev/null; then
+    cp "$crate/out/ada_cmd" "$program"
   else
     tail -n 20 "$work/log" >&2
     echo "ada: the compiler did not build" >&2
