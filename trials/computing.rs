@@ -1,0 +1,160 @@
+
+use crate::addresses::{load_outer, push_outer, store_outer};
+use crate::blocks::{copy, fill};
+use crate::cells::Cells;
+use crate::memory::{
+    Dimension, index, index_cell, item, item_cell, load, load_cell, next, prior, store, store_cell,
+};
+use crate::operands::{
+    Computed, add, add_constant, check_range, combine_digits, compare, differ, divide, double,
+    exchange, flip, greater, invert, jump_if_false, jump_if_true, jump_unless, lesser,
+    make_absolute, multiply, negate, pop, push, push_local, push_number, raise_again, raise_to,
+    reduce, remain, select, subtract,
+};
+use crate::stack_code::{Code, Digits, Instr, Relation};
+
+/// The frames that an instruction finds cells in: where the own one begins, and where those outward from a thread's own do,
+/// the innermost first.
+#[derive(Clone, Copy)]
+pub struct Frames<'a> {
+    /// Where the own frame begins.
+    pub base: u64,
+    /// Where the frames outward begin.
+    pub outward: &'a [u64],
+}
+
+/// Does an instruction that asks for no more than operands and cells.
+#[inline(always)]
+pub fn compute<C: Cells>(
+    code: &Code,
+    instr: &Instr,
+    pc: usize,
+    stack: &mut Vec<i64>,
+    frames: Frames,
+    view: &mut C,
+) -> Computed
+    
+{
+    match *instr {
+        Instr::Push(value) => push(stack, pc, value),
+        Instr::Pop => pop(stack, pc),
+        Instr::Dup => double(stack, pc),
+        Instr::Swap => exchange(stack, pc),
+        Instr::Local(cell) => push_local(stack, pc, frames.base, cell),
+        Instr::Outer(steps, cell) => push_outer(stack, pc, frames.outward, steps, cell),
+        Instr::Global(cell) => push_number(stack, pc, cell),
+        Instr::Index(low, high, size) => index(stack, pc, low, high, size),
+        Instr::Field(field) => select(stack, pc, field),
+        Instr::Load => load(stack, pc, view),
+        Instr::Store => store(stack, pc, view),
+        Instr::Copy(count) => copy(stack, pc, view, count),
+        Instr::Fill(count, value) => fill(stack, pc, view, count, value),
+        Instr::Add(kind) => add(stack, pc, kind),
+        Instr::Sub(kind) => subtract(stack, pc, kind),
+        Instr::Mul(kind) => multiply(stack, pc, kind),
+        Instr::Div(kind) => divide(stack, pc, kind),
+        Instr::Mod(kind) => reduce(stack, pc, kind),
+        Instr::Rem(kind) => remain(stack, pc, kind),
+        Instr::Pow(kind) => raise_to(stack, pc, kind),
+        Instr::Neg(kind) => negate(stack, pc, kind),
+        Instr::Abs(kind) => make_absolute(stack, pc, kind),
+        Instr::Max => greater(stack, pc),
+        Instr::Min => lesser(stack, pc),
+        Instr::Eq => compare(stack, pc, Relation::Equal),
+        Instr::Ne => compare(stack, pc, Relation::Unequal),
+        Instr::Lt => compare(stack, pc, Relation::Less),
+        Instr::Le => compare(stack, pc, Relation::AtMost),
+        Instr::Gt => compare(stack, pc, Relation::Greater),
+        Instr::Ge => compare(stack, pc, Relation::AtLeast),
+        Instr::And => combine_digits(stack, pc, Digits::Both),
+        Instr::Or => combine_digits(stack, pc, Digits::Either),
+        Instr::Xor => combine_digits(stack, pc, Digits::Differ),
+        Instr::Not => invert(stack, pc),
+        Instr::Range(low, high) => check_range(stack, pc, low, high),
+        Instr::Jump(to) => Computed::To(to as usize),
+        Instr::JFalse(to) => jump_if_false(stack, pc, to),
+        Instr::JTrue(to) => jump_if_true(stack, pc, to),
+        Instr::Raise(reason) => Computed::Failed(reason),
+        Instr::Reraise => raise_again(stack),
+        Instr::LoadL(cell) => load_cell(stack, pc, view, frames.base + u64::from(cell)),
+        Instr::LoadO(steps, cell) => load_outer(stack, pc, view, frames.outward, steps, cell),
+        Instr::LoadG(cell) => load_cell(stack, pc, view, u64::from(cell)),
+        Instr::StoreL(cell) => store_cell(stack, pc, view, frames.base + u64::from(cell)),
+        Instr::StoreO(steps, cell) => store_outer(stack, pc, view, frames.outward, steps, cell),
+        Instr::StoreG(cell) => store_cell(stack, pc, view, u64::from(cell)),
+        Instr::AddI(value, kind) => add_constant(stack, pc, value, kind),
+        Instr::IndexL(cell, low, high, size) => {
+            index_cell(
+                stack,
+                pc,
+                view,
+                frames.base + u64::from(cell),
+                Dimension { low, high, size },
+            )
+        }
+        Instr::Item(low, high, size) => item(stack, pc, view, low, high, size),
+        Instr::ItemL(cell, low, high, size) => {
+            item_cell(
+                stack,
+                pc,
+                view,
+                frames.base + u64::from(cell),
+                Dimension { low, high, size },
+            )
+        }
+        Instr::JfEq(to) => jump_unless(stack, pc, Relation::Equal, to),
+        Instr::JfNe(to) => jump_unless(stack, pc, Relation::Unequal, to),
+        Instr::JfLt(to) => jump_unless(stack, pc, Relation::Less, to),
+        Instr::JfLe(to) => jump_unless(stack, pc, Relation::AtMost, to),
+        Instr::JfGt(to) => jump_unless(stack, pc, Relation::Greater, to),
+        Instr::JfGe(to) => jump_unless(stack, pc, Relation::AtLeast, to),
+        Instr::Next(counter, last, to) => {
+            next(
+                stack,
+                pc,
+                view,
+                frames.base + u64::from(counter),
+                frames.base + u64::from(last),
+                to,
+            )
+        }
+        Instr::Prior(counter, last, to) => {
+            prior(
+                stack,
+                pc,
+                view,
+                frames.base + u64::from(counter),
+                frames.base + u64::from(last),
+                to,
+            )
+        }
+        Instr::Flip => flip(stack, pc),
+        Instr::Differ => differ(stack, pc),
+        Instr::Turn
+        | Instr::Call(_)
+        | Instr::CallAt(_, _)
+        | Instr::CallTo(_, _, _)
+        | Instr::Part
+        | Instr::Repeat(_)
+        | Instr::Again(_)
+        | Instr::Ret
+        | Instr::RetV
+        | Instr::Exit(_)
+        | Instr::Leave
+        | Instr::LeaveV
+        | Instr::Fork(_)
+        | Instr::Nest
+        | Instr::Unnest
+        | Instr::Words(_)
+        | Instr::Img
+        | Instr::Bool
+        | Instr::Wide(_)
+        | Instr::Send
+        | Instr::SendLn
+        | Instr::Get
+        | Instr::End
+        | Instr::EndV
+        | Instr::Halt
+        | Instr::Combine(_) => Computed::Other,
+    }
+}

@@ -1,0 +1,229 @@
+use crate::ada_base::{Base, Reason};
+
+/// One instruction. What each does to the operand stack stands in `specs/Deeds.antt`.
+#[derive(Clone, Copy, Debug)]
+pub enum Instr {
+    /// Pushes a number.
+    Push(i64),
+    /// Drops the top.
+    Pop,
+    /// Pushes the top once more.
+    Dup,
+    /// Exchanges the two last.
+    Swap,
+    /// Pushes the address of a cell of the own frame.
+    Local(u32),
+    /// Pushes the address of a cell of a frame outward from a thread's own: how many frames outward, from 1, and which
+    /// cell.
+    Outer(u32, u32),
+    /// Pushes the address of a cell of the main frame.
+    Global(u32),
+    /// Moves an address by an index: the least index, the greatest, and the cells of one component (4.1.1).
+    Index(i64, i64, u32),
+    /// Moves an address by so many cells (4.1.3).
+    Field(u32),
+    /// Pushes the cell at an address.
+    Load,
+    /// Writes the top to the cell at the address below it.
+    Store,
+    /// Copies so many cells, which are all read first: the address to write at, then the one to read at (5.2).
+    Copy(u32),
+    /// Writes a number to so many cells from an address on.
+    Fill(u32, i64),
+    /// The sum, or Constraint_Error (4.5.3).
+    Add(Base),
+    /// The difference, or Constraint_Error (4.5.3).
+    Sub(Base),
+    /// The product, or Constraint_Error (4.5.5).
+    Mul(Base),
+    /// The quotient toward 0, or Constraint_Error (4.5.5).
+    Div(Base),
+    /// The remainder with the sign of the divisor, or Constraint_Error where that is 0 (4.5.5).
+    Mod(Base),
+    /// The remainder with the sign of the dividend, or Constraint_Error where the divisor is 0 (4.5.5).
+    Rem(Base),
+    /// The power, or Constraint_Error, also where the exponent is negative (4.5.6).
+    Pow(Base),
+    /// The negated number, or Constraint_Error (4.5.4).
+    Neg(Base),
+    /// The absolute value, or Constraint_Error (4.5.6).
+    Abs(Base),
+    /// The greater of two (3.5).
+    Max,
+    /// The lesser of two (3.5).
+    Min,
+    /// Whether two are equal, 1 or 0 (4.5.2).
+    Eq,
+    /// Whether they aren't equal (4.5.2).
+    Ne,
+    /// Whether the lower one is less (4.5.2).
+    Lt,
+    /// Whether it is at most the top (4.5.2).
+    Le,
+    /// Whether it is greater (4.5.2).
+    Gt,
+    /// Whether it is at least the top (4.5.2).
+    Ge,
+    /// Each binary digit that both have (4.5.1).
+    And,
+    /// Each binary digit that one of them has (4.5.1).
+    Or,
+    /// Each binary digit that exactly one has (4.5.1).
+    Xor,
+    /// 1 for 0, and 0 for any other number (4.5.6).
+    Not,
+    /// Raises Constraint_Error unless the top lies from one number to the other (3.5).
+    Range(i64, i64),
+    /// Goes on there.
+    Jump(u32),
+    /// Takes the top, and goes on there where it is 0.
+    JFalse(u32),
+    /// Takes the top, and goes on there where it isn't 0.
+    JTrue(u32),
+    /// Begins a turn.
+    Turn,
+    /// Calls a subprogram with a frame of its own, which takes its operands from the stack (6.4).
+    Call(u32),
+    /// A call whose frame begins at a cell of the own one, where the first values of its formals stand.
+    CallAt(u32, u32),
+    /// The same, which comes back to that instruction in place of the next one: the subprogram, the cell, and where. It
+    /// takes the top, and raises Constraint_Error where that is 0, after a look, with its turn begun and calls counted.
+    CallTo(u32, u32, u32),
+    /// Ends the subprogram (6.5).
+    Ret,
+    /// Ends the function with the top as its value (6.5).
+    RetV,
+    /// Raises an exception (11.3).
+    Raise(Reason),
+    /// Raises the exception whose number is the top.
+    Reraise,
+    /// Leaves the construct of the own thread by the exit of a loop (5.7).
+    Exit(u32),
+    /// Leaves the construct of the own thread by a return (6.5).
+    Leave,
+    /// Leaves it by a return with the top as the value.
+    LeaveV,
+    /// Begins a construct, and takes its five operands (5.5, 5.6.1, 4.5.10).
+    Fork(u32),
+    /// A construct is begun.
+    Nest,
+    /// A construct is ended.
+    Unnest,
+    /// Adds a text to the line that is being built.
+    Words(u32),
+    /// Adds the image of a number to it (4.10).
+    Img,
+    /// Adds TRUE, or FALSE for 0.
+    Bool,
+    /// Adds the image of a number, padded to so many characters (A.10.8).
+    Wide(u32),
+    /// Asks to write the line (A.10.7).
+    Send,
+    /// Asks to write the line and a line feed (A.10.7).
+    SendLn,
+    /// Asks for a number (A.10.8).
+    Get,
+    /// The thread is done.
+    End,
+    /// The thread is done with an accumulator.
+    EndV,
+    /// The main procedure is done.
+    Halt,
+    /// Calls the reducer with each accumulator that the last fork of this frame kept.
+    Combine(u32),
+    /// Takes off the next accumulator that the last fork of this body kept, and pushes it and 1; where none is left it
+    /// pushes 0 and 0.
+    Part,
+    /// Begins a part that is done so many times, once at least; each round begins at the next instruction.
+    Repeat(u64),
+    /// The end of a round: where another one follows, and rounds begin at that instruction, it begins; else the part is
+    /// done.
+    Again(u32),
+    /// The following do what several of those above do one after another. Pushes a cell of the own frame: `Local`,
+    /// `Load`.
+    LoadL(u32),
+    /// Pushes a cell of a frame outward: `Outer`, `Load`.
+    LoadO(u32, u32),
+    /// Pushes a cell of the main frame: `Global`, `Load`.
+    LoadG(u32),
+    /// Writes the top to a cell of the own frame: `Local`, `Swap`, `Store`.
+    StoreL(u32),
+    /// Writes it to a cell of a frame outward: `Outer`, `Swap`, `Store`.
+    StoreO(u32, u32),
+    /// Writes it to a cell of the main frame: `Global`, `Swap`, `Store`.
+    StoreG(u32),
+    /// Adds a constant: `Push`, `Add`.
+    AddI(i64, Base),
+    /// Moves an address by a cell of the frame: `Local`, `Load`, `Index`.
+    IndexL(u32, i64, i64, u32),
+    /// Pushes a component: `Index`, `Load`.
+    Item(i64, i64, u32),
+    /// The same by a cell of the frame: `Local`, `Load`, `Index`, `Load`.
+    ItemL(u32, i64, i64, u32),
+    /// Goes on there where two aren't equal: `Eq`, `JFalse`.
+    JfEq(u32),
+    /// The same with `Ne`.
+    JfNe(u32),
+    /// The same with `Lt`.
+    JfLt(u32),
+    /// The same with `Le`.
+    JfLe(u32),
+    /// The same with `Gt`.
+    JfGt(u32),
+    /// The same with `Ge`.
+    JfGe(u32),
+    /// The end of a turn of a counting loop. Where the first cell is below the second, 1 is added to the first, and a
+    /// jump goes back.
+    Next(u32, u32, u32),
+    /// The same downward: where the first cell is above the second, 1 is taken off.
+    Prior(u32, u32, u32),
+    /// The other truth value: 1 - x.
+    Flip,
+    /// Whether exactly one of two isn't 0.
+    Differ,
+}
+/// A relation of two numbers (4.5.2).
+#[derive(Clone, Copy, Debug)]
+pub enum Relation {
+    /// The two are equal.
+    Equal,
+    /// They aren't.
+    Unequal,
+    /// The first is less than the second.
+    Less,
+    /// The first is less or equal.
+    AtMost,
+    /// The first is greater.
+    Greater,
+    /// The first is greater or equal.
+    AtLeast,
+}
+
+/// An operation on the binary digits of two numbers, which on 1 and 0 is that of Booleans (4.5.1).
+#[derive(Clone, Copy, Debug)]
+pub enum Digits {
+    /// Digits that both have.
+    Both,
+    /// Digits that one of them has, or both.
+    Either,
+    /// Digits that exactly one has.
+    Differ,
+}
+
+use crate::ada_base::{Items};
+pub mod path { #[derive(Clone, Copy, Debug)] pub struct Round { pub more: u64, pub head: usize } }
+pub type Words = Items<u8>;
+#[derive(Clone, Copy, Debug)]
+pub enum Leave { Exit(u32), Return(Option<i64>), Raise(Reason) }
+#[derive(Clone, Copy, Debug)]
+pub struct Asked { pub site: u32, pub count: u64, pub first: i64, pub most: u32, pub chunk: i64, pub initial: i64 }
+pub enum Io { Write(Words), Take }
+#[derive(Clone, Copy, Debug)]
+pub struct Spot { pub stack: u32, pub nest: u32, pub held: Option<u32> }
+#[derive(Clone, Copy, Debug)]
+pub struct Unwind { pub from: u32, pub to: u32, pub handler: u32, pub depth: u32, pub nest: u32 }
+#[derive(Clone, Copy, Debug)]
+pub struct CodeSub { pub entry: u32, pub frame: u32, pub stack: u32, pub takes: u32, pub gives: bool }
+pub struct Site;
+pub struct Code { pub instrs: Items<Instr>, pub spots: Items<Spot>, pub unwind: Items<Unwind>, pub sites: Items<Site>, pub subs: Items<CodeSub>, pub texts: Items<Words> }
+pub fn reason_number(r: Reason) -> u64 { match r { Reason::ConstraintError => 0, Reason::Declared(n) => n as u64 + 5, _ => 1 } }
