@@ -1,7 +1,7 @@
 use ada_base::{Base, Reason};
 
 /// One instruction. What each does to the operand stack stands in `specs/Deeds.antt`.
-#[derive(Clone, Copy, Debug)]
+#[derive(Clone, Copy)]
 pub enum Instr {
     /// Pushes a number.
     Push(i64),

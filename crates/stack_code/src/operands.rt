@@ -5,7 +5,7 @@ use crate::code::{Code, SiteKind};
 use crate::instr::Instr;
 
 /// What may follow an instruction in its body: the next one, another, either of the two, or none.
-#[derive(Clone, Copy, Debug)]
+#[derive(Clone, Copy)]
 pub enum Flow {
     /// The next one follows.
     On,
