@@ -3,7 +3,7 @@ use Rattle.std.proofs.Common.{◌≡◌, ℕ, ◌+◌, ◌-◌, ◌≤◌, ℤ, 
 use Rattle.std.proofs.Math.Seq.{drop-append_seam}
 use Rattle.std.proofs.lemmas.Grind.{reverse_onto}
 use Rattle.std.proofs.lemmas.List.{reverse-append, reverse-reverse, length-reverse, length-drop, take-append-drop}
-use Rattle.std.specs.Prelude.{slice_get}
+use Rattle.std.specs.Prelude.{◌<◌, slice_get, slice_set}
 use Rattle.ada_base.specs.declared.reason.Reason.{Reason}
 use Rattle.stack_code.specs.declared.code.Unwind.{Unwind}
 use Rattle.ada_base.specs.Cells.{Cell}
@@ -26,6 +26,25 @@ pub top_of : (xs : List ℤ) (v : ℤ) → slice_get xs (length xs - 1) ≡ Some
 top_of xs v e =
     let back : reverse (reverse xs) ≡ xs = reverse-reverse xs in
     sym (end_first (reverse xs)) ∙ ap (λ l. slice_get l (length l - 1)) back ∙ e
+
+-- another in its place
+set_at_end : (zs : List ℤ) (y v : ℤ) → slice_set (zs ++ y ∷ []) (length zs) v ≡ zs ++ v ∷ []
+set_at_end [] y v = refl
+set_at_end (z ∷ zs) y v = ap (λ l. z ∷ l) (set_at_end zs y v)
+
+over_first : (ys : List ℤ) (v : ℤ) → 0 < length ys → slice_set (reverse ys) (length (reverse ys) - 1) v ≡ reverse (v ∷ drop 1 ys)
+over_first [] v l = absurd (omega (arith, l))
+over_first (y ∷ ys) v l =
+    let whole : reverse (y ∷ ys) ≡ reverse ys ++ y ∷ [] = reverse_onto ys y [] in
+    let again : reverse (v ∷ ys) ≡ reverse ys ++ v ∷ [] = reverse_onto ys v [] in
+    let many : length (reverse (y ∷ ys)) - 1 ≡ length (reverse ys) = omega (arith, length-reverse (y ∷ ys), length-reverse ys) in
+    ap (λ n. slice_set (reverse (y ∷ ys)) n v) many ∙ ap (λ l. slice_set l (length (reverse ys)) v) whole ∙ set_at_end (reverse ys) y v ∙ sym again
+
+pub over_top : (xs : List ℤ) (n : ℕ) (v : ℤ) → 0 < length xs → n ≡ length xs - 1 → reverse (slice_set xs n v) ≡ v ∷ drop 1 (reverse xs)
+over_top xs n v l e =
+    let back : xs ≡ reverse (reverse xs) = sym (reverse-reverse xs) in
+    let long : 0 < length (reverse xs) = omega (arith, l, length-reverse xs) in
+    ap (λ k. reverse (slice_set xs k v)) e ∙ ap (λ l. reverse (slice_set l (length l - 1) v)) back ∙ ap reverse (over_first (reverse xs) v long) ∙ reverse-reverse (v ∷ drop 1 (reverse xs))
 
 pub cut_take : (xs ys : List ℤ) (n : ℕ) → ys ≡ take n xs → n ≤ length xs → reverse ys ≡ cut n (reverse xs)
 cut_take xs ys n e l =

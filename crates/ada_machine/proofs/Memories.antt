@@ -1,5 +1,5 @@
 -- Cells that are read and written.
-use Rattle.std.proofs.Common.{◌≡◌, ℕ, ◌+◌, ◌*◌, ◌<◌, ◌+ℤ◌, ◌-ℤ◌, ◌*ℤ◌, cond, ℤ, pos, negsuc, List, [], ◌∷◌, reverse, Option, Some, None, Bool, true, false, refl, sym, ap, ◌∙◌, subst, inl, inr}
+use Rattle.std.proofs.Common.{◌≡◌, ℕ, ◌+◌, ◌*◌, ◌<◌, ◌+ℤ◌, ◌-ℤ◌, ◌*ℤ◌, cond, drop, ℤ, pos, negsuc, List, [], ◌∷◌, reverse, Option, Some, None, Bool, true, false, refl, sym, ap, ◌∙◌, subst, inl, inr}
 use Rattle.std.proofs.lemmas.Nat.{mul-lt}
 use Rattle.std.specs.Prelude.{◌^◌, IsSome, IsSomeAnd, int_lt, slice_get}
 use Rattle.ada_base.specs.declared.reason.Reason.{Reason}
@@ -67,12 +67,21 @@ module _ (pc : ℕ) (cells : List Cell) where
 pub within_64 : (a b : ℕ) → a < 2 ^ 32 → b < 2 ^ 32 → a * b < 2 ^ 64
 within_64 a b l m = mul-lt a b (2 ^ 32) (2 ^ 32) l m
 
+pub within_62 : (a b : ℕ) → a < 2 ^ 30 → b < 2 ^ 32 → a * b < 2 ^ 62
+within_62 a b l m = mul-lt a b (2 ^ 30) (2 ^ 32) l m
+
 -- the top of a stack, where it is taken off
 topped : (st rest : List ℤ) (a x : ℤ) → slice_get st 0 ≡ Some a → st ≡ x ∷ rest → st ≡ a ∷ rest
 topped st rest a x e f =
     let first : Some x ≡ Some a = ap (λ s. slice_get s 0) (sym f) ∙ e in
     let same : x ≡ a = cc in
     f ∙ ap (λ v. v ∷ rest) same
+
+headed : (st : List ℤ) (a : ℤ) → slice_get st 0 ≡ Some a → st ≡ a ∷ drop 1 st
+headed [] a e = cc
+headed (x ∷ st) a e =
+    let same : x ≡ a = cc in
+    ap (λ v. v ∷ st) same
 
 pub placed_in : (lo hi a i to : ℤ) (size : ℕ) → is_between lo i hi ≡ true → to ≡ a +ℤ ((i -ℤ lo) *ℤ pos size) → indexed lo hi size a i ≡ Some to
 placed_in lo hi a i to size b e = ap (λ b. cond b (Some (a +ℤ ((i -ℤ lo) *ℤ pos size))) None) b ∙ ap Some (sym e)
@@ -133,9 +142,9 @@ module _ (pc : ℕ) (lo hi : ℤ) (size : ℕ) where
         on_top [] f = cc
         on_top (x ∷ rest) f = let same : x ≡ a = cc in subst (λ x. Exceeds (item_at pc (indexed lo hi size x i) rest) cells) (sym same) (item_exceeds pc (indexed lo hi size a i) rest cells h)
 
-    pub index_cell_at : (at : ℤ) (old rest new : List ℤ) (a x i to : ℤ) → seen cells at ≡ Some i → slice_get (reverse old) 0 ≡ Some a → reverse old ≡ x ∷ reverse rest → indexed lo hi size a i ≡ Some to → reverse new ≡ to ∷ reverse rest → plays (Loads at (λ i. unary pc (reverse old) (λ a. indexed lo hi size a i))) cells ≡ Onward (pc + 1) (reverse new) cells
-    index_cell_at at old rest new a x i to s f e g h = ap (λ o. on_value o (λ i. plays (unary pc (reverse old) (λ a. indexed lo hi size a i)) cells)) s
-        ∙ ap (λ st. plays (unary pc st (λ a. indexed lo hi size a i)) cells) (topped (reverse old) (reverse rest) a x f e) ∙ ap (λ o. plays (pushed pc o (reverse rest)) cells) g ∙ ap (λ st. Onward (pc + 1) st cells) (sym h)
+    pub index_cell_at : (at : ℤ) (old new : List ℤ) (a i to : ℤ) → seen cells at ≡ Some i → slice_get (reverse old) 0 ≡ Some a → indexed lo hi size a i ≡ Some to → reverse new ≡ to ∷ drop 1 (reverse old) → plays (Loads at (λ i. unary pc (reverse old) (λ a. indexed lo hi size a i))) cells ≡ Onward (pc + 1) (reverse new) cells
+    index_cell_at at old new a i to s f g h = ap (λ o. on_value o (λ i. plays (unary pc (reverse old) (λ a. indexed lo hi size a i)) cells)) s
+        ∙ ap (λ st. plays (unary pc st (λ a. indexed lo hi size a i)) cells) (headed (reverse old) a f) ∙ ap (λ o. plays (pushed pc o (drop 1 (reverse old))) cells) g ∙ ap (λ st. Onward (pc + 1) st cells) (sym h)
 
     pub index_cell_out : (at : ℤ) (old rest : List ℤ) (a x i : ℤ) → seen cells at ≡ Some i → slice_get (reverse old) 0 ≡ Some a → reverse old ≡ x ∷ reverse rest → indexed lo hi size a i ≡ None → plays (Loads at (λ i. unary pc (reverse old) (λ a. indexed lo hi size a i))) cells ≡ Raised ConstraintError (reverse rest) cells
     index_cell_out at old rest a x i s f e g = ap (λ o. on_value o (λ i. plays (unary pc (reverse old) (λ a. indexed lo hi size a i)) cells)) s
@@ -160,10 +169,10 @@ module _ (pc : ℕ) (lo hi : ℤ) (size : ℕ) where
             let same : x ≡ a = cc in
             some_of (seen cells to) (λ v. Unit {0}) (subst (λ o. IsClear (item_at pc o rest) cells) g (subst (λ x. IsClear (item_at pc (indexed lo hi size x i) rest) cells) same w))
 
-    pub item_cell_at : (at : ℤ) (old rest new : List ℤ) (a x i to v : ℤ) → seen cells at ≡ Some i → slice_get (reverse old) 0 ≡ Some a → reverse old ≡ x ∷ reverse rest → indexed lo hi size a i ≡ Some to → seen cells to ≡ Some v → reverse new ≡ v ∷ reverse rest → plays (Loads at (λ i. on_one (reverse old) (λ a st. item_at pc (indexed lo hi size a i) st))) cells ≡ Onward (pc + 1) (reverse new) cells
-    item_cell_at at old rest new a x i to v s f e g t h = ap (λ o. on_value o (λ i. plays (on_one (reverse old) (λ a st. item_at pc (indexed lo hi size a i) st)) cells)) s
-        ∙ ap (λ st. plays (on_one st (λ a st. item_at pc (indexed lo hi size a i) st)) cells) (topped (reverse old) (reverse rest) a x f e) ∙ ap (λ o. plays (item_at pc o (reverse rest)) cells) g
-        ∙ ap (λ o. on_value o (λ v. Onward (pc + 1) (v ∷ reverse rest) cells)) t ∙ ap (λ st. Onward (pc + 1) st cells) (sym h)
+    pub item_cell_at : (at : ℤ) (old new : List ℤ) (a i to v : ℤ) → seen cells at ≡ Some i → slice_get (reverse old) 0 ≡ Some a → indexed lo hi size a i ≡ Some to → seen cells to ≡ Some v → reverse new ≡ v ∷ drop 1 (reverse old) → plays (Loads at (λ i. on_one (reverse old) (λ a st. item_at pc (indexed lo hi size a i) st))) cells ≡ Onward (pc + 1) (reverse new) cells
+    item_cell_at at old new a i to v s f g t h = ap (λ o. on_value o (λ i. plays (on_one (reverse old) (λ a st. item_at pc (indexed lo hi size a i) st)) cells)) s
+        ∙ ap (λ st. plays (on_one st (λ a st. item_at pc (indexed lo hi size a i) st)) cells) (headed (reverse old) a f) ∙ ap (λ o. plays (item_at pc o (drop 1 (reverse old))) cells) g
+        ∙ ap (λ o. on_value o (λ v. Onward (pc + 1) (v ∷ drop 1 (reverse old)) cells)) t ∙ ap (λ st. Onward (pc + 1) st cells) (sym h)
 
     pub item_cell_out : (at : ℤ) (old rest : List ℤ) (a x i : ℤ) → seen cells at ≡ Some i → slice_get (reverse old) 0 ≡ Some a → reverse old ≡ x ∷ reverse rest → indexed lo hi size a i ≡ None → plays (Loads at (λ i. on_one (reverse old) (λ a st. item_at pc (indexed lo hi size a i) st))) cells ≡ Raised ConstraintError (reverse rest) cells
     item_cell_out at old rest a x i s f e g = ap (λ o. on_value o (λ i. plays (on_one (reverse old) (λ a st. item_at pc (indexed lo hi size a i) st)) cells)) s

@@ -17,6 +17,7 @@ use crate::operands::{
     make_absolute, multiply, negate, pop, push, push_local, push_number, raise_again, raise_to,
     reduce, remain, select, subtract,
 };
+use leave_board::Halt;
 use stack_code::{Code, Digits, Instr, Relation};
 
 /// The frames that an instruction finds cells in: where the own one begins, and where those outward from a thread's own do,
@@ -29,10 +30,11 @@ pub struct Frames<'a> {
     pub outward: &'a [u64],
 }
 
-/// Does an instruction that asks for no more than operands and cells.
+/// Does an instruction that asks for no more than operands and cells. Paths with halts of each kind have code of their own,
+/// since a compiler puts what is called from one place into that place; so the kind goes on to where cells are computed with.
 #[inline(always)]
 #[tactic(auto, using(crate::proofs::Outcomes::outcome, crate::proofs::Outcomes::outcome_or, crate::proofs::Outcomes::outcome_plays, crate::proofs::Outcomes::outcome_plays_or, crate::proofs::Outcomes::outcome_copies))]
-pub fn compute<C: Cells>(
+pub fn compute<C: Cells, H: Halt>(
     code: &Code,
     instr: &Instr,
     pc: usize,
@@ -100,7 +102,7 @@ pub fn compute<C: Cells>(
         Instr::StoreG(cell) => store_cell(stack, pc, view, u64::from(cell)),
         Instr::AddI(value, kind) => add_constant(stack, pc, value, kind),
         Instr::IndexL(cell, low, high, size) => {
-            index_cell(
+            index_cell::<C, H>(
                 stack,
                 pc,
                 view,
@@ -108,9 +110,9 @@ pub fn compute<C: Cells>(
                 Dimension { low, high, size },
             )
         }
-        Instr::Item(low, high, size) => item(stack, pc, view, low, high, size),
+        Instr::Item(low, high, size) => item::<C, H>(stack, pc, view, low, high, size),
         Instr::ItemL(cell, low, high, size) => {
-            item_cell(
+            item_cell::<C, H>(
                 stack,
                 pc,
                 view,
@@ -125,7 +127,7 @@ pub fn compute<C: Cells>(
         Instr::JfGt(to) => jump_unless(stack, pc, Relation::Greater, to),
         Instr::JfGe(to) => jump_unless(stack, pc, Relation::AtLeast, to),
         Instr::Next(counter, last, to) => {
-            next(
+            next::<C, H>(
                 stack,
                 pc,
                 view,
@@ -135,7 +137,7 @@ pub fn compute<C: Cells>(
             )
         }
         Instr::Prior(counter, last, to) => {
-            prior(
+            prior::<C, H>(
                 stack,
                 pc,
                 view,

@@ -147,6 +147,7 @@ pub(crate) fn handle(m: &mut Machine, entry: Unwind, reason: Reason)
 }
 
 // A body that was called has ended, and the caller, which was taken off, goes on there.
+#[inline(always)]
 #[tactic(auto, using(crate::proofs::Changes::ended_by))]
 pub(crate) fn leave_frame<C: Cells>(m: &mut Machine, view: &mut C, caller: Waiting, to: usize)
     requires floor { m.old.floor ≤ vec_len m.old.stack }

@@ -7,8 +7,9 @@ ghost use Rattle.ada_machine.specs.Places.{Stays};
 ghost use Rattle.ada_machine.specs.Played.{cell_of, IsClear, IsPlaced, ComputesOr, Plays, PlaysOr};
 
 use crate::cells::Cells;
-use crate::operands::{Computed, is_between, put, take, top};
+use crate::operands::{Computed, is_between, put, set_top, take, top};
 use ada_base::Reason;
+use leave_board::Halt;
 
 #[inline(always)]
 pub(crate) fn cell_of(at: i64) -> u64
@@ -113,15 +114,16 @@ fn cells_of(steps: u32, size: u32) -> u64
     u64::from(steps) * u64::from(size)
 }
 
-// An address moved to a component, where 64 bits hold it.
+// An address moved to a component, where 64 bits hold it. Addresses of cells and numbers of components are small.
 #[inline(always)]
+#[tactic(auto, using(crate::proofs::Memories::within_62))]
 fn component(address: i64, low: i64, index: i64, size: u32) -> Option<i64>
     requires { low ≤ℤ index }
     ensures { SomeIff result (FitsSigned w64 (address +ℤ ((index -ℤ low) *ℤ pos size))) (address +ℤ ((index -ℤ low) *ℤ pos size)) }
 {
     let steps = index.abs_diff(low);
-    if steps < 4_294_967_296 {
-        return address.checked_add_unsigned(cells_of(steps as u32, size));
+    if steps < 1_073_741_824 && 0 <= address && address < 4_611_686_018_427_387_904 {
+        return Some(address + cells_of(steps as u32, size) as i64);
     }
     let cells = steps.checked_mul(u64::from(size))?;
     address.checked_add_unsigned(cells)
@@ -190,7 +192,7 @@ pub(crate) fn index(stack: &mut Vec<i64>, pc: usize, low: i64, high: i64, size: 
 
 #[inline(always)]
 #[tactic(auto, using(crate::proofs::Memories::cell_clear, crate::proofs::Memories::index_cell_at, crate::proofs::Memories::index_cell_far, crate::proofs::Memories::index_cell_out))]
-pub(crate) fn index_cell<C: Cells>(
+pub(crate) fn index_cell<C: Cells, H: Halt>(
     stack: &mut Vec<i64>,
     pc: usize,
     view: &C,
@@ -213,8 +215,7 @@ pub(crate) fn index_cell<C: Cells>(
         dimension.size,
     ) {
         Placed::At(to) => {
-            let _ = take(stack);
-            put(stack, to);
+            set_top(stack, to);
             Computed::To(pc + 1)
         }
         Placed::Outside => {
@@ -227,7 +228,7 @@ pub(crate) fn index_cell<C: Cells>(
 
 #[inline(always)]
 #[tactic(auto, using(crate::proofs::Memories::item_clear, crate::proofs::Memories::item_at_cell, crate::proofs::Memories::item_far, crate::proofs::Memories::item_out))]
-pub(crate) fn item<C: Cells>(
+pub(crate) fn item<C: Cells, H: Halt>(
     stack: &mut Vec<i64>,
     pc: usize,
     view: &C,
@@ -260,7 +261,7 @@ pub(crate) fn item<C: Cells>(
 
 #[inline(always)]
 #[tactic(auto, using(crate::proofs::Memories::cell_clear, crate::proofs::Memories::item_cell_clear, crate::proofs::Memories::item_cell_at, crate::proofs::Memories::item_cell_far, crate::proofs::Memories::item_cell_out))]
-pub(crate) fn item_cell<C: Cells>(
+pub(crate) fn item_cell<C: Cells, H: Halt>(
     stack: &mut Vec<i64>,
     pc: usize,
     view: &C,
@@ -284,8 +285,7 @@ pub(crate) fn item_cell<C: Cells>(
     ) {
         Placed::At(to) => {
             let value = read_at(view, to);
-            let _ = take(stack);
-            put(stack, value);
+            set_top(stack, value);
             Computed::To(pc + 1)
         }
         Placed::Outside => {
@@ -300,7 +300,7 @@ pub(crate) fn item_cell<C: Cells>(
 
 #[inline(always)]
 #[tactic(auto, using(crate::proofs::Memories::step_first, crate::proofs::Memories::step_second, crate::proofs::Memories::next_third, crate::proofs::Memories::next_back, crate::proofs::Memories::next_on))]
-pub(crate) fn next<C: Cells>(
+pub(crate) fn next<C: Cells, H: Halt>(
     stack: &Vec<i64>,
     pc: usize,
     view: &mut C,
@@ -326,7 +326,7 @@ pub(crate) fn next<C: Cells>(
 
 #[inline(always)]
 #[tactic(auto, using(crate::proofs::Memories::step_first, crate::proofs::Memories::step_second, crate::proofs::Memories::prior_third, crate::proofs::Memories::prior_back, crate::proofs::Memories::prior_on))]
-pub(crate) fn prior<C: Cells>(
+pub(crate) fn prior<C: Cells, H: Halt>(
     stack: &Vec<i64>,
     pc: usize,
     view: &mut C,

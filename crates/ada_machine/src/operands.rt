@@ -1,7 +1,7 @@
 // The operand stack: a vector whose last item is the top, with room for the greatest height of its body.
-ghost use Rattle.std.specs.Prelude.{◌≡◌, ◌+◌, ◌^◌, ◌<◌, ◌≤◌, ◌-ℤ◌, ◌+ℤ◌, ◌*ℤ◌, ◌≤ℤ◌, ◌∷◌, reverse, length, vec_len, vec_capacity, Option, Some, None, IfSome, pos, nat_abs, ℤ, cond, slice_get, slice_index, not};
+ghost use Rattle.std.specs.Prelude.{◌≡◌, ◌+◌, ◌^◌, ◌<◌, ◌≤◌, ◌-ℤ◌, ◌+ℤ◌, ◌*ℤ◌, ◌≤ℤ◌, ◌∷◌, reverse, drop, length, vec_len, vec_capacity, Option, Some, None, IfSome, pos, nat_abs, ℤ, cond, slice_get, slice_index, not, int_div, int_rem};
 ghost use Rattle.std.specs.Int.{int_max, int_min};
-ghost use Rattle.ada_base.specs.Operation.{is_in_base, within, result_of, CanApply, AreOperands};
+ghost use Rattle.ada_base.specs.Operation.{is_in_base, within, aligned, unless_zero, result_of, CanApply, AreOperands};
 ghost use Rattle.stack_code.specs.Deeds.{applied, is_related, digits_of, is_between, truth, differ, bit, pushed, unary, binary, unless, cell_of_frame, on_one, on_two, if_between, indexed, unless_divisor_zero, value_or_zero, reason_of, GoesOn, Fails};
 ghost use Rattle.ada_machine.specs.Played.{Computes, ComputesOr, IsReason};
 
@@ -52,20 +52,36 @@ pub(crate) fn top(stack: &Vec<i64>) -> i64
     all[all.len() - 1]
 }
 
-// Pushes the value, or raises Constraint_Error where there is none.
+// Puts a value in the place of the top.
 #[inline(always)]
+#[tactic(auto, using(crate::proofs::Changes::over_top))]
+pub(crate) fn set_top(stack: &mut Vec<i64>, value: i64)
+    requires { 0 < vec_len stack.old }
+    ensures top { reverse stack.new.items ≡ value ∷ drop 1 (reverse stack.old.items) }
+    ensures room { vec_capacity stack.new ≡ vec_capacity stack.old }
+{
+    let last = stack.len() - 1;
+    stack[last] = value;
+}
+
+// Puts the value in the place of the top, or takes that off and raises Constraint_Error where there is none.
+#[inline(always)]
+#[tactic(auto, using(crate::proofs::Classes::settled_on, crate::proofs::Classes::settled_off))]
 pub(crate) fn settle(stack: &mut Vec<i64>, pc: usize, value: Option<i64>) -> Computed
-    requires room { vec_len stack.old < vec_capacity stack.old }
+    requires one { 1 ≤ vec_len stack.old }
     requires next { pc < usize.MAX }
-    ensures deed { Computes (pushed pc value (reverse stack.old.items)) result stack.new.items }
+    ensures deed { Computes (on_one (reverse stack.old.items) (λ x st. pushed pc value st)) result stack.new.items }
     ensures room { vec_capacity stack.new ≡ vec_capacity stack.old }
 {
     match value {
         Some(v) => {
-            put(stack, v);
+            set_top(stack, v);
             Computed::To(pc + 1)
         }
-        None => Computed::Failed(Reason::ConstraintError),
+        None => {
+            let _ = take(stack);
+            Computed::Failed(Reason::ConstraintError)
+        }
     }
 }
 
@@ -129,10 +145,19 @@ fn result_of(op: Op, base: Base, x: i64, y: i64) -> Option<i64>
     }
 }
 
+#[inline(always)]
+fn divided(x: i64, y: i64) -> Option<i64>
+    ensures { result ≡ within Base.Wide (unless_zero y (int_div x y)) }
+{
+    x.checked_div(y)
+}
+
+#[inline(always)]
+#[tactic(auto, using(crate::proofs::Divisions::quotient_is))]
 fn quotient(base: Base, x: i64, y: i64) -> Option<i64>
     ensures { result ≡ applied Op.Div base x y }
 {
-    result_of(Op::Div, base, x, y)
+    within(base, divided(x, y))
 }
 
 fn power(base: Base, x: i64, y: i64) -> Option<i64>
@@ -141,26 +166,53 @@ fn power(base: Base, x: i64, y: i64) -> Option<i64>
     result_of(Op::Pow, base, x, y)
 }
 
+// The remainder, moved by the divisor where the two have opposite signs.
+#[inline(always)]
+fn aligned(remainder: i64, divisor: i64) -> i64
+    ensures { result ≡ aligned remainder divisor }
+{
+    if (remainder < 0 && 0 < divisor) || (0 < remainder && divisor < 0) {
+        remainder + divisor
+    } else {
+        remainder
+    }
+}
+
+// The remainder of a division, where the divisor isn't zero.
+#[inline(always)]
+fn left_of(x: i64, y: i64) -> Option<i64>
+    ensures { result ≡ unless_zero y (int_rem x y) }
+{
+    if y == 0 {
+        None
+    } else {
+        Some(x.wrapping_rem(y))
+    }
+}
+
+#[inline(always)]
+#[tactic(auto, using(crate::proofs::Divisions::modulus_some, crate::proofs::Divisions::modulus_none))]
 fn modulus(base: Base, x: i64, y: i64) -> Option<i64>
     ensures { result ≡ applied Op.Mod base x y }
 {
-    if truth(y) {
-        Some(value_or_zero(result_of(Op::Mod, base, x, y)))
-    } else {
-        None
+    match left_of(x, y) {
+        Some(r) => Some(value_or_zero(within(base, Some(aligned(r, y))))),
+        None => None,
     }
 }
 
+#[inline(always)]
+#[tactic(auto, using(crate::proofs::Divisions::remainder_some, crate::proofs::Divisions::remainder_none))]
 fn remainder(base: Base, x: i64, y: i64) -> Option<i64>
     ensures { result ≡ applied Op.Rem base x y }
 {
-    if truth(y) {
-        Some(value_or_zero(result_of(Op::Rem, base, x, y)))
-    } else {
-        None
+    match left_of(x, y) {
+        Some(r) => Some(value_or_zero(within(base, Some(r)))),
+        None => None,
     }
 }
 
+#[inline(always)]
 fn value_or_zero(value: Option<i64>) -> i64
     ensures { result ≡ value_or_zero value }
 {
@@ -242,7 +294,7 @@ pub(crate) fn add(stack: &mut Vec<i64>, pc: usize, base: Base) -> Computed
     ensures room { vec_capacity stack.new ≡ vec_capacity stack.old }
 {
     let y = take(stack);
-    let x = take(stack);
+    let x = top(stack);
     settle(stack, pc, sum(base, x, y))
 }
 
@@ -255,7 +307,7 @@ pub(crate) fn subtract(stack: &mut Vec<i64>, pc: usize, base: Base) -> Computed
     ensures room { vec_capacity stack.new ≡ vec_capacity stack.old }
 {
     let y = take(stack);
-    let x = take(stack);
+    let x = top(stack);
     settle(stack, pc, difference(base, x, y))
 }
 
@@ -268,7 +320,7 @@ pub(crate) fn multiply(stack: &mut Vec<i64>, pc: usize, base: Base) -> Computed
     ensures room { vec_capacity stack.new ≡ vec_capacity stack.old }
 {
     let y = take(stack);
-    let x = take(stack);
+    let x = top(stack);
     settle(stack, pc, product(base, x, y))
 }
 
@@ -281,7 +333,7 @@ pub(crate) fn divide(stack: &mut Vec<i64>, pc: usize, base: Base) -> Computed
     ensures room { vec_capacity stack.new ≡ vec_capacity stack.old }
 {
     let y = take(stack);
-    let x = take(stack);
+    let x = top(stack);
     settle(stack, pc, quotient(base, x, y))
 }
 
@@ -294,7 +346,7 @@ pub(crate) fn raise_to(stack: &mut Vec<i64>, pc: usize, base: Base) -> Computed
     ensures room { vec_capacity stack.new ≡ vec_capacity stack.old }
 {
     let y = take(stack);
-    let x = take(stack);
+    let x = top(stack);
     settle(stack, pc, power(base, x, y))
 }
 
@@ -307,7 +359,7 @@ pub(crate) fn reduce(stack: &mut Vec<i64>, pc: usize, base: Base) -> Computed
     ensures room { vec_capacity stack.new ≡ vec_capacity stack.old }
 {
     let y = take(stack);
-    let x = take(stack);
+    let x = top(stack);
     settle(stack, pc, modulus(base, x, y))
 }
 
@@ -320,7 +372,7 @@ pub(crate) fn remain(stack: &mut Vec<i64>, pc: usize, base: Base) -> Computed
     ensures room { vec_capacity stack.new ≡ vec_capacity stack.old }
 {
     let y = take(stack);
-    let x = take(stack);
+    let x = top(stack);
     settle(stack, pc, remainder(base, x, y))
 }
 
@@ -332,7 +384,7 @@ pub(crate) fn add_constant(stack: &mut Vec<i64>, pc: usize, value: i64, base: Ba
     ensures deed { Computes (unary pc (reverse stack.old.items) (λ x. applied Op.Add base x value)) result stack.new.items }
     ensures room { vec_capacity stack.new ≡ vec_capacity stack.old }
 {
-    let x = take(stack);
+    let x = top(stack);
     settle(stack, pc, sum(base, x, value))
 }
 
@@ -409,7 +461,7 @@ pub(crate) fn negate(stack: &mut Vec<i64>, pc: usize, base: Base) -> Computed
     ensures deed { Computes (unary pc (reverse stack.old.items) (λ x. within base (Some (pos 0 -ℤ x)))) result stack.new.items }
     ensures room { vec_capacity stack.new ≡ vec_capacity stack.old }
 {
-    let x = take(stack);
+    let x = top(stack);
     settle(stack, pc, negated(base, x))
 }
 
@@ -439,7 +491,7 @@ pub(crate) fn make_absolute(stack: &mut Vec<i64>, pc: usize, base: Base) -> Comp
     ensures deed { Computes (unary pc (reverse stack.old.items) (λ x. within base (Some (pos (nat_abs x))))) result stack.new.items }
     ensures room { vec_capacity stack.new ≡ vec_capacity stack.old }
 {
-    let x = take(stack);
+    let x = top(stack);
     settle(stack, pc, absolute(base, x))
 }
 
@@ -474,7 +526,7 @@ pub(crate) fn check_range(stack: &mut Vec<i64>, pc: usize, low: i64, high: i64) 
     ensures deed { Computes (unary pc (reverse stack.old.items) (λ x. if_between low high x)) result stack.new.items }
     ensures room { vec_capacity stack.new ≡ vec_capacity stack.old }
 {
-    let x = take(stack);
+    let x = top(stack);
     settle(stack, pc, if_between(low, high, x))
 }
 

@@ -23,12 +23,11 @@ use stack_code::{Code, Instr, Leave, Unwind};
 
 // The instruction there, by reference: each arm reads the operands that it has.
 #[inline(always)]
-fn instr_at(code: &Code, pc: usize) -> &Instr
-    requires { pc < length code.now.instrs }
-    ensures instr { slice_get code.now.instrs pc ≡ Some result.now }
+fn instr_at(instrs: &[Instr], pc: usize) -> &Instr
+    requires { pc < length instrs.now }
+    ensures instr { slice_get instrs.now pc ≡ Some result.now }
     ensures near { pc < usize.MAX }
 {
-    let instrs = code.instrs.as_slice();
     let _long = instrs.len();
     &instrs[pc]
 }
@@ -38,7 +37,7 @@ pub(crate) fn fetch(code: &Code, pc: usize) -> Instr
     ensures instr { slice_get code.now.instrs pc ≡ Some result }
     ensures near { pc < usize.MAX }
 {
-    *instr_at(code, pc)
+    *instr_at(code.instrs.as_slice(), pc)
 }
 
 // The first unwind entry that holds the instruction, which its spot names.
@@ -140,8 +139,18 @@ pub enum Stretch {
     Beyond,
 }
 
-// Instructions that need operands, cells and turns alone, one after another. Their results stay in registers, and so does
-// the number of the next one, which is written back at the end.
+// Writes back what a stretch has in registers.
+#[inline(always)]
+fn keep(m: &mut Machine, pc: usize, turns: u64, looks: u64)
+    ensures { m.new ≡ record m.old { pc = pc; turns = turns; looks = looks } }
+{
+    m.pc = pc;
+    m.turns = turns;
+    m.looks = looks;
+}
+
+// Instructions that need operands, cells and turns alone, one after another. Their results stay in registers, and so do
+// the number of the next one, the turns and the looks, which are written back at the end.
 #[inline(always)]
 fn stride<C: Cells, H: Halt>(
     code: &Code,
@@ -160,47 +169,51 @@ fn stride<C: Cells, H: Halt>(
     ensures stays { Stays C.floor C.whole C.place view.old view.new }
     ensures looks { Unlooked limit code.now None m.old.looks m.new.looks (state_of m.old (C.cells view.old)) (state_of m.new (C.cells view.new)) }
 {
+    let instrs = code.instrs.as_slice();
+    let base = m.base;
     let mut pc = m.pc;
+    let mut turns = m.turns;
+    let mut looks = m.looks;
     loop {
-        let instr = instr_at(code, pc);
+        let instr = instr_at(instrs, pc);
         let _height = m.stack.len();
         match *instr {
             Instr::Turn => {
                 if halt.asked() {
-                    m.pc = pc;
+                    keep(m, pc, turns, looks);
                     return Stretch::Paused;
                 }
-                if m.turns == limit {
-                    m.pc = pc;
+                if turns == limit {
+                    keep(m, pc, turns, looks);
                     return Stretch::More;
                 }
-                m.looks = m.looks.saturating_add(1);
-                m.turns += 1;
+                looks = looks.saturating_add(1);
+                turns += 1;
                 pc += 1;
             }
-            _ => match compute(
+            _ => match compute::<C, H>(
                 code,
                 instr,
                 pc,
                 &mut m.stack,
                 Frames {
-                    base: m.base,
+                    base,
                     outward: m.outward.as_slice(),
                 },
                 view,
             ) {
                 Computed::To(to) => pc = to,
                 Computed::Failed(reason) => {
-                    m.pc = pc;
+                    keep(m, pc, turns, looks);
                     m.raising = Some(reason);
                     return Stretch::Raises;
                 }
                 Computed::Beyond => {
-                    m.pc = pc;
+                    keep(m, pc, turns, looks);
                     return Stretch::Beyond;
                 }
                 Computed::Other => {
-                    m.pc = pc;
+                    keep(m, pc, turns, looks);
                     return Stretch::More;
                 }
             },

@@ -1,4 +1,4 @@
-use Rattle.std.proofs.Common.{◌≡◌, ◌<◌, ℤ, List, ◌∷◌, reverse, true, sym, ap, ◌∙◌, subst, arith, rules, SFits, w64}
+use Rattle.std.proofs.Common.{◌≡◌, ◌<◌, ℤ, List, ◌∷◌, reverse, true, sym, ap, ◌∙◌, subst, arith, rules, SFits, w64, refl}
 use Rattle.std.proofs.lemmas.Int.{to_z-of_z}
 use Rattle.std.proofs.lemmas.Option.{slice_get_within}
 use Rattle.stack_code.specs.declared.instr.Instr.TheVariants as instr
@@ -106,3 +106,57 @@ returns-in-Err-clause-heeds g c = unheard _ _ _ _ c.asked.result c.if-asked.fals
 
 pub returns-then-not-truth-clause-heeds : goal.returns-then-not-truth-clause-heeds
 returns-then-not-truth-clause-heeds g c = unheard _ _ _ _ c.asked.result c.if-asked.false c.asked.ensures.heard
+
+pub returns-then-asked-clause-paused : goal.returns-then-asked-clause-paused
+returns-then-asked-clause-paused g c = λ e. c.asked.ensures.told c.if-asked.true
+
+pub returns-then-asked-clause-halts : goal.returns-then-asked-clause-halts
+returns-then-asked-clause-halts g c = (c.asked.ensures.kept, c.asked.ensures.stays)
+
+pub returns-then-asked-clause-stays : goal.returns-then-asked-clause-stays
+returns-then-asked-clause-stays g c = (refl, λ w. w, refl)
+
+pub returns-then-m-limit-clause-paused : goal.returns-then-m-limit-clause-paused
+returns-then-m-limit-clause-paused g c = λ e. cc
+
+pub returns-then-m-limit-clause-halts : goal.returns-then-m-limit-clause-halts
+returns-then-m-limit-clause-halts g c = (c.asked.ensures.kept, c.asked.ensures.stays)
+
+pub returns-then-m-limit-clause-stays : goal.returns-then-m-limit-clause-stays
+returns-then-m-limit-clause-stays g c = (refl, λ w. w, refl)
+
+pub returns-then-m-ge-MOST_CALLS-clause-paused : goal.returns-then-m-ge-MOST_CALLS-clause-paused
+returns-then-m-ge-MOST_CALLS-clause-paused g c = λ e. cc
+
+pub returns-then-m-ge-MOST_CALLS-clause-halts : goal.returns-then-m-ge-MOST_CALLS-clause-halts
+returns-then-m-ge-MOST_CALLS-clause-halts g c = (c.asked.ensures.kept, c.asked.ensures.stays)
+
+pub returns-then-m-ge-MOST_CALLS-clause-stays : goal.returns-then-m-ge-MOST_CALLS-clause-stays
+returns-then-m-ge-MOST_CALLS-clause-stays g c = (refl, λ w. w, refl)
+
+pub returns-then-not-truth-clause-paused : goal.returns-then-not-truth-clause-paused
+returns-then-not-truth-clause-paused g c = λ e. cc
+
+pub returns-then-not-truth-clause-halts : goal.returns-then-not-truth-clause-halts
+returns-then-not-truth-clause-halts g c = (c.asked.ensures.kept, c.asked.ensures.stays)
+
+pub returns-then-not-truth-clause-stays : goal.returns-then-not-truth-clause-stays
+returns-then-not-truth-clause-stays g c = (refl, λ w. w, refl)
+
+pub returns-in-Ok-clause-paused : goal.returns-in-Ok-clause-paused
+returns-in-Ok-clause-paused g c = λ e. cc
+
+pub returns-in-Ok-clause-halts : goal.returns-in-Ok-clause-halts
+returns-in-Ok-clause-halts g c = (c.asked.ensures.kept, c.asked.ensures.stays)
+
+pub returns-in-Ok-clause-stays : goal.returns-in-Ok-clause-stays
+returns-in-Ok-clause-stays g c = c.enter_at.ensures.stays
+
+pub returns-in-Err-clause-paused : goal.returns-in-Err-clause-paused
+returns-in-Err-clause-paused g c = λ e. cc
+
+pub returns-in-Err-clause-halts : goal.returns-in-Err-clause-halts
+returns-in-Err-clause-halts g c = (c.asked.ensures.kept, c.asked.ensures.stays)
+
+pub returns-in-Err-clause-stays : goal.returns-in-Err-clause-stays
+returns-in-Err-clause-stays g c = c.enter_at.ensures.stays

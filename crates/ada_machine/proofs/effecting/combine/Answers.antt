@@ -94,3 +94,66 @@ returns-then-len-eq0-clause-heeds g c = λ t. (t, refl)
 
 pub returns-then-is_err-clause-heeds : goal.returns-then-is_err-clause-heeds
 returns-then-is_err-clause-heeds g c = unheard _ _ _ _ c.asked.result c.if-asked.false c.asked.ensures.heard
+
+pub returns-then-len-eq0-clause-paused : goal.returns-then-len-eq0-clause-paused
+returns-then-len-eq0-clause-paused g c = λ e. cc
+
+pub returns-then-len-eq0-clause-halts : goal.returns-then-len-eq0-clause-halts
+returns-then-len-eq0-clause-halts g c = (refl, λ t. t)
+
+pub returns-then-len-eq0-clause-stays : goal.returns-then-len-eq0-clause-stays
+returns-then-len-eq0-clause-stays g c = (refl, λ w. w, refl)
+
+pub returns-then-asked-clause-paused : goal.returns-then-asked-clause-paused
+returns-then-asked-clause-paused g c = λ e. c.asked.ensures.told c.if-asked.true
+
+pub returns-then-asked-clause-halts : goal.returns-then-asked-clause-halts
+returns-then-asked-clause-halts g c = (c.asked.ensures.kept, c.asked.ensures.stays)
+
+pub returns-then-asked-clause-stays : goal.returns-then-asked-clause-stays
+returns-then-asked-clause-stays g c = (refl, λ w. w, refl)
+
+pub returns-then-m-limit-clause-paused : goal.returns-then-m-limit-clause-paused
+returns-then-m-limit-clause-paused g c = λ e. cc
+
+pub returns-then-m-limit-clause-halts : goal.returns-then-m-limit-clause-halts
+returns-then-m-limit-clause-halts g c = (c.asked.ensures.kept, c.asked.ensures.stays)
+
+pub returns-then-m-limit-clause-stays : goal.returns-then-m-limit-clause-stays
+returns-then-m-limit-clause-stays g c = (refl, λ w. w, refl)
+
+pub returns-then-m-ge-MOST_CALLS-clause-paused : goal.returns-then-m-ge-MOST_CALLS-clause-paused
+returns-then-m-ge-MOST_CALLS-clause-paused g c = λ e. cc
+
+pub returns-then-m-ge-MOST_CALLS-clause-halts : goal.returns-then-m-ge-MOST_CALLS-clause-halts
+returns-then-m-ge-MOST_CALLS-clause-halts g c = (c.asked.ensures.kept, c.asked.ensures.stays)
+
+pub returns-then-m-ge-MOST_CALLS-clause-stays : goal.returns-then-m-ge-MOST_CALLS-clause-stays
+returns-then-m-ge-MOST_CALLS-clause-stays g c = (refl, λ w. w, refl)
+
+pub returns-then-is_err-clause-paused : goal.returns-then-is_err-clause-paused
+returns-then-is_err-clause-paused g c = λ e. cc
+
+pub returns-then-is_err-clause-halts : goal.returns-then-is_err-clause-halts
+returns-then-is_err-clause-halts g c = (c.asked.ensures.kept, c.asked.ensures.stays)
+
+pub returns-then-is_err-clause-stays : goal.returns-then-is_err-clause-stays
+returns-then-is_err-clause-stays g c = (refl, λ w. w, refl)
+
+pub returns-in-Ok-clause-paused : goal.returns-in-Ok-clause-paused
+returns-in-Ok-clause-paused g c = λ e. cc
+
+pub returns-in-Ok-clause-halts : goal.returns-in-Ok-clause-halts
+returns-in-Ok-clause-halts g c = (c.asked.ensures.kept, c.asked.ensures.stays)
+
+pub returns-in-Ok-clause-stays : goal.returns-in-Ok-clause-stays
+returns-in-Ok-clause-stays g c = c.enter.ensures.stays
+
+pub returns-in-Err-clause-paused : goal.returns-in-Err-clause-paused
+returns-in-Err-clause-paused g c = λ e. cc
+
+pub returns-in-Err-clause-halts : goal.returns-in-Err-clause-halts
+returns-in-Err-clause-halts g c = (c.asked.ensures.kept, c.asked.ensures.stays)
+
+pub returns-in-Err-clause-stays : goal.returns-in-Err-clause-stays
+returns-in-Err-clause-stays g c = c.enter.ensures.stays

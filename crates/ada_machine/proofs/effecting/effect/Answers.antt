@@ -209,3 +209,366 @@ returns-in-End-clause-heeds g c = λ t. (t, refl)
 
 pub returns-in-Halt-clause-heeds : goal.returns-in-Halt-clause-heeds
 returns-in-Halt-clause-heeds g c = λ t. (t, refl)
+
+pub leave_with-requires-clause-ready : goal.leave_with-requires-clause-ready
+leave_with-requires-clause-ready g c = (g.C.Cells.cells c.args.view.now, c.requires.ready)
+
+pub leave_with-requires-clause-at : goal.leave_with-requires-clause-at
+leave_with-requires-clause-at g c = c.requires.at ∙ ap Some c.in-LeaveV.is
+
+pub returns-in-LeaveV-clause-paused : goal.returns-in-LeaveV-clause-paused
+returns-in-LeaveV-clause-paused g c = λ e. absurd (c.leave_with.ensures.paused e)
+
+pub returns-in-LeaveV-clause-halts : goal.returns-in-LeaveV-clause-halts
+returns-in-LeaveV-clause-halts g c = (refl, λ t. t)
+
+pub returns-in-LeaveV-clause-stays : goal.returns-in-LeaveV-clause-stays
+returns-in-LeaveV-clause-stays g c = (refl, λ w. w, refl)
+
+pub end_with-requires-clause-ready : goal.end_with-requires-clause-ready
+end_with-requires-clause-ready g c = (g.C.Cells.cells c.args.view.now, c.requires.ready)
+
+pub end_with-requires-clause-at : goal.end_with-requires-clause-at
+end_with-requires-clause-at g c = c.requires.at ∙ ap Some c.in-EndV.is
+
+pub returns-in-EndV-clause-paused : goal.returns-in-EndV-clause-paused
+returns-in-EndV-clause-paused g c = λ e. absurd (c.end_with.ensures.paused e)
+
+pub returns-in-EndV-clause-halts : goal.returns-in-EndV-clause-halts
+returns-in-EndV-clause-halts g c = (refl, λ t. t)
+
+pub returns-in-EndV-clause-stays : goal.returns-in-EndV-clause-stays
+returns-in-EndV-clause-stays g c = (refl, λ w. w, refl)
+
+pub fork-requires-clause-ready : goal.fork-requires-clause-ready
+fork-requires-clause-ready g c = (g.C.Cells.cells c.args.view.now, c.requires.ready)
+
+pub fork-requires-clause-at : goal.fork-requires-clause-at
+fork-requires-clause-at g c = c.requires.at ∙ ap Some c.in-Fork.is
+
+pub returns-in-Fork-clause-paused : goal.returns-in-Fork-clause-paused
+returns-in-Fork-clause-paused g c = λ e. absurd (c.fork.ensures.paused e)
+
+pub returns-in-Fork-clause-halts : goal.returns-in-Fork-clause-halts
+returns-in-Fork-clause-halts g c = (refl, λ t. t)
+
+pub returns-in-Fork-clause-stays : goal.returns-in-Fork-clause-stays
+returns-in-Fork-clause-stays g c = (refl, λ w. w, refl)
+
+pub unnest-requires-clause-ready : goal.unnest-requires-clause-ready
+unnest-requires-clause-ready g c = (g.C.Cells.cells c.args.view.now, c.requires.ready)
+
+pub unnest-requires-clause-at : goal.unnest-requires-clause-at
+unnest-requires-clause-at g c = c.requires.at ∙ ap Some c.in-Unnest.is
+
+pub returns-in-Unnest-clause-paused : goal.returns-in-Unnest-clause-paused
+returns-in-Unnest-clause-paused g c = λ e. absurd (c.unnest.ensures.paused e)
+
+pub returns-in-Unnest-clause-halts : goal.returns-in-Unnest-clause-halts
+returns-in-Unnest-clause-halts g c = (refl, λ t. t)
+
+pub returns-in-Unnest-clause-stays : goal.returns-in-Unnest-clause-stays
+returns-in-Unnest-clause-stays g c = (refl, λ w. w, refl)
+
+pub words-requires-clause-ready : goal.words-requires-clause-ready
+words-requires-clause-ready g c = (g.C.Cells.cells c.args.view.now, c.requires.ready)
+
+pub words-requires-clause-at : goal.words-requires-clause-at
+words-requires-clause-at g c = c.requires.at ∙ ap Some c.in-Words.is
+
+pub returns-in-Words-clause-paused : goal.returns-in-Words-clause-paused
+returns-in-Words-clause-paused g c = λ e. absurd (c.words.ensures.paused e)
+
+pub returns-in-Words-clause-halts : goal.returns-in-Words-clause-halts
+returns-in-Words-clause-halts g c = (refl, λ t. t)
+
+pub returns-in-Words-clause-stays : goal.returns-in-Words-clause-stays
+returns-in-Words-clause-stays g c = (refl, λ w. w, refl)
+
+pub put_image-requires-clause-ready : goal.put_image-requires-clause-ready
+put_image-requires-clause-ready g c = (g.C.Cells.cells c.args.view.now, c.requires.ready)
+
+pub put_image-requires-clause-at : goal.put_image-requires-clause-at
+put_image-requires-clause-at g c = c.requires.at ∙ ap Some c.in-Img.is
+
+pub returns-in-Img-clause-paused : goal.returns-in-Img-clause-paused
+returns-in-Img-clause-paused g c = λ e. absurd (c.put_image.ensures.paused e)
+
+pub returns-in-Img-clause-halts : goal.returns-in-Img-clause-halts
+returns-in-Img-clause-halts g c = (refl, λ t. t)
+
+pub returns-in-Img-clause-stays : goal.returns-in-Img-clause-stays
+returns-in-Img-clause-stays g c = (refl, λ w. w, refl)
+
+pub put_truth-requires-clause-ready : goal.put_truth-requires-clause-ready
+put_truth-requires-clause-ready g c = (g.C.Cells.cells c.args.view.now, c.requires.ready)
+
+pub put_truth-requires-clause-at : goal.put_truth-requires-clause-at
+put_truth-requires-clause-at g c = c.requires.at ∙ ap Some c.in-Bool.is
+
+pub returns-in-Bool-clause-paused : goal.returns-in-Bool-clause-paused
+returns-in-Bool-clause-paused g c = λ e. absurd (c.put_truth.ensures.paused e)
+
+pub returns-in-Bool-clause-halts : goal.returns-in-Bool-clause-halts
+returns-in-Bool-clause-halts g c = (refl, λ t. t)
+
+pub returns-in-Bool-clause-stays : goal.returns-in-Bool-clause-stays
+returns-in-Bool-clause-stays g c = (refl, λ w. w, refl)
+
+pub put_padded-requires-clause-ready : goal.put_padded-requires-clause-ready
+put_padded-requires-clause-ready g c = (g.C.Cells.cells c.args.view.now, c.requires.ready)
+
+pub put_padded-requires-clause-at : goal.put_padded-requires-clause-at
+put_padded-requires-clause-at g c = c.requires.at ∙ ap Some c.in-Wide.is
+
+pub returns-in-Wide-clause-paused : goal.returns-in-Wide-clause-paused
+returns-in-Wide-clause-paused g c = λ e. absurd (c.put_padded.ensures.paused e)
+
+pub returns-in-Wide-clause-halts : goal.returns-in-Wide-clause-halts
+returns-in-Wide-clause-halts g c = (refl, λ t. t)
+
+pub returns-in-Wide-clause-stays : goal.returns-in-Wide-clause-stays
+returns-in-Wide-clause-stays g c = (refl, λ w. w, refl)
+
+pub send-requires-clause-ready : goal.send-requires-clause-ready
+send-requires-clause-ready g c = (g.C.Cells.cells c.args.view.now, c.requires.ready)
+
+pub send-requires-clause-at : goal.send-requires-clause-at
+send-requires-clause-at g c = c.requires.at ∙ ap Some c.in-Send.is
+
+pub returns-in-Send-clause-paused : goal.returns-in-Send-clause-paused
+returns-in-Send-clause-paused g c = λ e. absurd (c.send.ensures.paused e)
+
+pub returns-in-Send-clause-halts : goal.returns-in-Send-clause-halts
+returns-in-Send-clause-halts g c = (refl, λ t. t)
+
+pub returns-in-Send-clause-stays : goal.returns-in-Send-clause-stays
+returns-in-Send-clause-stays g c = (refl, λ w. w, refl)
+
+pub send_line-requires-clause-ready : goal.send_line-requires-clause-ready
+send_line-requires-clause-ready g c = (g.C.Cells.cells c.args.view.now, c.requires.ready)
+
+pub send_line-requires-clause-at : goal.send_line-requires-clause-at
+send_line-requires-clause-at g c = c.requires.at ∙ ap Some c.in-SendLn.is
+
+pub returns-in-SendLn-clause-paused : goal.returns-in-SendLn-clause-paused
+returns-in-SendLn-clause-paused g c = λ e. absurd (c.send_line.ensures.paused e)
+
+pub returns-in-SendLn-clause-halts : goal.returns-in-SendLn-clause-halts
+returns-in-SendLn-clause-halts g c = (refl, λ t. t)
+
+pub returns-in-SendLn-clause-stays : goal.returns-in-SendLn-clause-stays
+returns-in-SendLn-clause-stays g c = (refl, λ w. w, refl)
+
+pub draw-requires-clause-ready : goal.draw-requires-clause-ready
+draw-requires-clause-ready g c = (g.C.Cells.cells c.args.view.now, c.requires.ready)
+
+pub draw-requires-clause-at : goal.draw-requires-clause-at
+draw-requires-clause-at g c = c.requires.at ∙ ap Some c.in-Part.is
+
+pub returns-in-Part-clause-paused : goal.returns-in-Part-clause-paused
+returns-in-Part-clause-paused g c = λ e. absurd (c.draw.ensures.paused e)
+
+pub returns-in-Part-clause-halts : goal.returns-in-Part-clause-halts
+returns-in-Part-clause-halts g c = (refl, λ t. t)
+
+pub returns-in-Part-clause-stays : goal.returns-in-Part-clause-stays
+returns-in-Part-clause-stays g c = (refl, λ w. w, refl)
+
+pub repeat-requires-clause-ready : goal.repeat-requires-clause-ready
+repeat-requires-clause-ready g c = (g.C.Cells.cells c.args.view.now, c.requires.ready)
+
+pub repeat-requires-clause-at : goal.repeat-requires-clause-at
+repeat-requires-clause-at g c = c.requires.at ∙ ap Some c.in-Repeat.is
+
+pub returns-in-Repeat-clause-paused : goal.returns-in-Repeat-clause-paused
+returns-in-Repeat-clause-paused g c = λ e. absurd (c.repeat.ensures.paused e)
+
+pub returns-in-Repeat-clause-halts : goal.returns-in-Repeat-clause-halts
+returns-in-Repeat-clause-halts g c = (refl, λ t. t)
+
+pub returns-in-Repeat-clause-stays : goal.returns-in-Repeat-clause-stays
+returns-in-Repeat-clause-stays g c = (refl, λ w. w, refl)
+
+pub again-requires-clause-ready : goal.again-requires-clause-ready
+again-requires-clause-ready g c = (g.C.Cells.cells c.args.view.now, c.requires.ready)
+
+pub again-requires-clause-at : goal.again-requires-clause-at
+again-requires-clause-at g c = c.requires.at ∙ ap Some c.in-Again.is
+
+pub returns-in-Again-clause-paused : goal.returns-in-Again-clause-paused
+returns-in-Again-clause-paused g c = λ e. absurd (c.again.ensures.paused e)
+
+pub returns-in-Again-clause-halts : goal.returns-in-Again-clause-halts
+returns-in-Again-clause-halts g c = (refl, λ t. t)
+
+pub returns-in-Again-clause-stays : goal.returns-in-Again-clause-stays
+returns-in-Again-clause-stays g c = (refl, λ w. w, refl)
+
+pub turn-requires-clause-ready : goal.turn-requires-clause-ready
+turn-requires-clause-ready g c = (g.C.Cells.cells c.args.view.now, c.requires.ready)
+
+pub turn-requires-clause-at : goal.turn-requires-clause-at
+turn-requires-clause-at g c = c.requires.at ∙ ap Some c.in-Turn.is
+
+pub returns-in-Turn-clause-paused : goal.returns-in-Turn-clause-paused
+returns-in-Turn-clause-paused g c = c.turn.ensures.paused
+
+pub returns-in-Turn-clause-halts : goal.returns-in-Turn-clause-halts
+returns-in-Turn-clause-halts g c = c.turn.ensures.halts
+
+pub returns-in-Turn-clause-stays : goal.returns-in-Turn-clause-stays
+returns-in-Turn-clause-stays g c = (refl, λ w. w, refl)
+
+pub nest-requires-clause-ready : goal.nest-requires-clause-ready
+nest-requires-clause-ready g c = (g.C.Cells.cells c.args.view.now, c.requires.ready)
+
+pub nest-requires-clause-at : goal.nest-requires-clause-at
+nest-requires-clause-at g c = c.requires.at ∙ ap Some c.in-Nest.is
+
+pub returns-in-Nest-clause-paused : goal.returns-in-Nest-clause-paused
+returns-in-Nest-clause-paused g c = c.nest.ensures.paused
+
+pub returns-in-Nest-clause-halts : goal.returns-in-Nest-clause-halts
+returns-in-Nest-clause-halts g c = c.nest.ensures.halts
+
+pub returns-in-Nest-clause-stays : goal.returns-in-Nest-clause-stays
+returns-in-Nest-clause-stays g c = (refl, λ w. w, refl)
+
+pub return_plain-requires-clause-ready : goal.return_plain-requires-clause-ready
+return_plain-requires-clause-ready g c = c.requires.ready
+
+pub return_plain-requires-clause-at : goal.return_plain-requires-clause-at
+return_plain-requires-clause-at g c = c.requires.at ∙ ap Some c.in-Ret.is
+
+pub returns-in-Ret-clause-paused : goal.returns-in-Ret-clause-paused
+returns-in-Ret-clause-paused g c = λ e. absurd (c.return_plain.ensures.paused e)
+
+pub returns-in-Ret-clause-halts : goal.returns-in-Ret-clause-halts
+returns-in-Ret-clause-halts g c = (refl, λ t. t)
+
+pub returns-in-Ret-clause-stays : goal.returns-in-Ret-clause-stays
+returns-in-Ret-clause-stays g c = c.return_plain.ensures.stays
+
+pub return_value-requires-clause-ready : goal.return_value-requires-clause-ready
+return_value-requires-clause-ready g c = c.requires.ready
+
+pub return_value-requires-clause-at : goal.return_value-requires-clause-at
+return_value-requires-clause-at g c = c.requires.at ∙ ap Some c.in-RetV.is
+
+pub returns-in-RetV-clause-paused : goal.returns-in-RetV-clause-paused
+returns-in-RetV-clause-paused g c = λ e. absurd (c.return_value.ensures.paused e)
+
+pub returns-in-RetV-clause-halts : goal.returns-in-RetV-clause-halts
+returns-in-RetV-clause-halts g c = (refl, λ t. t)
+
+pub returns-in-RetV-clause-stays : goal.returns-in-RetV-clause-stays
+returns-in-RetV-clause-stays g c = c.return_value.ensures.stays
+
+pub call-requires-clause-ready : goal.call-requires-clause-ready
+call-requires-clause-ready g c = c.requires.ready
+
+pub call-requires-clause-at : goal.call-requires-clause-at
+call-requires-clause-at g c = c.requires.at ∙ ap Some c.in-Call.is
+
+pub returns-in-Call-clause-paused : goal.returns-in-Call-clause-paused
+returns-in-Call-clause-paused g c = c.call.ensures.paused
+
+pub returns-in-Call-clause-halts : goal.returns-in-Call-clause-halts
+returns-in-Call-clause-halts g c = c.call.ensures.halts
+
+pub returns-in-Call-clause-stays : goal.returns-in-Call-clause-stays
+returns-in-Call-clause-stays g c = c.call.ensures.stays
+
+pub call_at-requires-clause-ready : goal.call_at-requires-clause-ready
+call_at-requires-clause-ready g c = c.requires.ready
+
+pub call_at-requires-clause-at : goal.call_at-requires-clause-at
+call_at-requires-clause-at g c = c.requires.at ∙ ap Some c.in-CallAt.is
+
+pub returns-in-CallAt-clause-paused : goal.returns-in-CallAt-clause-paused
+returns-in-CallAt-clause-paused g c = c.call_at.ensures.paused
+
+pub returns-in-CallAt-clause-halts : goal.returns-in-CallAt-clause-halts
+returns-in-CallAt-clause-halts g c = c.call_at.ensures.halts
+
+pub returns-in-CallAt-clause-stays : goal.returns-in-CallAt-clause-stays
+returns-in-CallAt-clause-stays g c = c.call_at.ensures.stays
+
+pub call_to-requires-clause-ready : goal.call_to-requires-clause-ready
+call_to-requires-clause-ready g c = c.requires.ready
+
+pub call_to-requires-clause-at : goal.call_to-requires-clause-at
+call_to-requires-clause-at g c = c.requires.at ∙ ap Some c.in-CallTo.is
+
+pub returns-in-CallTo-clause-paused : goal.returns-in-CallTo-clause-paused
+returns-in-CallTo-clause-paused g c = c.call_to.ensures.paused
+
+pub returns-in-CallTo-clause-halts : goal.returns-in-CallTo-clause-halts
+returns-in-CallTo-clause-halts g c = c.call_to.ensures.halts
+
+pub returns-in-CallTo-clause-stays : goal.returns-in-CallTo-clause-stays
+returns-in-CallTo-clause-stays g c = c.call_to.ensures.stays
+
+pub combine-requires-clause-ready : goal.combine-requires-clause-ready
+combine-requires-clause-ready g c = c.requires.ready
+
+pub combine-requires-clause-at : goal.combine-requires-clause-at
+combine-requires-clause-at g c = c.requires.at ∙ ap Some c.in-Combine.is
+
+pub returns-in-Combine-clause-paused : goal.returns-in-Combine-clause-paused
+returns-in-Combine-clause-paused g c = c.combine.ensures.paused
+
+pub returns-in-Combine-clause-halts : goal.returns-in-Combine-clause-halts
+returns-in-Combine-clause-halts g c = c.combine.ensures.halts
+
+pub returns-in-Combine-clause-stays : goal.returns-in-Combine-clause-stays
+returns-in-Combine-clause-stays g c = c.combine.ensures.stays
+
+pub returns-in-Exit-clause-halts : goal.returns-in-Exit-clause-halts
+returns-in-Exit-clause-halts g c = (refl, λ t. t)
+
+pub returns-in-Exit-clause-stays : goal.returns-in-Exit-clause-stays
+returns-in-Exit-clause-stays g c = (refl, λ w. w, refl)
+
+pub returns-in-Leave-clause-halts : goal.returns-in-Leave-clause-halts
+returns-in-Leave-clause-halts g c = (refl, λ t. t)
+
+pub returns-in-Leave-clause-stays : goal.returns-in-Leave-clause-stays
+returns-in-Leave-clause-stays g c = (refl, λ w. w, refl)
+
+pub returns-in-Get-clause-halts : goal.returns-in-Get-clause-halts
+returns-in-Get-clause-halts g c = (refl, λ t. t)
+
+pub returns-in-Get-clause-stays : goal.returns-in-Get-clause-stays
+returns-in-Get-clause-stays g c = (refl, λ w. w, refl)
+
+pub returns-in-End-clause-halts : goal.returns-in-End-clause-halts
+returns-in-End-clause-halts g c = (refl, λ t. t)
+
+pub returns-in-End-clause-stays : goal.returns-in-End-clause-stays
+returns-in-End-clause-stays g c = (refl, λ w. w, refl)
+
+pub returns-in-Halt-clause-halts : goal.returns-in-Halt-clause-halts
+returns-in-Halt-clause-halts g c = (refl, λ t. t)
+
+pub returns-in-Halt-clause-stays : goal.returns-in-Halt-clause-stays
+returns-in-Halt-clause-stays g c = (refl, λ w. w, refl)
+
+pub returns-in-Ret-clause-steps : goal.returns-in-Ret-clause-steps
+returns-in-Ret-clause-steps g c = c.return_plain.ensures.steps
+
+pub returns-in-RetV-clause-steps : goal.returns-in-RetV-clause-steps
+returns-in-RetV-clause-steps g c = c.return_value.ensures.steps
+
+pub returns-in-Call-clause-steps : goal.returns-in-Call-clause-steps
+returns-in-Call-clause-steps g c = c.call.ensures.steps
+
+pub returns-in-CallAt-clause-steps : goal.returns-in-CallAt-clause-steps
+returns-in-CallAt-clause-steps g c = c.call_at.ensures.steps
+
+pub returns-in-CallTo-clause-steps : goal.returns-in-CallTo-clause-steps
+returns-in-CallTo-clause-steps g c = c.call_to.ensures.steps
+
+pub returns-in-Combine-clause-steps : goal.returns-in-Combine-clause-steps
+returns-in-Combine-clause-steps g c = c.combine.ensures.steps

@@ -1,6 +1,6 @@
 use Rattle.std.proofs.Common.{pos, refl, w64, SFits, rules}
 use Rattle.std.proofs.lemmas.Int.{to_z-of_z}
-use Rattle.ada_machine.proofs.Memories.{item_cell_far}
+use Rattle.ada_machine.proofs.Memories.{item_cell_at, item_cell_far}
 use Rattle.ada_machine.proofs.memory.item_cell.Goals as goal
 
 pub returns-in-Beyond-clause-deed : goal.returns-in-Beyond-clause-deed
@@ -18,3 +18,20 @@ returns-in-Beyond-clause-deed g c =
       refl,
       refl,
     )
+
+pub returns-in-At-clause-deed : goal.returns-in-At-clause-deed
+returns-in-At-clause-deed g c =
+    let fa : SFits w64 c.top-address.result = search rules in
+    let fn : SFits w64 c.get-number.result = search rules in
+    let fl : SFits w64 c.args.dimension.low = search rules in
+    let fh : SFits w64 c.args.dimension.high = search rules in
+    let ft : SFits w64 c.in-At.to = search rules in
+    let fv : SFits w64 c.read_at-value.result = search rules in
+    let a = to_z-of_z w64 c.top-address.result fa in
+    let n = to_z-of_z w64 c.get-number.result fn in
+    let l = to_z-of_z w64 c.args.dimension.low fl in
+    let h = to_z-of_z w64 c.args.dimension.high fh in
+    let t = to_z-of_z w64 c.in-At.to ft in
+    let v = to_z-of_z w64 c.read_at-value.result fv in
+    item_cell_at c.args.pc c.args.dimension.low c.args.dimension.high c.args.dimension.size (g.C.Cells.cells c.args.view.now) (pos c.args.at) c.args.stack.now.items c.set_top.new.stack.items c.top-address.result c.get-number.result c.in-At.to c.read_at-value.result c.get-number.ensures c.top-address.ensures
+    (simp (a, n, l, h) at c.in-At.ensures) (simp t at c.read_at-value.ensures) (simp v at c.set_top.ensures.top)
