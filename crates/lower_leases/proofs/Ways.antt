@@ -1,13 +1,13 @@
 -- Ways and their steps.
-use Rattle.std.proofs.Common.{◌≡◌, ℕ, ◌+◌, ◌*◌, ℤ, ◌-ℤ◌, List, [], ◌∷◌, ◌++◌, Option, Some, None, Bool, true, cond, Result, Ok, Err, IfOk, map, refl, sym, ap, ◌∙◌, subst, append_assoc, append-nil}
+use Rattle.std.proofs.Common.{◌≡◌, ℕ, ◌+◌, ◌*◌, ℤ, ◌-ℤ◌, List, [], ◌∷◌, ◌++◌, Option, Some, None, Bool, map, refl, sym, ap, ◌∙◌, subst, append_assoc, append-nil}
 use Rattle.ada_meaning.specs.Shapes.{Shape, Single, Record, NoShape, size}
 use Rattle.check_clashes.specs.declared.effects.Selector as clash
 use Rattle.check_effects.specs.Effects.{Selector, At, Fixed, LoopIndex, ChunkIndex, Any}
 use Rattle.check_inference.specs.Exact.{plain}
 use Rattle.stack_code.specs.declared.code.Step.{Step}
 use Rattle.stack_code.specs.declared.code.Step.TheVariants as step
-use Rattle.lower_leased.specs.Leases.{Place, All, Loop, ByChunk, Way, also, at_item, in_field, step_of, steps_of, times, way_of}
-use Rattle.ada_meaning.specs.Values.{between, count, to_nat}
+use Rattle.lower_leased.specs.Leases.{Place, All, Loop, ByChunk, Way, also, at_item, in_field, step_of, steps_of, way_of}
+use Rattle.ada_meaning.specs.Values.{count, to_nat}
 use Rattle.typed_tree.specs.declared.typed.Typed.{Typed}
 use Rattle.lower_leases.specs.Paths.{dimension_shape, here, item_steps, part_shape, path_by}
 use Rattle.lower_leases.specs.declared.paths.Indexed.{Indexed}
@@ -40,8 +40,11 @@ item_none ss (Some places) t = refl
 pub place_behind : (ss all whole : List Step) (items : Option ℕ) (t : Shape) (p : Place) (w : Option Way) → all ≡ ss ++ item_steps items (size t) → whole ≡ all ++ step_of p ∷ [] → path_by whole w ≡ path_by ss (at_item items t (also p w))
 place_behind ss all whole items t p w e f = step_first all whole p w f ∙ item_first ss all items t (also p w) e
 
-pub ended : (ss all : List Step) (items : Option ℕ) (t : Shape) (n : ℕ) → all ≡ ss ++ item_steps items (size t) → Some (record { base = n; steps = all; run = size t }) ≡ path_by ss (at_item items t (here n t))
-ended ss all items t n e = ap (λ (all : List Step). Some (record { base = n; steps = all; run = size t })) (sym (append-nil all)) ∙ item_first ss all items t (here n t) e
+pub ended : (ss same all : List Step) (items : Option ℕ) (t : Shape) (n run : ℕ) → same ≡ ss → run ≡ size t → all ≡ same ++ item_steps items run → Some (record { base = n; steps = all; run = run }) ≡ path_by ss (at_item items t (here n t))
+ended ss same all items t n run a b e =
+    let grown : all ≡ ss ++ item_steps items (size t) = e ∙ ap (λ (xs : List Step). xs ++ item_steps items run) a ∙ ap (λ (m : ℕ). ss ++ item_steps items m) b in
+    ap (λ (m : ℕ). Some (record { base = n; steps = all; run = m })) b
+    ∙ ap (λ (xs : List Step). Some (record { base = n; steps = xs; run = size t })) (sym (append-nil all)) ∙ item_first ss all items t (here n t) grown
 
 -- ---- parts without a dimension
 
@@ -63,18 +66,18 @@ of_empty ss loops items t ks rest k n e f = subst (λ t. None ≡ path_by ss (wa
 pub no_field : (ss : List Step) (loops : Bool) (items : Option ℕ) (t : Shape) (ks : List Selector) (f : Option (ℕ × Shape)) → None ≡ f → None ≡ path_by ss (at_item items t (in_field f (λ m u. way_of loops None u ks m)))
 no_field ss loops items t ks f e = subst (λ f. None ≡ path_by ss (at_item items t (in_field f (λ m u. way_of loops None u ks m)))) e (item_none ss items t)
 
-pub a_field : (ss all : List Step) (loops : Bool) (items : Option ℕ) (t : Shape) (ks : List Selector) (f : Option (ℕ × Shape)) (m : ℕ) (u : Shape) → all ≡ ss ++ item_steps items (size t) → Some (m, u) ≡ f → path_by all (way_of loops None u ks m) ≡ path_by ss (at_item items t (in_field f (λ m u. way_of loops None u ks m)))
-a_field ss all loops items t ks f m u e g = subst (λ f. path_by all (way_of loops None u ks m) ≡ path_by ss (at_item items t (in_field f (λ m u. way_of loops None u ks m)))) g (item_first ss all items t (way_of loops None u ks m) e)
+pub a_field : (ss same all whole : List Step) (loops : Bool) (items : Option ℕ) (t : Shape) (ks : List Selector) (f : Option (ℕ × Shape)) (m n : ℕ) (u : Shape) (found : Option Path) → same ≡ ss → n ≡ size t → all ≡ same ++ item_steps items n → whole ≡ all → Some (m, u) ≡ f
+    → found ≡ path_by whole (way_of loops None u ks m) → found ≡ path_by ss (at_item items t (in_field f (λ m u. way_of loops None u ks m)))
+a_field ss same all whole loops items t ks f m n u found a b e w g h =
+    let grown : whole ≡ ss ++ item_steps items (size t) = w ∙ e ∙ ap (λ (xs : List Step). xs ++ item_steps items n) a ∙ ap (λ (k : ℕ). ss ++ item_steps items k) b in
+    h ∙ subst (λ f. path_by whole (way_of loops None u ks m) ≡ path_by ss (at_item items t (in_field f (λ m u. way_of loops None u ks m)))) g (item_first ss whole items t (way_of loops None u ks m) grown)
 
 -- ---- indexes
 
 module _ (t : Typed) (ranges : Bool) (steps : List Step) (items : Option ℕ) (i : Indexed) (cell : ℕ) (ks : List Selector) where
-  -- what is found from a part on, and from an index on
-  abbrev Comes : {E : Type 0} → List Step → Reached → Result (Option Path) E → Type 0
-  Comes all r result = IfOk result (λ found. found ≡ path_by all (way_of ranges r.items (part_shape t r.part) ks r.cell))
-
-  abbrev Leads : {E : Type 0} → Selector → Result (Option Path) E → Type 0
-  Leads s result = IfOk result (λ found. found ≡ path_by steps (way_of ranges items (dimension_shape t i) (s ∷ ks) cell))
+  -- what is found from a part on
+  abbrev Comes : List Step → Reached → Option Path → Type 0
+  Comes all r found = found ≡ path_by all (way_of ranges r.items (part_shape t r.part) ks r.cell)
 
   -- what the index leads to
   abbrev Enters : Reached → Type 0
@@ -89,38 +92,34 @@ module _ (t : Typed) (ranges : Bool) (steps : List Step) (items : Option ℕ) (i
       ∙ ap (λ (n : ℕ). path_by all (way_of ranges r.items (part_shape t i.inner) ks n)) c
       ∙ ap (λ (m : Option ℕ). path_by all (way_of ranges m (part_shape t i.inner) ks cell)) s
 
-  pub any_is : {E : Type 0} (all whole : List Step) (places n : ℕ) (r : Reached) (result : Result (Option Path) E) → all ≡ steps ++ item_steps items (size (dimension_shape t i)) → places ≡ count i.low i.high → n ≡ size (part_shape t i.inner)
-      → whole ≡ all ++ step.All places n ∷ [] → Enters r → Comes whole r result → Leads Any result
-  any_is all whole places n r (Err why) a p s w f c = tt
-  any_is all whole places n r (Ok found) a p s w f c =
+  item_grown : (same all : List Step) (places n : ℕ) → same ≡ steps → places ≡ count i.low i.high → n ≡ size (part_shape t i.inner) → all ≡ same ++ item_steps items (places * n) → all ≡ steps ++ item_steps items (size (dimension_shape t i))
+  item_grown same all places n e p s a =
+      a ∙ ap (λ (xs : List Step). xs ++ item_steps items (places * n)) e ∙ ap (λ (m : ℕ). steps ++ item_steps items (m * n)) p ∙ ap (λ (m : ℕ). steps ++ item_steps items (count i.low i.high * m)) s
+
+  pub any_is : (same all whole : List Step) (places n : ℕ) (r : Reached) (found : Option Path) → same ≡ steps → places ≡ count i.low i.high → n ≡ size (part_shape t i.inner) → all ≡ same ++ item_steps items (places * n)
+      → whole ≡ all ++ step.All places n ∷ [] → Enters r → Comes whole r found → found ≡ path_by steps (way_of ranges items (dimension_shape t i) (Any ∷ ks) cell)
+  any_is same all whole places n r found e p s a w f c =
       c ∙ rest_is whole r f
-      ∙ place_behind steps all whole items (dimension_shape t i) (All (count i.low i.high) (size (part_shape t i.inner))) inner_way a
+      ∙ place_behind steps all whole items (dimension_shape t i) (All (count i.low i.high) (size (part_shape t i.inner))) inner_way (item_grown same all places n e p s a)
       (w ∙ ap (λ (m : ℕ). all ++ step.All m n ∷ []) p ∙ ap (λ (m : ℕ). all ++ step.All (count i.low i.high) m ∷ []) s)
 
-  pub chunk_is : {E : Type 0} (d low : ℤ) (all whole : List Step) (places n : ℕ) (r : Reached) (result : Result (Option Path) E) → low ≡ i.low -ℤ d → all ≡ steps ++ item_steps items (size (dimension_shape t i)) → places ≡ count i.low i.high → n ≡ size (part_shape t i.inner)
-      → whole ≡ all ++ step.Chunk low places n ∷ [] → Enters r → Comes whole r result → Leads (ChunkIndex d) result
-  chunk_is d low all whole places n r (Err why) l a p s w f c = tt
-  chunk_is d low all whole places n r (Ok found) l a p s w f c =
+  pub chunk_is : (d low : ℤ) (same all whole : List Step) (places n : ℕ) (r : Reached) (found : Option Path) → low ≡ i.low -ℤ d → same ≡ steps → places ≡ count i.low i.high → n ≡ size (part_shape t i.inner) → all ≡ same ++ item_steps items (places * n)
+      → whole ≡ all ++ step.Chunk low places n ∷ [] → Enters r → Comes whole r found → found ≡ path_by steps (way_of ranges items (dimension_shape t i) (ChunkIndex d ∷ ks) cell)
+  chunk_is d low same all whole places n r found l e p s a w f c =
       c ∙ rest_is whole r f
-      ∙ place_behind steps all whole items (dimension_shape t i) (ByChunk (i.low -ℤ d) (count i.low i.high) (size (part_shape t i.inner))) inner_way a
+      ∙ place_behind steps all whole items (dimension_shape t i) (ByChunk (i.low -ℤ d) (count i.low i.high) (size (part_shape t i.inner))) inner_way (item_grown same all places n e p s a)
       (w ∙ ap (λ (z : ℤ). all ++ step.Chunk z places n ∷ []) l ∙ ap (λ (m : ℕ). all ++ step.Chunk (i.low -ℤ d) m n ∷ []) p ∙ ap (λ (m : ℕ). all ++ step.Chunk (i.low -ℤ d) (count i.low i.high) m ∷ []) s)
 
-  pub loop_is : {E : Type 0} (d low : ℤ) (all : List Step) (places n : ℕ) (r : Reached) (result : Result (Option Path) E) → ranges ≡ true → low ≡ i.low -ℤ d → places ≡ count i.low i.high → n ≡ size (part_shape t i.inner)
-      → all ≡ steps ++ step.Loop low places n ∷ [] → Enters r → Comes all r result → Leads (LoopIndex d) result
-  loop_is d low all places n r (Err why) b l p s w f c = tt
-  loop_is d low all places n r (Ok found) b l p s w f c =
-      let place = Loop (i.low -ℤ d) (count i.low i.high) (size (part_shape t i.inner)) in
+  pub range_is : (d low : ℤ) (same all : List Step) (places n : ℕ) (r : Reached) (found : Option Path) → low ≡ i.low -ℤ d → same ≡ steps → places ≡ count i.low i.high → n ≡ size (part_shape t i.inner)
+      → all ≡ same ++ step.Loop low places n ∷ [] → Enters r → Comes all r found → found ≡ path_by steps (also (Loop (i.low -ℤ d) (count i.low i.high) (size (part_shape t i.inner))) inner_way)
+  range_is d low same all places n r found l e p s w f c =
       c ∙ rest_is all r f
-      ∙ step_first steps all place inner_way
-      (w ∙ ap (λ (z : ℤ). steps ++ step.Loop z places n ∷ []) l ∙ ap (λ (m : ℕ). steps ++ step.Loop (i.low -ℤ d) m n ∷ []) p ∙ ap (λ (m : ℕ). steps ++ step.Loop (i.low -ℤ d) (count i.low i.high) m ∷ []) s)
-      ∙ ap (λ (b : Bool). path_by steps (cond b (also place inner_way) (way_of ranges (times items (count i.low i.high)) (part_shape t i.inner) ks cell))) (sym b)
+      ∙ step_first steps all (Loop (i.low -ℤ d) (count i.low i.high) (size (part_shape t i.inner))) inner_way
+      (w ∙ ap (λ (xs : List Step). xs ++ step.Loop low places n ∷ []) e ∙ ap (λ (z : ℤ). steps ++ step.Loop z places n ∷ []) l ∙ ap (λ (m : ℕ). steps ++ step.Loop (i.low -ℤ d) m n ∷ []) p ∙ ap (λ (m : ℕ). steps ++ step.Loop (i.low -ℤ d) (count i.low i.high) m ∷ []) s)
 
-  pub static_is : {E : Type 0} (v : ℤ) (all : List Step) (n far offset next : ℕ) (result : Result (Option Path) E) → all ≡ steps ++ item_steps items (size (dimension_shape t i)) → between i.low v i.high ≡ true → n ≡ size (part_shape t i.inner)
-      → far ≡ to_nat (v -ℤ i.low) → offset ≡ far * n → next ≡ cell + offset → IfOk result (λ found. found ≡ path_by all (way_of ranges None (part_shape t i.inner) ks next)) → Leads (Fixed v) result
-  static_is v all n far offset next (Err why) a b s z o e c = tt
-  static_is v all n far offset next (Ok found) a b s z o e c =
-      let there : next ≡ cell + to_nat (v -ℤ i.low) * size (part_shape t i.inner) = e ∙ ap (λ (m : ℕ). cell + m) (o ∙ ap (λ (m : ℕ). m * n) z ∙ ap (λ (m : ℕ). to_nat (v -ℤ i.low) * m) s) in
-      let w = way_of ranges None (part_shape t i.inner) ks (cell + to_nat (v -ℤ i.low) * size (part_shape t i.inner)) in
-      c ∙ ap (λ (m : ℕ). path_by all (way_of ranges None (part_shape t i.inner) ks m)) there
-      ∙ ap (λ (b : Bool). path_by all (cond b w None)) (sym b)
-      ∙ item_first steps all items (dimension_shape t i) (cond (between i.low v i.high) w None) a
+  pub inside_is : (v : ℤ) (same all whole : List Step) (places n next : ℕ) (found : Option Path) → same ≡ steps → places ≡ count i.low i.high → n ≡ size (part_shape t i.inner) → all ≡ same ++ item_steps items (places * n) → whole ≡ all
+      → next ≡ cell + to_nat (v -ℤ i.low) * n → found ≡ path_by whole (way_of ranges None (part_shape t i.inner) ks next)
+      → found ≡ path_by steps (at_item items (dimension_shape t i) (way_of ranges None (part_shape t i.inner) ks (cell + to_nat (v -ℤ i.low) * size (part_shape t i.inner))))
+  inside_is v same all whole places n next found e p s a w x c =
+      c ∙ ap (λ (m : ℕ). path_by whole (way_of ranges None (part_shape t i.inner) ks m)) (x ∙ ap (λ (m : ℕ). cell + to_nat (v -ℤ i.low) * m) s)
+      ∙ item_first steps whole items (dimension_shape t i) (way_of ranges None (part_shape t i.inner) ks (cell + to_nat (v -ℤ i.low) * size (part_shape t i.inner))) (w ∙ item_grown same all places n e p s a)

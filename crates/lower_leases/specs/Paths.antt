@@ -1,5 +1,5 @@
 -- Parts of objects as code has them, and what it makes of the way to a part.
-use Rattle.std.specs.Prelude.{ℕ, pos, List, [], ◌∷◌, ◌++◌, Option, Some, None}
+use Rattle.std.specs.Prelude.{◌≡◌, ℕ, pos, List, [], ◌∷◌, ◌++◌, Option, Some, None, IsTrue}
 use Rattle.typed_tree.specs.declared.typed.Typed.{Typed}
 use Rattle.typed_tree.specs.Programs.{program, bounds_at, fields_at}
 use Rattle.ada_meaning.specs.Shapes.{Shape, size, Single, Record, Dimension, NoShape, array_of, fields_of, shape_within}
@@ -12,8 +12,10 @@ use Rattle.lower_leases.specs.declared.shapes.Head.{Head}
 use Rattle.lower_leases.specs.declared.shapes.Head.TheVariants as head
 use Rattle.lower_leases.specs.declared.shapes.Part.{Part}
 use Rattle.lower_leases.specs.declared.shapes.Placed.{Placed}
+use Rattle.lower_leases.specs.declared.paths.End.{End}
 use Rattle.lower_leases.specs.declared.paths.Indexed.{Indexed}
 use Rattle.lower_leases.specs.declared.paths.Path.{Path}
+use Rattle.lower_leases.specs.declared.paths.Walk.{Walk}
 
 module _ (t : Typed) where
   -- subtypes whose parts are so many levels deep
@@ -55,3 +57,12 @@ here n t = Some (record { base = n; places = []; run = size t })
 abbrev pub path_by : List Step → Option Way → Option Path
 path_by before None = None
 path_by before (Some w) = Some (record { base = w.base; steps = before ++ steps_of w.places; run = w.run })
+
+-- a way, by its steps
+abbrev pub path_found : Option End → List Step → Option Path
+path_found None steps = None
+path_found (Some e) steps = Some (record { base = e.base; steps = steps; run = e.run })
+
+-- if all had room, what was found before had room, and these are the steps now
+abbrev pub Walks : List Step → Walk → Walk → Type 0
+Walks steps before after = IsTrue after.whole → IsTrue before.whole × (after.steps ≡ steps)

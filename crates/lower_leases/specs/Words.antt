@@ -1,5 +1,5 @@
 -- Words for what the functions of the walks find.
-use Rattle.std.specs.Prelude.{◌<◌, ◌≤◌, ℕ, suc, List, Option, Some, None, IfSome}
+use Rattle.std.specs.Prelude.{◌≡◌, ◌<◌, ◌≤◌, ℕ, suc, List, Option, Some, None, IfSome, IsTrue}
 use Rattle.typed_tree.specs.declared.node.Node.{Node}
 use Rattle.typed_tree.specs.Decoded.{chunk_at, composite_at, expr_at, iteration_at, stmt_at}
 use Rattle.typed_tree.specs.Syntax.{Program}
@@ -8,6 +8,8 @@ use Rattle.lower_leased.specs.declared.types.Standing.{Standing}
 use Rattle.lower_leased.specs.Homes.{stmt_homes}
 use Rattle.lower_leased.specs.Standings.{chunk_standings, composite_standings, depth_in, expr_standings, goes_through_range, iteration_standings, stmt_standings, with_site}
 use Rattle.lower_leases.specs.declared.exprs.Reduced.{Reduced}
+use Rattle.lower_leases.specs.declared.homes.Housing.{Housing}
+use Rattle.lower_leases.specs.declared.standings.Finding.{Finding}
 
 module _ (nodes : List Node) (d : ℕ) (found : List Standing) where
   -- what is found of a part of which the rest is still to be gone through
@@ -43,3 +45,18 @@ IsWithin id rest = IfSome rest (λ k. k ≤ id)
 abbrev pub rest_size : Option ℕ → ℕ
 rest_size None = 0
 rest_size (Some k) = suc k
+
+-- if all had room, what was found before had room, and this is what is found now
+abbrev pub Finds : List Standing → Finding → Finding → Type 0
+Finds found before after = IsTrue after.whole → IsTrue before.whole × (after.found ≡ found)
+
+-- if all had room, all is as it was, and this is the number
+abbrev pub Learns : ℕ → Finding → ℕ → Finding → Type 0
+Learns n before result after = IsTrue after.whole → IsTrue before.whole × ((after.found ≡ before.found) × (result ≡ n))
+
+-- the same of homes
+abbrev pub Houses : List Home → Housing → Housing → Type 0
+Houses found before after = IsTrue after.whole → IsTrue before.whole × (after.found ≡ found)
+
+abbrev pub Counts : ℕ → Housing → ℕ → Housing → Type 0
+Counts n before result after = IsTrue after.whole → IsTrue before.whole × ((after.found ≡ before.found) × (result ≡ n))

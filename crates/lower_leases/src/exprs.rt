@@ -1,15 +1,13 @@
 //! The parallel constructs in expressions (4.4) and in what stands in them.
 
-ghost use Rattle.std.specs.Prelude.{◌≡◌, ◌∷◌, ◌++◌, [], cond, ◌+◌, Err, IfOk, MatchResult, None, Ok, OnOk, Some};
+ghost use Rattle.std.specs.Prelude.{◌≡◌, cond, IsTrue};
 ghost use Rattle.lower_emission.specs.Repeats.{some_run};
 ghost use Rattle.typed_tree.specs.Decoded.{actuals_at, as_actual, as_association, as_selection, associations_at, chunk_at, composite_at, expr_at, iteration_at, leaves_at, optional_at, part_at, runs_in, selections_at, value_at};
 ghost use Rattle.typed_tree.specs.Syntax.{Actuals, Associations, Selections};
 ghost use Rattle.lower_leased.specs.Standings as spec;
-ghost use Rattle.lower_leases.specs.Words.{expr_left, composite_left, reduced, IsBelow};
+ghost use Rattle.lower_leases.specs.Words.{expr_left, composite_left, reduced, Finds, IsBelow, Learns};
 
-use ada_base::Items;
-use lower_leased::types::Standing;
-use std::alloc::AllocError;
+use crate::standings::{Finding, deeper, stands};
 use typed_tree::{Actual, Chunk, Composite, Expr, Iteration, Leaf, Nodes, Selection, Value};
 
 /// The numbers of the parts of a reduction (4.5.10): its initial value, its chunk specification, its iteration and its
@@ -22,29 +20,6 @@ pub struct Reduced {
     pub value: u32,
 }
 
-/// A part of which nothing is left.
-pub fn whole(done: Result<(), AllocError>) -> Result<Option<u32>, AllocError>
-    ensures { MatchResult result (λ rest. (done ≡ Ok tt) × (rest ≡ None)) (λ e. done ≡ Err e) }
-{
-    done?;
-    Ok(None)
-}
-
-/// A part of which another part is left.
-fn left(done: Result<(), AllocError>, rest: u32) -> Result<Option<u32>, AllocError>
-    ensures { MatchResult result (λ found. (done ≡ Ok tt) × (found ≡ Some rest)) (λ e. done ≡ Err e) }
-{
-    done?;
-    Ok(Some(rest))
-}
-
-/// Within one more construct. An Err is want of room.
-pub fn deeper(depth: u32) -> Result<u32, AllocError>
-    ensures { IfOk result (λ within. within ≡ depth + 1) }
-{
-    depth.checked_add(1).ok_or(AllocError)
-}
-
 /// Whether an iteration goes through a range.
 pub fn goes_through_range(nodes: &Nodes, iteration: u32) -> bool
     ensures { result ≡ spec.goes_through_range (iteration_at nodes.now iteration) }
@@ -55,49 +30,26 @@ pub fn goes_through_range(nodes: &Nodes, iteration: u32) -> bool
     }
 }
 
-/// A construct of that number stands here. An Err is want of memory.
-pub fn stands(
-    site: u32,
-    depth: u32,
-    ranges: bool,
-    out: &mut Items<Standing>,
-) -> Result<(), AllocError>
-    ensures { OnOk result (out.new ≡ spec.with_standing depth site ranges out.old) }
-{
-    out.push(Standing {
-        site,
-        depth,
-        ranges,
-    })
-}
-
 /// An expression. What stands last in it is gone through by a loop, so that a chain of operators takes no native stack.
-/// An Err is want of memory, as with all that is found here.
 #[cycle(text)]
-pub fn expr(nodes: &Nodes, depth: u32, id: u32, out: &mut Items<Standing>) -> Result<(), AllocError>
-    ensures { OnOk result (out.new ≡ spec.expr_standings depth (expr_at nodes.now id) out.old) }
+pub fn expr(nodes: &Nodes, depth: u32, id: u32, out: &mut Finding)
+    ensures { Finds (spec.expr_standings depth (expr_at nodes.now id) out.old.found) out.old out.new }
 {
     let mut rest = Some(id);
     'parts: while let Some(at) = rest {
-        rest = expr_step(nodes, depth, at, out)?;
+        rest = expr_step(nodes, depth, at, out);
     }
-    Ok(())
 }
 
 /// All of an expression but one part that may be left.
 #[cycle(text)]
 #[inline(never)]
 #[tactic(auto, unfolding(lower_leased::specs::Standings::expr_standings))]
-fn expr_step(
-    nodes: &Nodes,
-    depth: u32,
-    id: u32,
-    out: &mut Items<Standing>,
-) -> Result<Option<u32>, AllocError>
-    ensures { IfOk result (λ rest. (expr_left nodes.now depth out.new rest ≡ spec.expr_standings depth (expr_at nodes.now id) out.old) × IsBelow id rest) }
+fn expr_step(nodes: &Nodes, depth: u32, id: u32, out: &mut Finding) -> Option<u32>
+    ensures { (IsTrue out.new.whole → IsTrue out.old.whole × (expr_left nodes.now depth out.new.found result ≡ spec.expr_standings depth (expr_at nodes.now id) out.old.found)) × IsBelow id result }
 {
     match nodes.expr(id) {
-        Expr::Static { .. } | Expr::Parameter { .. } | Expr::Target { .. } => Ok(None),
+        Expr::Static { .. } | Expr::Parameter { .. } | Expr::Target { .. } => None,
         Expr::Variable {
             selections: parts,
             ..
@@ -105,10 +57,13 @@ fn expr_step(
         | Expr::Constant {
             selections: parts,
             ..
-        } => whole(selections(nodes, depth, parts, out)),
+        } => {
+            selections(nodes, depth, parts, out);
+            None
+        }
         Expr::Group { inside: last }
         | Expr::Unary { operand: last, .. }
-        | Expr::Convert { value: last, .. } => Ok(Some(last)),
+        | Expr::Convert { value: last, .. } => Some(last),
         Expr::Binary {
             left: last,
             right: other,
@@ -126,7 +81,10 @@ fn expr_step(
             left: last,
             right: other,
             ..
-        } => left(expr(nodes, depth, other, out), last),
+        } => {
+            expr(nodes, depth, other, out);
+            Some(last)
+        }
         Expr::Membership {
             value: one,
             low: two,
@@ -137,8 +95,14 @@ fn expr_step(
             condition: one,
             value: two,
             otherwise: last,
-        } => left(both(nodes, depth, one, two, out), last),
-        Expr::Call { actuals: parts, .. } => whole(actuals(nodes, depth, parts, out)),
+        } => {
+            both(nodes, depth, one, two, out);
+            Some(last)
+        }
+        Expr::Call { actuals: parts, .. } => {
+            actuals(nodes, depth, parts, out);
+            None
+        }
         Expr::Reduction {
             initial,
             site,
@@ -153,7 +117,8 @@ fn expr_step(
                 iteration,
                 value,
             };
-            whole(reduction(nodes, depth, site, parts, out))
+            reduction(nodes, depth, site, parts, out);
+            None
         }
     }
 }
@@ -161,32 +126,21 @@ fn expr_step(
 /// Two expressions, one after the other.
 #[cycle(text)]
 #[inline(never)]
-fn both(
-    nodes: &Nodes,
-    depth: u32,
-    one: u32,
-    two: u32,
-    out: &mut Items<Standing>,
-) -> Result<(), AllocError>
-    ensures { OnOk result (out.new ≡ spec.expr_standings depth (expr_at nodes.now two) (spec.expr_standings depth (expr_at nodes.now one) out.old)) }
+fn both(nodes: &Nodes, depth: u32, one: u32, two: u32, out: &mut Finding)
+    ensures { Finds (spec.expr_standings depth (expr_at nodes.now two) (spec.expr_standings depth (expr_at nodes.now one) out.old.found)) out.old out.new }
 {
-    expr(nodes, depth, one, out)?;
-    expr(nodes, depth, two, out)
+    expr(nodes, depth, one, out);
+    expr(nodes, depth, two, out);
 }
 
 /// An expression that may be left out.
 #[cycle(text)]
 #[tactic(auto, using(crate::proofs::Reading::present_is), unfolding(lower_leased::specs::Standings::optional_standings))]
-pub fn optional(
-    nodes: &Nodes,
-    depth: u32,
-    id: u32,
-    out: &mut Items<Standing>,
-) -> Result<(), AllocError>
-    ensures { OnOk result (out.new ≡ spec.optional_standings depth (optional_at nodes.now id) out.old) }
+pub fn optional(nodes: &Nodes, depth: u32, id: u32, out: &mut Finding)
+    ensures { Finds (spec.optional_standings depth (optional_at nodes.now id) out.old.found) out.old out.new }
 {
     match nodes.optional(id) {
-        None => Ok(()),
+        None => {}
         Some(_) => expr(nodes, depth, id, out),
     }
 }
@@ -194,64 +148,47 @@ pub fn optional(
 /// What a name goes on with (4.1.1, 4.1.3).
 #[cycle(text)]
 #[tactic(auto, unfolding(lower_leased::specs::Standings::selections_standings))]
-pub fn selections(
-    nodes: &Nodes,
-    depth: u32,
-    id: u32,
-    out: &mut Items<Standing>,
-) -> Result<(), AllocError>
-    ensures { OnOk result (out.new ≡ spec.selections_standings depth (selections_at nodes.now id) out.old) }
+pub fn selections(nodes: &Nodes, depth: u32, id: u32, out: &mut Finding)
+    ensures { Finds (spec.selections_standings depth (selections_at nodes.now id) out.old.found) out.old out.new }
 {
     let mut at = id;
     'cells: while let Some(cell) = nodes.selections(at) {
-        selection(nodes, depth, cell.first, out)?;
+        selection(nodes, depth, cell.first, out);
         at = cell.rest;
     }
-    Ok(())
 }
 
 #[cycle(text)]
 #[tactic(auto, unfolding(lower_leased::specs::Standings::selections_standings))]
-fn selection(
-    nodes: &Nodes,
-    depth: u32,
-    id: u32,
-    out: &mut Items<Standing>,
-) -> Result<(), AllocError>
-    ensures { OnOk result ((rest : Selections) → spec.selections_standings depth rest out.new ≡ spec.selections_standings depth (as_selection (part_at nodes.now id) rest) out.old) }
+fn selection(nodes: &Nodes, depth: u32, id: u32, out: &mut Finding)
+    ensures { IsTrue out.new.whole → IsTrue out.old.whole × ((rest : Selections) → spec.selections_standings depth rest out.new.found ≡ spec.selections_standings depth (as_selection (part_at nodes.now id) rest) out.old.found) }
 {
     match nodes.selection(id) {
         Some(Selection::Index { index, .. }) => expr(nodes, depth, index, out),
-        Some(Selection::Field { .. }) | None => Ok(()),
+        Some(Selection::Field { .. }) | None => {}
     }
 }
 
 /// Actual parameters (6.4.1).
 #[cycle(text)]
 #[tactic(auto, unfolding(lower_leased::specs::Standings::actuals_standings))]
-pub fn actuals(
-    nodes: &Nodes,
-    depth: u32,
-    id: u32,
-    out: &mut Items<Standing>,
-) -> Result<(), AllocError>
-    ensures { OnOk result (out.new ≡ spec.actuals_standings depth (actuals_at nodes.now id) out.old) }
+pub fn actuals(nodes: &Nodes, depth: u32, id: u32, out: &mut Finding)
+    ensures { Finds (spec.actuals_standings depth (actuals_at nodes.now id) out.old.found) out.old out.new }
 {
     let mut at = id;
     'cells: while let Some(cell) = nodes.actuals(at) {
-        actual(nodes, depth, cell.first, out)?;
+        actual(nodes, depth, cell.first, out);
         at = cell.rest;
     }
-    Ok(())
 }
 
 #[cycle(text)]
 #[tactic(auto, unfolding(lower_leased::specs::Standings::actuals_standings))]
-fn actual(nodes: &Nodes, depth: u32, id: u32, out: &mut Items<Standing>) -> Result<(), AllocError>
-    ensures { OnOk result ((rest : Actuals) → spec.actuals_standings depth rest out.new ≡ spec.actuals_standings depth (as_actual (part_at nodes.now id) rest) out.old) }
+fn actual(nodes: &Nodes, depth: u32, id: u32, out: &mut Finding)
+    ensures { IsTrue out.new.whole → IsTrue out.old.whole × ((rest : Actuals) → spec.actuals_standings depth rest out.new.found ≡ spec.actuals_standings depth (as_actual (part_at nodes.now id) rest) out.old.found) }
 {
     match nodes.actual(id) {
-        None => Ok(()),
+        None => {}
         Some(Actual::In { value: part, .. }) => value(nodes, depth, part, out),
         Some(
             Actual::InOut {
@@ -277,16 +214,11 @@ fn actual(nodes: &Nodes, depth: u32, id: u32, out: &mut Items<Standing>) -> Resu
 /// What is stored somewhere.
 #[cycle(text)]
 #[tactic(auto, unfolding(lower_leased::specs::Standings::value_standings, lower_leased::specs::Standings::composite_standings, lower_leased::specs::Standings::associations_standings))]
-pub fn value(
-    nodes: &Nodes,
-    depth: u32,
-    id: u32,
-    out: &mut Items<Standing>,
-) -> Result<(), AllocError>
-    ensures { OnOk result (out.new ≡ spec.value_standings depth (value_at nodes.now id) out.old) }
+pub fn value(nodes: &Nodes, depth: u32, id: u32, out: &mut Finding)
+    ensures { Finds (spec.value_standings depth (value_at nodes.now id) out.old.found) out.old out.new }
 {
     match nodes.value(id) {
-        None => Ok(()),
+        None => {}
         Some(Value::Number { value: part, .. }) => expr(nodes, depth, part, out),
         Some(Value::Cells { composite: part }) => composite(nodes, depth, part, out),
     }
@@ -294,31 +226,20 @@ pub fn value(
 
 /// An expression of an array or record type. The last part of a conditional expression is gone through by a loop.
 #[cycle(text)]
-fn composite(
-    nodes: &Nodes,
-    depth: u32,
-    id: u32,
-    out: &mut Items<Standing>,
-) -> Result<(), AllocError>
-    ensures { OnOk result (out.new ≡ spec.composite_standings depth (composite_at nodes.now id) out.old) }
+fn composite(nodes: &Nodes, depth: u32, id: u32, out: &mut Finding)
+    ensures { Finds (spec.composite_standings depth (composite_at nodes.now id) out.old.found) out.old out.new }
 {
     let mut rest = Some(id);
     'parts: while let Some(at) = rest {
-        rest = composite_step(nodes, depth, at, out)?;
+        rest = composite_step(nodes, depth, at, out);
     }
-    Ok(())
 }
 
 #[cycle(text)]
 #[inline(never)]
 #[tactic(auto, unfolding(lower_leased::specs::Standings::composite_standings))]
-fn composite_step(
-    nodes: &Nodes,
-    depth: u32,
-    id: u32,
-    out: &mut Items<Standing>,
-) -> Result<Option<u32>, AllocError>
-    ensures { IfOk result (λ rest. (composite_left nodes.now depth out.new rest ≡ spec.composite_standings depth (composite_at nodes.now id) out.old) × IsBelow id rest) }
+fn composite_step(nodes: &Nodes, depth: u32, id: u32, out: &mut Finding) -> Option<u32>
+    ensures { (IsTrue out.new.whole → IsTrue out.old.whole × (composite_left nodes.now depth out.new.found result ≡ spec.composite_standings depth (composite_at nodes.now id) out.old.found)) × IsBelow id result }
 {
     match nodes.composite(id) {
         Composite::WholeVariable {
@@ -328,70 +249,62 @@ fn composite_step(
         | Composite::WholeConstant {
             selections: parts,
             ..
-        } => whole(selections(nodes, depth, parts, out)),
-        Composite::WholeTarget { .. } => Ok(None),
+        } => {
+            selections(nodes, depth, parts, out);
+            None
+        }
+        Composite::WholeTarget { .. } => None,
         Composite::If {
             condition,
             value: part,
             otherwise,
-        } => left(chosen(nodes, depth, condition, part, out), otherwise),
+        } => {
+            chosen(nodes, depth, condition, part, out);
+            Some(otherwise)
+        }
         Composite::Aggregate {
             associations: parts,
             ..
-        } => whole(associations(nodes, depth, parts, out)),
+        } => {
+            associations(nodes, depth, parts, out);
+            None
+        }
     }
 }
 
 /// A condition and what it chooses.
 #[cycle(text)]
 #[inline(never)]
-fn chosen(
-    nodes: &Nodes,
-    depth: u32,
-    condition: u32,
-    part: u32,
-    out: &mut Items<Standing>,
-) -> Result<(), AllocError>
-    ensures { OnOk result (out.new ≡ spec.composite_standings depth (composite_at nodes.now part) (spec.expr_standings depth (expr_at nodes.now condition) out.old)) }
+fn chosen(nodes: &Nodes, depth: u32, condition: u32, part: u32, out: &mut Finding)
+    ensures { Finds (spec.composite_standings depth (composite_at nodes.now part) (spec.expr_standings depth (expr_at nodes.now condition) out.old.found)) out.old out.new }
 {
-    expr(nodes, depth, condition, out)?;
-    composite(nodes, depth, part, out)
+    expr(nodes, depth, condition, out);
+    composite(nodes, depth, part, out);
 }
 
 /// Associations of an aggregate (4.3.1, 4.3.3).
 #[cycle(text)]
 #[tactic(auto, unfolding(lower_leased::specs::Standings::associations_standings))]
-fn associations(
-    nodes: &Nodes,
-    depth: u32,
-    id: u32,
-    out: &mut Items<Standing>,
-) -> Result<(), AllocError>
-    ensures { OnOk result (out.new ≡ spec.associations_standings depth (associations_at nodes.now id) out.old) }
+fn associations(nodes: &Nodes, depth: u32, id: u32, out: &mut Finding)
+    ensures { Finds (spec.associations_standings depth (associations_at nodes.now id) out.old.found) out.old out.new }
 {
     let mut at = id;
     'cells: while let Some(cell) = nodes.associations(at) {
-        association(nodes, depth, cell.first, out)?;
+        association(nodes, depth, cell.first, out);
         at = cell.rest;
     }
-    Ok(())
 }
 
 #[cycle(text)]
 #[tactic(auto, unfolding(lower_leased::specs::Standings::associations_standings))]
-fn association(
-    nodes: &Nodes,
-    depth: u32,
-    id: u32,
-    out: &mut Items<Standing>,
-) -> Result<(), AllocError>
-    ensures { OnOk result ((rest : Associations) → spec.associations_standings depth rest out.new ≡ spec.associations_standings depth (as_association (part_at nodes.now id) rest) out.old) }
+fn association(nodes: &Nodes, depth: u32, id: u32, out: &mut Finding)
+    ensures { IsTrue out.new.whole → IsTrue out.old.whole × ((rest : Associations) → spec.associations_standings depth rest out.new.found ≡ spec.associations_standings depth (as_association (part_at nodes.now id) rest) out.old.found) }
 {
     match nodes.association(id) {
-        None => Ok(()),
+        None => {}
         Some(part) => {
             let evaluated = gives_some(nodes, part.runs);
-            given(nodes, depth, evaluated, part.value, out)
+            given(nodes, depth, evaluated, part.value, out);
         }
     }
 }
@@ -399,19 +312,12 @@ fn association(
 /// The value of an association, if that gives some component.
 #[cycle(text)]
 #[inline(never)]
-fn given(
-    nodes: &Nodes,
-    depth: u32,
-    evaluated: bool,
-    part: u32,
-    out: &mut Items<Standing>,
-) -> Result<(), AllocError>
-    ensures { OnOk result (out.new ≡ cond evaluated (spec.value_standings depth (value_at nodes.now part) out.old) out.old) }
+fn given(nodes: &Nodes, depth: u32, evaluated: bool, part: u32, out: &mut Finding)
+    ensures { Finds (cond evaluated (spec.value_standings depth (value_at nodes.now part) out.old.found) out.old.found) out.old out.new }
 {
-    if !evaluated {
-        return Ok(());
+    if evaluated {
+        value(nodes, depth, part, out);
     }
-    value(nodes, depth, part, out)
 }
 
 /// Whether there is a run.
@@ -431,17 +337,11 @@ fn gives_some(nodes: &Nodes, runs: u32) -> bool
 /// An iteration (5.5, 5.5.2). What is evaluated once stands around its turns, and its filter within.
 #[cycle(text)]
 #[tactic(auto, unfolding(lower_leased::specs::Standings::iteration_standings, lower_leased::specs::Standings::selections_standings, lower_leased::specs::Standings::optional_standings))]
-pub fn iteration(
-    nodes: &Nodes,
-    depth: u32,
-    within: u32,
-    id: u32,
-    out: &mut Items<Standing>,
-) -> Result<(), AllocError>
-    ensures { OnOk result (out.new ≡ spec.iteration_standings depth within (iteration_at nodes.now id) out.old) }
+pub fn iteration(nodes: &Nodes, depth: u32, within: u32, id: u32, out: &mut Finding)
+    ensures { Finds (spec.iteration_standings depth within (iteration_at nodes.now id) out.old.found) out.old out.new }
 {
     match nodes.iteration(id) {
-        None => Ok(()),
+        None => {}
         Some(
             Iteration::Range {
                 low,
@@ -450,8 +350,8 @@ pub fn iteration(
                 ..
             },
         ) => {
-            both(nodes, depth, low, high, out)?;
-            optional(nodes, within, filter, out)
+            both(nodes, depth, low, high, out);
+            optional(nodes, within, filter, out);
         }
         Some(
             Iteration::Components {
@@ -460,8 +360,8 @@ pub fn iteration(
                 ..
             },
         ) => {
-            selections(nodes, depth, parts, out)?;
-            optional(nodes, within, filter, out)
+            selections(nodes, depth, parts, out);
+            optional(nodes, within, filter, out);
         }
     }
 }
@@ -469,66 +369,49 @@ pub fn iteration(
 /// A chunk specification (5.5).
 #[cycle(text)]
 #[tactic(auto, unfolding(lower_leased::specs::Standings::chunk_standings))]
-pub fn chunk(
-    nodes: &Nodes,
-    depth: u32,
-    id: u32,
-    out: &mut Items<Standing>,
-) -> Result<(), AllocError>
-    ensures { OnOk result (out.new ≡ spec.chunk_standings depth (chunk_at nodes.now id) out.old) }
+pub fn chunk(nodes: &Nodes, depth: u32, id: u32, out: &mut Finding)
+    ensures { Finds (spec.chunk_standings depth (chunk_at nodes.now id) out.old.found) out.old out.new }
 {
     match nodes.chunk(id) {
-        None => Ok(()),
+        None => {}
         Some(Chunk::Count { value: part }) => expr(nodes, depth, part, out),
         Some(Chunk::Each { low, high, .. }) => both(nodes, depth, low, high, out),
     }
 }
 
 /// The construct that a reduction is, if it is parallel.
-fn with_site(
-    nodes: &Nodes,
-    depth: u32,
-    site: Option<u32>,
-    iteration: u32,
-    out: &mut Items<Standing>,
-) -> Result<(), AllocError>
-    ensures { OnOk result (out.new ≡ spec.with_site depth site (spec.goes_through_range (iteration_at nodes.now iteration)) out.old) }
+fn with_site(nodes: &Nodes, depth: u32, site: Option<u32>, iteration: u32, out: &mut Finding)
+    ensures { Finds (spec.with_site depth site (spec.goes_through_range (iteration_at nodes.now iteration)) out.old.found) out.old out.new }
 {
     match site {
-        None => Ok(()),
+        None => {}
         Some(number) => {
             let ranges = goes_through_range(nodes, iteration);
-            stands(number, depth, ranges, out)
+            stands(number, depth, ranges, out);
         }
     }
 }
 
 /// Where the values of a reduction stand.
-fn depth_in(depth: u32, site: Option<u32>) -> Result<u32, AllocError>
-    ensures { IfOk result (λ within. within ≡ spec.depth_in depth site) }
+fn depth_in(depth: u32, site: Option<u32>, out: &mut Finding) -> u32
+    ensures { Learns (spec.depth_in depth site) out.old result out.new }
 {
     match site {
-        None => Ok(depth),
-        Some(_) => deeper(depth),
+        None => depth,
+        Some(_) => deeper(depth, out),
     }
 }
 
 /// A reduction (4.5.10).
 #[cycle(text)]
 #[inline(never)]
-fn reduction(
-    nodes: &Nodes,
-    depth: u32,
-    site: Option<u32>,
-    parts: Reduced,
-    out: &mut Items<Standing>,
-) -> Result<(), AllocError>
-    ensures { OnOk result (out.new ≡ reduced nodes.now depth site parts out.old) }
+fn reduction(nodes: &Nodes, depth: u32, site: Option<u32>, parts: Reduced, out: &mut Finding)
+    ensures { Finds (reduced nodes.now depth site parts out.old.found) out.old out.new }
 {
-    with_site(nodes, depth, site, parts.iteration, out)?;
-    let within = depth_in(depth, site)?;
-    expr(nodes, depth, parts.initial, out)?;
-    chunk(nodes, depth, parts.chunk, out)?;
-    iteration(nodes, depth, within, parts.iteration, out)?;
-    expr(nodes, within, parts.value, out)
+    with_site(nodes, depth, site, parts.iteration, out);
+    let within = depth_in(depth, site, out);
+    expr(nodes, depth, parts.initial, out);
+    chunk(nodes, depth, parts.chunk, out);
+    iteration(nodes, depth, within, parts.iteration, out);
+    expr(nodes, within, parts.value, out);
 }

@@ -1,15 +1,17 @@
 //! Where all variables lie, and where all parallel constructs stand.
 
-ghost use Rattle.std.specs.Prelude.{◌≡◌, ◌+◌, ◌∷◌, [], true, ℕ, List, IfOk, OnOk};
+ghost use Rattle.std.specs.Prelude.{◌≡◌, ◌+◌, ◌∷◌, [], true, ℕ, List, IfOk, IsTrue};
 ghost use Rattle.typed_tree.specs.Decoded.{body_at};
 ghost use Rattle.typed_tree.specs.Programs.{formals_at, program, sub_of};
 ghost use Rattle.typed_tree.specs.Syntax.{Program};
 ghost use Rattle.lower_emission.specs.Emission as emission;
 ghost use Rattle.lower_leased.specs.Homes as homes;
 ghost use Rattle.lower_leased.specs.Standings as standings;
+ghost use Rattle.lower_leases.specs.Words.{Finds, Houses};
 
-use crate::homes::{Stand, block, decls, held, object_cells};
+use crate::homes::{Housing, Stand, add, block, decls, given, held, lies, object_cells};
 use crate::shapes::sum;
+use crate::standings::Finding;
 use crate::stmts;
 use ada_base::Items;
 use lower_leased::types::{Home, Standing};
@@ -46,42 +48,38 @@ fn formals_cells(typed: &Typed, id: u32) -> Result<u32, AllocError>
 }
 
 /// Where a formal lies that begins at a cell; what is given is the first cell behind it.
-fn formal(
-    typed: &Typed,
-    formal: Formal,
-    cell: u32,
-    out: &mut Items<Home>,
-) -> Result<u32, AllocError>
-    ensures { IfOk result (λ next. (rest : List emission.Shape) → homes.formal_homes next rest out.new ≡ homes.formal_homes cell (emission.shape_by (program typed.now) formal.object formal.mode ∷ rest) out.old) }
+fn formal(typed: &Typed, formal: Formal, cell: u32, out: &mut Housing) -> u32
+    ensures { IsTrue out.new.whole → IsTrue out.old.whole × ((rest : List emission.Shape) → homes.formal_homes result rest out.new.found ≡ homes.formal_homes cell (emission.shape_by (program typed.now) formal.object formal.mode ∷ rest) out.old.found) }
 {
-    let cells = object_cells(typed, formal.object)?;
+    let cells = given(object_cells(typed, formal.object), out);
     match formal.mode {
-        Mode::In => sum(cell, cells),
+        Mode::In => add(cell, cells, out),
         Mode::InOut | Mode::Out => {
-            let first = sum(cell, 1)?;
-            out.push(Home {
+            let first = add(cell, 1, out);
+            let home = Home {
                 object: formal.object,
                 main: false,
                 depth: 0,
                 cell: first,
                 cells,
-            })?;
-            sum(first, cells)
+            };
+            lies(home, out);
+            add(first, cells, out)
         }
     }
 }
 
 /// Where the formals of a list lie, from a cell on.
 #[cycle(formals)]
-fn formals(typed: &Typed, id: u32, cell: u32, out: &mut Items<Home>) -> Result<(), AllocError>
-    ensures { OnOk result (out.new ≡ homes.formal_homes cell (emission.shapes (program typed.now) (formals_at typed.now.nodes id)) out.old) }
+fn formals(typed: &Typed, id: u32, cell: u32, out: &mut Housing)
+    ensures { Houses (homes.formal_homes cell (emission.shapes (program typed.now) (formals_at typed.now.nodes id)) out.old.found) out.old out.new }
 {
     match typed.nodes.leaf(id) {
-        None => Ok(()),
+        None => {}
         Some(link) => match link.leaf {
             Leaf::Formal(one) => {
-                let next = formal(typed, one, cell, out)?;
-                formals(typed, link.rest, next, out)
+                let next = formal(typed, one, cell, out);
+                formals(typed, link.rest, next, out);
             }
             _ => formals(typed, link.rest, cell, out),
         },
@@ -89,75 +87,81 @@ fn formals(typed: &Typed, id: u32, cell: u32, out: &mut Items<Home>) -> Result<(
 }
 
 /// The variables of a subprogram, whose formals have the first cells of its frame.
-fn sub_homes(typed: &Typed, sub: Sub, out: &mut Items<Home>) -> Result<(), AllocError>
-    ensures { OnOk result (out.new ≡ homes.sub_homes (program typed.now) (sub_of typed.now.nodes sub) out.old) }
+fn sub_homes(typed: &Typed, sub: Sub, out: &mut Housing)
+    ensures { Houses (homes.sub_homes (program typed.now) (sub_of typed.now.nodes sub) out.old.found) out.old out.new }
 {
-    formals(typed, sub.formals, 0, out)?;
-    let free = formals_cells(typed, sub.formals)?;
-    body_homes(typed, Stand { depth: 0, free }, sub.body, out)
+    formals(typed, sub.formals, 0, out);
+    let free = given(formals_cells(typed, sub.formals), out);
+    body_homes(typed, Stand { depth: 0, free }, sub.body, out);
 }
 
 /// The variables of a subprogram's body.
 #[tactic(auto, unfolding(lower_leased::specs::Homes::stmts_homes, lower_leased::specs::Homes::handler_homes))]
-fn body_homes(typed: &Typed, at: Stand, body: u32, out: &mut Items<Home>) -> Result<(), AllocError>
-    ensures { OnOk result (out.new ≡ homes.body_homes (program typed.now) at.depth at.free (body_at typed.now.nodes body) out.old) }
+fn body_homes(typed: &Typed, at: Stand, body: u32, out: &mut Housing)
+    ensures { Houses (homes.body_homes (program typed.now) at.depth at.free (body_at typed.now.nodes body) out.old.found) out.old out.new }
 {
     match typed.nodes.body(body) {
-        None => Ok(()),
+        None => {}
         Some(parts) => block(typed, at, parts.decls, parts.stmts, parts.handlers, out),
     }
 }
 
 /// The variables of the main procedure.
 #[tactic(auto, unfolding(lower_leased::specs::Homes::stmts_homes, lower_leased::specs::Homes::handler_homes))]
-fn main_homes(typed: &Typed, out: &mut Items<Home>) -> Result<(), AllocError>
-    ensures { OnOk result (out.new ≡ homes.main_homes (program typed.now) out.old) }
+fn main_homes(typed: &Typed, out: &mut Housing)
+    ensures { Houses (homes.main_homes (program typed.now) out.old.found) out.old out.new }
 {
     match typed.nodes.body(typed.body) {
-        None => Ok(()),
+        None => {}
         Some(parts) => {
             let outset = Stand { depth: 0, free: 0 };
-            let free = decls(typed, true, outset, parts.decls, out)?;
+            let free = decls(typed, true, outset, parts.decls, out);
             held(
                 typed,
                 Stand { depth: 0, free },
                 parts.stmts,
                 parts.handlers,
                 out,
-            )
+            );
         }
     }
 }
 
 /// The variables of all subprograms.
-fn subs_homes(typed: &Typed, out: &mut Items<Home>) -> Result<(), AllocError>
-    ensures { OnOk result (out.new ≡ homes.subs_homes (program typed.now) (program typed.now).subs out.old) }
+fn subs_homes(typed: &Typed, out: &mut Housing)
+    ensures { Houses (homes.subs_homes (program typed.now) (program typed.now).subs out.old.found) out.old out.new }
 {
     let mut rest = typed.subs.as_slice();
     while let Some((sub, others)) = rest.split_first() {
-        sub_homes(typed, *sub, out)?;
+        sub_homes(typed, *sub, out);
         rest = others;
     }
-    Ok(())
 }
 
 /// Where the variables of a program lie. An Err is want of memory, also where 32 bits don't hold a number.
 pub fn homes_of(typed: &Typed, alloc: Global) -> Result<Items<Home>, AllocError>
     ensures { IfOk result (λ found. found ≡ homes.homes_of (program typed.now)) }
 {
-    let mut found = Items::new(alloc);
-    main_homes(typed, &mut found)?;
-    subs_homes(typed, &mut found)?;
-    Ok(found)
+    let mut out = Housing {
+        found: Items::new(alloc),
+        whole: true,
+    };
+    main_homes(typed, &mut out);
+    subs_homes(typed, &mut out);
+    if out.whole {
+        Ok(out.found)
+    } else {
+        Err(AllocError)
+    }
 }
 
 /// The parallel constructs of a body.
 #[tactic(auto, unfolding(lower_leased::specs::Standings::stmts_standings, lower_leased::specs::Standings::handler_standings, lower_leased::specs::Standings::decls_standings))]
-fn body_standings(typed: &Typed, body: u32, out: &mut Items<Standing>) -> Result<(), AllocError>
-    ensures { OnOk result (out.new ≡ standings.body_standings (body_at typed.now.nodes body) out.old) }
+fn body_standings(typed: &Typed, body: u32, out: &mut Finding)
+    ensures { Finds (standings.body_standings (body_at typed.now.nodes body) out.old.found) out.old out.new }
 {
     match typed.nodes.body(body) {
-        None => Ok(()),
+        None => {}
         Some(parts) => stmts::block(
             &typed.nodes,
             0,
@@ -170,23 +174,29 @@ fn body_standings(typed: &Typed, body: u32, out: &mut Items<Standing>) -> Result
 }
 
 /// The parallel constructs of all subprograms.
-fn subs_standings(typed: &Typed, out: &mut Items<Standing>) -> Result<(), AllocError>
-    ensures { OnOk result (out.new ≡ standings.subs_standings (program typed.now).subs out.old) }
+fn subs_standings(typed: &Typed, out: &mut Finding)
+    ensures { Finds (standings.subs_standings (program typed.now).subs out.old.found) out.old out.new }
 {
     let mut rest = typed.subs.as_slice();
     while let Some((sub, others)) = rest.split_first() {
-        body_standings(typed, sub.body, out)?;
+        body_standings(typed, sub.body, out);
         rest = others;
     }
-    Ok(())
 }
 
 /// Where the parallel constructs of a program stand. An Err is want of memory.
 pub fn standings_of(typed: &Typed, alloc: Global) -> Result<Items<Standing>, AllocError>
     ensures { IfOk result (λ found. found ≡ standings.standings_of (program typed.now)) }
 {
-    let mut found = Items::new(alloc);
-    body_standings(typed, typed.body, &mut found)?;
-    subs_standings(typed, &mut found)?;
-    Ok(found)
+    let mut out = Finding {
+        found: Items::new(alloc),
+        whole: true,
+    };
+    body_standings(typed, typed.body, &mut out);
+    subs_standings(typed, &mut out);
+    if out.whole {
+        Ok(out.found)
+    } else {
+        Err(AllocError)
+    }
 }

@@ -1,16 +1,15 @@
 //! Where the variables of a program lie (3.3, 6.4).
 
-ghost use Rattle.std.specs.Prelude.{◌≡◌, ◌<◌, ◌+◌, ◌∷◌, [], false, length, IfOk, OnOk};
+ghost use Rattle.std.specs.Prelude.{◌≡◌, ◌<◌, ◌+◌, ◌++◌, ◌∷◌, [], false, length, IfOk, IsTrue, Ok};
 ghost use Rattle.ada_meaning.specs.Meaning.{object_layout};
 ghost use Rattle.typed_tree.specs.Decoded.{alternatives_at, arms_at, as_alternative, as_decl, as_handler, composite_at, decls_at, handlers_at, iteration_at, part_at, stmt_at, stmts_at, value_at};
 ghost use Rattle.typed_tree.specs.Programs.{program};
 ghost use Rattle.typed_tree.specs.Syntax.{Alternatives, Decls, Handlers};
 ghost use Rattle.lower_emission.specs.Emission as emission;
 ghost use Rattle.lower_leased.specs.Homes as spec;
-ghost use Rattle.lower_leases.specs.Words.{homes_left, IsBelow};
+ghost use Rattle.lower_leases.specs.Words.{homes_left, Counts, Houses, IsBelow};
 
-use crate::exprs::{deeper, whole};
-use crate::shapes::{opened, part_size, sum};
+use crate::shapes::{opened, part_size};
 use crate::stmts::alone;
 use ada_base::Items;
 use lower_leased::types::Home;
@@ -22,6 +21,48 @@ use typed_tree::{Composite, Decl, Handler, Iteration, Stmt, Typed, Value};
 pub struct Stand {
     pub depth: u32,
     pub free: u32,
+}
+
+/// The homes that were found, if all of them had room.
+#[derive(Drop)]
+pub struct Housing {
+    pub found: Items<Home>,
+    pub whole: bool,
+}
+
+/// A sum, if there is room for it.
+pub fn add(number: u32, more: u32, out: &mut Housing) -> u32
+    ensures { Counts (number + more) out.old result out.new }
+{
+    match number.checked_add(more) {
+        Some(found) => found,
+        None => {
+            out.whole = false;
+            0
+        }
+    }
+}
+
+/// A number, if there was room for it.
+pub fn given(number: Result<u32, AllocError>, out: &mut Housing) -> u32
+    ensures { IsTrue out.new.whole → IsTrue out.old.whole × ((out.new.found ≡ out.old.found) × (number ≡ Ok result)) }
+{
+    match number {
+        Ok(found) => found,
+        Err(_) => {
+            out.whole = false;
+            0
+        }
+    }
+}
+
+/// A variable lies somewhere.
+pub fn lies(home: Home, out: &mut Housing)
+    ensures { Houses (out.old.found ++ home ∷ []) out.old out.new }
+{
+    if out.found.push(home).is_err() {
+        out.whole = false;
+    }
 }
 
 /// How many cells a subtype has. An Err is want of room, as with all numbers here: 32 bits don't hold it.
@@ -76,30 +117,23 @@ fn turn_cells(typed: &Typed, id: u32) -> u32
     }
 }
 
-/// A statement. A statement that stands alone after `else`, as one made of `elsif` does, is gone through by a loop. An Err is
-/// want of memory, as with all that is found here.
+/// A statement. A statement that stands alone after `else`, as one made of `elsif` does, is gone through by a loop.
 #[cycle(body)]
-fn stmt(typed: &Typed, at: Stand, id: u32, out: &mut Items<Home>) -> Result<(), AllocError>
-    ensures { OnOk result (out.new ≡ spec.stmt_homes (program typed.now) at.depth at.free (stmt_at typed.now.nodes id) out.old) }
+fn stmt(typed: &Typed, at: Stand, id: u32, out: &mut Housing)
+    ensures { Houses (spec.stmt_homes (program typed.now) at.depth at.free (stmt_at typed.now.nodes id) out.old.found) out.old out.new }
 {
     let mut rest = Some(id);
     while let Some(next) = rest {
-        rest = stmt_step(typed, at, next, out)?;
+        rest = stmt_step(typed, at, next, out);
     }
-    Ok(())
 }
 
 /// All of a statement but one statement that may be left.
 #[cycle(body)]
 #[inline(never)]
 #[tactic(auto, unfolding(lower_leased::specs::Homes::stmt_homes))]
-fn stmt_step(
-    typed: &Typed,
-    at: Stand,
-    id: u32,
-    out: &mut Items<Home>,
-) -> Result<Option<u32>, AllocError>
-    ensures { IfOk result (λ rest. (homes_left (program typed.now) typed.now.nodes at.depth at.free out.new rest ≡ spec.stmt_homes (program typed.now) at.depth at.free (stmt_at typed.now.nodes id) out.old) × IsBelow id rest) }
+fn stmt_step(typed: &Typed, at: Stand, id: u32, out: &mut Housing) -> Option<u32>
+    ensures { (IsTrue out.new.whole → IsTrue out.old.whole × (homes_left (program typed.now) typed.now.nodes at.depth at.free out.new.found result ≡ spec.stmt_homes (program typed.now) at.depth at.free (stmt_at typed.now.nodes id) out.old.found)) × IsBelow id result }
 {
     match typed.nodes.stmt(id) {
         Stmt::If {
@@ -107,24 +141,42 @@ fn stmt_step(
             otherwise,
             ..
         } => branch(typed, at, then, otherwise, out),
-        Stmt::Case { alternatives, .. } => whole(case(typed, at, alternatives, out)),
-        Stmt::Loop { stmts: parts, .. } => whole(stmts(typed, at, parts, out)),
+        Stmt::Case { alternatives, .. } => {
+            case(typed, at, alternatives, out);
+            None
+        }
+        Stmt::Loop { stmts: parts, .. } => {
+            stmts(typed, at, parts, out);
+            None
+        }
         Stmt::For {
             iteration,
             stmts: parts,
             ..
-        } => whole(for_loop(typed, at, iteration, parts, out)),
+        } => {
+            for_loop(typed, at, iteration, parts, out);
+            None
+        }
         Stmt::ParallelFor {
             iteration,
             stmts: parts,
             ..
-        } => whole(parallel_for(typed, at, iteration, parts, out)),
-        Stmt::Parallel { arms, .. } => whole(parallel(typed, at, arms, out)),
+        } => {
+            parallel_for(typed, at, iteration, parts, out);
+            None
+        }
+        Stmt::Parallel { arms, .. } => {
+            parallel(typed, at, arms, out);
+            None
+        }
         Stmt::Block {
             decls,
             stmts: parts,
             handlers,
-        } => whole(block(typed, at, decls, parts, handlers, out)),
+        } => {
+            block(typed, at, decls, parts, handlers, out);
+            None
+        }
         Stmt::Null
         | Stmt::Return
         | Stmt::Raise { .. }
@@ -134,7 +186,7 @@ fn stmt_step(
         | Stmt::Exit { .. }
         | Stmt::ReturnValue { .. }
         | Stmt::Put { .. }
-        | Stmt::Get { .. } => Ok(None),
+        | Stmt::Get { .. } => None,
     }
 }
 
@@ -142,76 +194,61 @@ fn stmt_step(
 #[cycle(body)]
 #[inline(never)]
 #[tactic(auto, unfolding(lower_leased::specs::Homes::stmts_homes))]
-fn branch(
-    typed: &Typed,
-    at: Stand,
-    then: u32,
-    otherwise: u32,
-    out: &mut Items<Home>,
-) -> Result<Option<u32>, AllocError>
-    ensures { IfOk result (λ rest. (homes_left (program typed.now) typed.now.nodes at.depth at.free out.new rest ≡ spec.stmts_homes (program typed.now) at.depth at.free (stmts_at typed.now.nodes otherwise) (spec.stmts_homes (program typed.now) at.depth at.free (stmts_at typed.now.nodes then) out.old)) × IsBelow otherwise rest) }
+fn branch(typed: &Typed, at: Stand, then: u32, otherwise: u32, out: &mut Housing) -> Option<u32>
+    ensures { (IsTrue out.new.whole → IsTrue out.old.whole × (homes_left (program typed.now) typed.now.nodes at.depth at.free out.new.found result ≡ spec.stmts_homes (program typed.now) at.depth at.free (stmts_at typed.now.nodes otherwise) (spec.stmts_homes (program typed.now) at.depth at.free (stmts_at typed.now.nodes then) out.old.found))) × IsBelow otherwise result }
 {
-    stmts(typed, at, then, out)?;
+    stmts(typed, at, then, out);
     match alone(&typed.nodes, otherwise) {
-        Some(rest) => Ok(Some(rest)),
-        None => whole(stmts(typed, at, otherwise, out)),
+        Some(rest) => Some(rest),
+        None => {
+            stmts(typed, at, otherwise, out);
+            None
+        }
     }
 }
 
 /// A case statement (5.4).
 #[cycle(body)]
 #[inline(never)]
-fn case(typed: &Typed, at: Stand, parts: u32, out: &mut Items<Home>) -> Result<(), AllocError>
-    ensures { OnOk result (out.new ≡ spec.case_homes (program typed.now) at.depth (at.free + 1) (alternatives_at typed.now.nodes parts) out.old) }
+fn case(typed: &Typed, at: Stand, parts: u32, out: &mut Housing)
+    ensures { Houses (spec.case_homes (program typed.now) at.depth (at.free + 1) (alternatives_at typed.now.nodes parts) out.old.found) out.old out.new }
 {
-    let free = sum(at.free, 1)?;
-    alternatives(typed, Stand { free, ..at }, parts, out)
+    let free = add(at.free, 1, out);
+    alternatives(typed, Stand { free, ..at }, parts, out);
 }
 
 /// A loop with an iteration (5.5, 5.5.2).
 #[cycle(body)]
 #[inline(never)]
-fn for_loop(
-    typed: &Typed,
-    at: Stand,
-    course: u32,
-    parts: u32,
-    out: &mut Items<Home>,
-) -> Result<(), AllocError>
-    ensures { OnOk result (out.new ≡ spec.stmts_homes (program typed.now) at.depth (at.free + spec.turn_cells (iteration_at typed.now.nodes course)) (stmts_at typed.now.nodes parts) out.old) }
+fn for_loop(typed: &Typed, at: Stand, course: u32, parts: u32, out: &mut Housing)
+    ensures { Houses (spec.stmts_homes (program typed.now) at.depth (at.free + spec.turn_cells (iteration_at typed.now.nodes course)) (stmts_at typed.now.nodes parts) out.old.found) out.old out.new }
 {
-    let free = sum(at.free, turn_cells(typed, course))?;
-    stmts(typed, Stand { free, ..at }, parts, out)
+    let free = add(at.free, turn_cells(typed, course), out);
+    stmts(typed, Stand { free, ..at }, parts, out);
 }
 
 /// A parallel loop (5.5).
 #[cycle(body)]
 #[inline(never)]
-fn parallel_for(
-    typed: &Typed,
-    at: Stand,
-    course: u32,
-    parts: u32,
-    out: &mut Items<Home>,
-) -> Result<(), AllocError>
-    ensures { OnOk result (out.new ≡ spec.stmts_homes (program typed.now) (at.depth + 1) (2 + spec.turn_cells (iteration_at typed.now.nodes course)) (stmts_at typed.now.nodes parts) out.old) }
+fn parallel_for(typed: &Typed, at: Stand, course: u32, parts: u32, out: &mut Housing)
+    ensures { Houses (spec.stmts_homes (program typed.now) (at.depth + 1) (2 + spec.turn_cells (iteration_at typed.now.nodes course)) (stmts_at typed.now.nodes parts) out.old.found) out.old out.new }
 {
-    let depth = deeper(at.depth)?;
-    let free = sum(2, turn_cells(typed, course))?;
-    stmts(typed, Stand { depth, free }, parts, out)
+    let depth = add(at.depth, 1, out);
+    let free = add(2, turn_cells(typed, course), out);
+    stmts(typed, Stand { depth, free }, parts, out);
 }
 
 /// A parallel block (5.6.1).
 #[cycle(body)]
 #[inline(never)]
-fn parallel(typed: &Typed, at: Stand, parts: u32, out: &mut Items<Home>) -> Result<(), AllocError>
-    ensures { OnOk result (out.new ≡ spec.arm_homes (program typed.now) (at.depth + 1) 4 (arms_at typed.now.nodes parts) out.old) }
+fn parallel(typed: &Typed, at: Stand, parts: u32, out: &mut Housing)
+    ensures { Houses (spec.arm_homes (program typed.now) (at.depth + 1) 4 (arms_at typed.now.nodes parts) out.old.found) out.old out.new }
 {
-    let depth = deeper(at.depth)?;
-    arms(typed, Stand { depth, free: 4 }, parts, out)
+    let depth = add(at.depth, 1, out);
+    arms(typed, Stand { depth, free: 4 }, parts, out);
 }
 
-/// Declarations, and the statements and handlers that see them (5.6). An Err is want of memory.
+/// Declarations, and the statements and handlers that see them (5.6).
 #[cycle(body)]
 #[inline(never)]
 pub fn block(
@@ -220,68 +257,60 @@ pub fn block(
     declarations: u32,
     statements: u32,
     handled: u32,
-    out: &mut Items<Home>,
-) -> Result<(), AllocError>
-    ensures { OnOk result (out.new ≡ spec.block_homes (program typed.now) at.depth at.free (decls_at typed.now.nodes declarations) (stmts_at typed.now.nodes statements) (handlers_at typed.now.nodes handled) out.old) }
+    out: &mut Housing,
+)
+    ensures { Houses (spec.block_homes (program typed.now) at.depth at.free (decls_at typed.now.nodes declarations) (stmts_at typed.now.nodes statements) (handlers_at typed.now.nodes handled) out.old.found) out.old out.new }
 {
-    let free = decls(typed, false, at, declarations, out)?;
-    held(typed, Stand { free, ..at }, statements, handled, out)
+    let free = decls(typed, false, at, declarations, out);
+    held(typed, Stand { free, ..at }, statements, handled, out);
 }
 
 /// Statements and handlers of what they raise, which have a cell for its number.
 #[cycle(body)]
 #[inline(never)]
-pub fn held(
-    typed: &Typed,
-    at: Stand,
-    statements: u32,
-    handled: u32,
-    out: &mut Items<Home>,
-) -> Result<(), AllocError>
-    ensures { OnOk result (out.new ≡ spec.handler_homes (program typed.now) at.depth (at.free + 1) (handlers_at typed.now.nodes handled) (spec.stmts_homes (program typed.now) at.depth at.free (stmts_at typed.now.nodes statements) out.old)) }
+pub fn held(typed: &Typed, at: Stand, statements: u32, handled: u32, out: &mut Housing)
+    ensures { Houses (spec.handler_homes (program typed.now) at.depth (at.free + 1) (handlers_at typed.now.nodes handled) (spec.stmts_homes (program typed.now) at.depth at.free (stmts_at typed.now.nodes statements) out.old.found)) out.old out.new }
 {
-    stmts(typed, at, statements, out)?;
-    let free = sum(at.free, 1)?;
-    handlers(typed, Stand { free, ..at }, handled, out)
+    stmts(typed, at, statements, out);
+    let free = add(at.free, 1, out);
+    handlers(typed, Stand { free, ..at }, handled, out);
 }
 
 /// Statements one after the other.
 #[cycle(body)]
 #[inline(never)]
 #[tactic(auto, unfolding(lower_leased::specs::Homes::stmts_homes))]
-fn stmts(typed: &Typed, at: Stand, id: u32, out: &mut Items<Home>) -> Result<(), AllocError>
-    ensures { OnOk result (out.new ≡ spec.stmts_homes (program typed.now) at.depth at.free (stmts_at typed.now.nodes id) out.old) }
+fn stmts(typed: &Typed, at: Stand, id: u32, out: &mut Housing)
+    ensures { Houses (spec.stmts_homes (program typed.now) at.depth at.free (stmts_at typed.now.nodes id) out.old.found) out.old out.new }
 {
     let mut next = id;
     while let Some(cell) = typed.nodes.stmts(next) {
-        stmt(typed, at, cell.first, out)?;
+        stmt(typed, at, cell.first, out);
         next = cell.rest;
     }
-    Ok(())
 }
 
 /// Alternatives of a case statement (5.4).
 #[cycle(body)]
 #[inline(never)]
 #[tactic(auto, unfolding(lower_leased::specs::Homes::case_homes))]
-fn alternatives(typed: &Typed, at: Stand, id: u32, out: &mut Items<Home>) -> Result<(), AllocError>
-    ensures { OnOk result (out.new ≡ spec.case_homes (program typed.now) at.depth at.free (alternatives_at typed.now.nodes id) out.old) }
+fn alternatives(typed: &Typed, at: Stand, id: u32, out: &mut Housing)
+    ensures { Houses (spec.case_homes (program typed.now) at.depth at.free (alternatives_at typed.now.nodes id) out.old.found) out.old out.new }
 {
     let mut next = id;
     while let Some(cell) = typed.nodes.alternatives(next) {
-        alternative(typed, at, cell.first, out)?;
+        alternative(typed, at, cell.first, out);
         next = cell.rest;
     }
-    Ok(())
 }
 
 #[cycle(body)]
 #[tactic(auto, unfolding(lower_leased::specs::Homes::case_homes))]
-fn alternative(typed: &Typed, at: Stand, id: u32, out: &mut Items<Home>) -> Result<(), AllocError>
-    ensures { OnOk result ((rest : Alternatives) → spec.case_homes (program typed.now) at.depth at.free rest out.new ≡ spec.case_homes (program typed.now) at.depth at.free (as_alternative (part_at typed.now.nodes id) rest) out.old) }
+fn alternative(typed: &Typed, at: Stand, id: u32, out: &mut Housing)
+    ensures { IsTrue out.new.whole → IsTrue out.old.whole × ((rest : Alternatives) → spec.case_homes (program typed.now) at.depth at.free rest out.new.found ≡ spec.case_homes (program typed.now) at.depth at.free (as_alternative (part_at typed.now.nodes id) rest) out.old.found) }
 {
     match typed.nodes.alternative(id) {
-        None => Ok(()),
+        None => {}
         Some(part) => stmts(typed, at, part.stmts, out),
     }
 }
@@ -290,39 +319,37 @@ fn alternative(typed: &Typed, at: Stand, id: u32, out: &mut Items<Home>) -> Resu
 #[cycle(body)]
 #[inline(never)]
 #[tactic(auto, unfolding(lower_leased::specs::Homes::arm_homes))]
-fn arms(typed: &Typed, at: Stand, id: u32, out: &mut Items<Home>) -> Result<(), AllocError>
-    ensures { OnOk result (out.new ≡ spec.arm_homes (program typed.now) at.depth at.free (arms_at typed.now.nodes id) out.old) }
+fn arms(typed: &Typed, at: Stand, id: u32, out: &mut Housing)
+    ensures { Houses (spec.arm_homes (program typed.now) at.depth at.free (arms_at typed.now.nodes id) out.old.found) out.old out.new }
 {
     let mut next = id;
     while let Some(cell) = typed.nodes.arms(next) {
-        stmts(typed, at, cell.first, out)?;
+        stmts(typed, at, cell.first, out);
         next = cell.rest;
     }
-    Ok(())
 }
 
 /// Handlers (11.2).
 #[cycle(body)]
 #[inline(never)]
 #[tactic(auto, unfolding(lower_leased::specs::Homes::handler_homes))]
-fn handlers(typed: &Typed, at: Stand, id: u32, out: &mut Items<Home>) -> Result<(), AllocError>
-    ensures { OnOk result (out.new ≡ spec.handler_homes (program typed.now) at.depth at.free (handlers_at typed.now.nodes id) out.old) }
+fn handlers(typed: &Typed, at: Stand, id: u32, out: &mut Housing)
+    ensures { Houses (spec.handler_homes (program typed.now) at.depth at.free (handlers_at typed.now.nodes id) out.old.found) out.old out.new }
 {
     let mut next = id;
     while let Some(cell) = typed.nodes.handlers(next) {
-        handler(typed, at, cell.first, out)?;
+        handler(typed, at, cell.first, out);
         next = cell.rest;
     }
-    Ok(())
 }
 
 #[cycle(body)]
 #[tactic(auto, unfolding(lower_leased::specs::Homes::handler_homes))]
-fn handler(typed: &Typed, at: Stand, id: u32, out: &mut Items<Home>) -> Result<(), AllocError>
-    ensures { OnOk result ((rest : Handlers) → spec.handler_homes (program typed.now) at.depth at.free rest out.new ≡ spec.handler_homes (program typed.now) at.depth at.free (as_handler (part_at typed.now.nodes id) rest) out.old) }
+fn handler(typed: &Typed, at: Stand, id: u32, out: &mut Housing)
+    ensures { IsTrue out.new.whole → IsTrue out.old.whole × ((rest : Handlers) → spec.handler_homes (program typed.now) at.depth at.free rest out.new.found ≡ spec.handler_homes (program typed.now) at.depth at.free (as_handler (part_at typed.now.nodes id) rest) out.old.found) }
 {
     match typed.nodes.handler(id) {
-        None => Ok(()),
+        None => {}
         Some(Handler::Others { stmts: parts } | Handler::Reasons { stmts: parts, .. }) => {
             stmts(typed, at, parts, out)
         }
@@ -330,66 +357,49 @@ fn handler(typed: &Typed, at: Stand, id: u32, out: &mut Items<Home>) -> Result<(
 }
 
 /// A variable of so many cells lies at the first free one.
-fn declare(
-    main: bool,
-    at: Stand,
-    object: u32,
-    cells: u32,
-    out: &mut Items<Home>,
-) -> Result<u32, AllocError>
-    ensures { IfOk result (λ free. (out.new ≡ spec.with_home main at.depth at.free object cells out.old) × (free ≡ at.free + cells)) }
+fn declare(main: bool, at: Stand, object: u32, cells: u32, out: &mut Housing) -> u32
+    ensures { IsTrue out.new.whole → IsTrue out.old.whole × ((out.new.found ≡ spec.with_home main at.depth at.free object cells out.old.found) × (result ≡ at.free + cells)) }
 {
-    out.push(Home {
+    let home = Home {
         object,
         main,
         depth: at.depth,
         cell: at.free,
         cells,
-    })?;
-    sum(at.free, cells)
+    };
+    lies(home, out);
+    add(at.free, cells, out)
 }
 
-/// Declarations; what is given is the first cell that is free behind them. An Err is want of memory.
-pub fn decls(
-    typed: &Typed,
-    main: bool,
-    at: Stand,
-    id: u32,
-    out: &mut Items<Home>,
-) -> Result<u32, AllocError>
-    ensures { IfOk result (λ free. (out.new ≡ spec.decl_homes (program typed.now) main at.depth at.free (decls_at typed.now.nodes id) out.old) × (free ≡ spec.behind (program typed.now) at.free (decls_at typed.now.nodes id))) }
+/// Declarations; what is given is the first cell that is free behind them.
+pub fn decls(typed: &Typed, main: bool, at: Stand, id: u32, out: &mut Housing) -> u32
+    ensures { IsTrue out.new.whole → IsTrue out.old.whole × ((out.new.found ≡ spec.decl_homes (program typed.now) main at.depth at.free (decls_at typed.now.nodes id) out.old.found) × (result ≡ spec.behind (program typed.now) at.free (decls_at typed.now.nodes id))) }
 {
     let mut next = id;
     let mut free = at.free;
     while let Some(cell) = typed.nodes.decls(next) {
-        free = decl(typed, main, Stand { free, ..at }, cell.first, out)?;
+        free = decl(typed, main, Stand { free, ..at }, cell.first, out);
         next = cell.rest;
     }
-    Ok(free)
+    free
 }
 
-fn decl(
-    typed: &Typed,
-    main: bool,
-    at: Stand,
-    id: u32,
-    out: &mut Items<Home>,
-) -> Result<u32, AllocError>
-    ensures { IfOk result (λ free. (rest : Decls) → (spec.decl_homes (program typed.now) main at.depth free rest out.new ≡ spec.decl_homes (program typed.now) main at.depth at.free (as_decl (part_at typed.now.nodes id) rest) out.old) × (spec.behind (program typed.now) free rest ≡ spec.behind (program typed.now) at.free (as_decl (part_at typed.now.nodes id) rest))) }
+fn decl(typed: &Typed, main: bool, at: Stand, id: u32, out: &mut Housing) -> u32
+    ensures { IsTrue out.new.whole → IsTrue out.old.whole × ((rest : Decls) → (spec.decl_homes (program typed.now) main at.depth result rest out.new.found ≡ spec.decl_homes (program typed.now) main at.depth at.free (as_decl (part_at typed.now.nodes id) rest) out.old.found) × (spec.behind (program typed.now) result rest ≡ spec.behind (program typed.now) at.free (as_decl (part_at typed.now.nodes id) rest))) }
 {
     match typed.nodes.decl(id) {
         Some(Decl::Default { object }) => {
-            let cells = object_cells(typed, object)?;
+            let cells = given(object_cells(typed, object), out);
             declare(main, at, object, cells, out)
         }
         Some(Decl::Variable { object, initial }) => {
-            let cells = width(typed, initial)?;
+            let cells = given(width(typed, initial), out);
             declare(main, at, object, cells, out)
         }
         Some(Decl::Constant { initial, .. }) => {
-            let cells = width(typed, initial)?;
-            sum(at.free, cells)
+            let cells = given(width(typed, initial), out);
+            add(at.free, cells, out)
         }
-        Some(Decl::Mentions { .. }) | None => Ok(at.free),
+        Some(Decl::Mentions { .. }) | None => at.free,
     }
 }

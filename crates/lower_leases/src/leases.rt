@@ -12,7 +12,7 @@ ghost use Rattle.lower_leases.specs.Paths.{part_shape};
 ghost use Rattle.lower_leases.specs.Lent as lent;
 
 use crate::finding::{homes_of, standings_of};
-use crate::paths::{Path, Reached, Through, way};
+use crate::paths::{Path, Reached, Through, Walk, way};
 use crate::shapes::{Form, Part, opened, sum};
 use ada_base::Items;
 use check_clashes::granted::{Grant, Grants};
@@ -105,12 +105,22 @@ fn path_to(seen: Seen<'_>, grant: &Grant, alloc: Global) -> Result<Option<Path>,
         cell: 0,
         items: None,
     };
-    way(
-        through,
-        at,
-        grant.path.selectors.as_slice(),
-        Items::new(alloc),
-    )
+    let mut out = Walk {
+        steps: Items::new(alloc),
+        whole: true,
+    };
+    let end = way(through, at, grant.path.selectors.as_slice(), &mut out);
+    if !out.whole {
+        return Err(AllocError);
+    }
+    match end {
+        None => Ok(None),
+        Some(end) => Ok(Some(Path {
+            base: end.base,
+            steps: out.steps,
+            run: end.run,
+        })),
+    }
 }
 
 /// The lease of a path of a variable.

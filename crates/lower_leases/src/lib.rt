@@ -9,6 +9,7 @@ pub mod homes;
 pub mod leases;
 pub mod paths;
 pub mod shapes;
+pub mod standings;
 pub mod stmts;
 pub mod texts;
 pub mod variables;

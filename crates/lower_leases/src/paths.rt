@@ -1,15 +1,15 @@
 //! The ways to what is granted: from an object to the cells of a part, by the selectors of a path.
 
-ghost use Rattle.std.specs.Prelude.{◌≡◌, ◌∷◌, ◌++◌, [], None, Some, cond, map, pos, ◌-ℤ◌, ◌+◌, ◌*◌, IfOk};
-ghost use Rattle.ada_meaning.specs.Shapes.{Dimension, Record, fields_of, size};
+ghost use Rattle.std.specs.Prelude.{◌≡◌, ◌∷◌, ◌++◌, [], None, Some, cond, map, option_map, pos, ◌-ℤ◌, ◌+◌, ◌*◌, IfOk, IsTrue, Ok};
+ghost use Rattle.ada_meaning.specs.Shapes.{Record, fields_of, size};
 ghost use Rattle.ada_meaning.specs.Values as values;
 ghost use Rattle.typed_tree.specs.Programs.{fields_at};
 ghost use Rattle.check_inference.specs.Exact.{plain};
 ghost use Rattle.check_effects.specs.Effects.{At, Fixed, LoopIndex, ChunkIndex, Any};
-ghost use Rattle.lower_leased.specs.Leases.{at_item, times, way_of};
+ghost use Rattle.lower_leased.specs.Leases.{Loop, also, at_item, field_from, times, way_of};
 ghost use Rattle.lower_leases.specs.Paths as spec;
 
-use crate::shapes::{Form, Head, Part, count, field_at, front, part_size, product, sum};
+use crate::shapes::{Form, Head, Part, Placed, count, field_at, front, part_size, product, sum};
 use ada_base::Items;
 use check_clashes::effects::Selector;
 use stack_code::Step;
@@ -22,6 +22,20 @@ pub struct Path {
     pub base: u32,
     pub steps: Items<Step>,
     pub run: u32,
+}
+
+/// A way but for its steps.
+#[derive(Clone, Copy)]
+pub struct End {
+    pub base: u32,
+    pub run: u32,
+}
+
+/// The steps of a way, if they and all numbers had room.
+#[derive(Drop)]
+pub struct Walk {
+    pub steps: Items<Step>,
+    pub whole: bool,
 }
 
 /// The program, and whether the construct goes through a range.
@@ -48,6 +62,13 @@ pub struct Indexed {
     pub inner: Part,
 }
 
+/// How many places a dimension has, and how many cells what an index leads to.
+#[derive(Clone, Copy)]
+struct Extent {
+    places: u32,
+    size: u32,
+}
+
 /// The fields of a record.
 #[derive(Clone, Copy)]
 pub struct Fields {
@@ -55,112 +76,154 @@ pub struct Fields {
     pub list: u32,
 }
 
-fn with_step(step: Step, steps: Items<Step>) -> Result<Items<Step>, AllocError>
-    ensures { IfOk result (λ all. all ≡ steps ++ step ∷ []) }
+/// A number, if there was room for it.
+fn given(number: Result<u32, AllocError>, out: &mut Walk) -> u32
+    ensures { IsTrue out.new.whole → IsTrue out.old.whole × ((out.new.steps ≡ out.old.steps) × (number ≡ Ok result)) }
 {
-    let mut all = steps;
-    all.push(step)?;
-    Ok(all)
+    match number {
+        Ok(found) => found,
+        Err(_) => {
+            out.whole = false;
+            0
+        }
+    }
+}
+
+fn with_step(step: Step, out: &mut Walk)
+    ensures { spec.Walks (out.old.steps ++ step ∷ []) out.old out.new }
+{
+    if out.steps.push(step).is_err() {
+        out.whole = false;
+    }
 }
 
 /// The step of the item, where there is one, of so many cells.
 #[tactic(auto, using(crate::proofs::Ways::none_more))]
-fn with_item(items: Option<u32>, size: u32, steps: Items<Step>) -> Result<Items<Step>, AllocError>
-    ensures { IfOk result (λ all. all ≡ steps ++ spec.item_steps items size) }
+fn with_item(items: Option<u32>, size: u32, out: &mut Walk)
+    ensures { spec.Walks (out.old.steps ++ spec.item_steps items size) out.old out.new }
 {
     match items {
-        None => Ok(steps),
+        None => {}
         Some(places) => with_step(
             Step::Loop {
                 low: 1,
                 count: places,
                 size,
             },
-            steps,
+            out,
         ),
     }
 }
 
-/// A way that ends.
-#[tactic(auto, using(crate::proofs::Ways::ended))]
-fn ended(typed: &Typed, at: Reached, steps: Items<Step>) -> Result<Option<Path>, AllocError>
-    ensures { IfOk result (λ found. found ≡ spec.path_by steps (at_item at.items (spec.part_shape typed.now at.part) (spec.here at.cell (spec.part_shape typed.now at.part)))) }
+/// The cells of a part.
+fn size_of(typed: &Typed, part: Part, out: &mut Walk) -> u32
+    ensures { IsTrue out.new.whole → IsTrue out.old.whole × ((out.new.steps ≡ out.old.steps) × (result ≡ size (spec.part_shape typed.now part))) }
 {
-    let run = part_size(typed, at.part)?;
-    let all = with_item(at.items, run, steps)?;
-    Ok(Some(Path {
-        base: at.cell,
-        steps: all,
-        run,
-    }))
+    given(part_size(typed, part), out)
 }
 
-/// The way from a part on. Where there is none, the path doesn't fit the object, or has a static index outside. An Err is want
-/// of memory, also where 32 bits don't hold a number.
+/// A way that ends.
+#[tactic(auto, using(crate::proofs::Ways::ended))]
+fn ended(typed: &Typed, at: Reached, out: &mut Walk) -> Option<End>
+    ensures { IsTrue out.new.whole → IsTrue out.old.whole × (spec.path_found result out.new.steps ≡ spec.path_by out.old.steps (at_item at.items (spec.part_shape typed.now at.part) (spec.here at.cell (spec.part_shape typed.now at.part)))) }
+{
+    let run = size_of(typed, at.part, out);
+    with_item(at.items, run, out);
+    Some(End { base: at.cell, run })
+}
+
+/// The way from a part on. Where there is none, the path doesn't fit the object, or has a static index outside.
 #[cycle(way)]
 #[tactic(auto, using(crate::proofs::Ways::of_single, crate::proofs::Ways::of_empty))]
-pub fn way(
-    through: Through<'_>,
-    at: Reached,
-    selectors: &[Selector],
-    steps: Items<Step>,
-) -> Result<Option<Path>, AllocError>
-    ensures { IfOk result (λ found. found ≡ spec.path_by steps (way_of through.entry.ranges at.items (spec.part_shape through.entry.typed.now at.part) (map plain selectors.now) at.cell)) }
+pub fn way(through: Through<'_>, at: Reached, selectors: &[Selector], out: &mut Walk) -> Option<End>
+    ensures { IsTrue out.new.whole → IsTrue out.old.whole × (spec.path_found result out.new.steps ≡ spec.path_by out.old.steps (way_of through.entry.ranges at.items (spec.part_shape through.entry.typed.now at.part) (map plain selectors.now) at.cell)) }
 {
     match selectors.split_first() {
-        None => ended(through.typed, at, steps),
+        None => ended(through.typed, at, out),
         Some((selector, rest)) => match front(through.typed, at.part) {
             Head::Dimension { low, high, inner } => {
                 let dimension = Indexed { low, high, inner };
-                index(through, at, dimension, *selector, rest, steps)
+                index(through, at, dimension, *selector, rest, out)
             }
             Head::Record { levels, fields } => {
                 let fields = Fields {
                     levels,
                     list: fields,
                 };
-                field(through, at, fields, *selector, rest, steps)
+                field(through, at, fields, *selector, rest, out)
             }
-            Head::Single | Head::Empty => Ok(None),
+            Head::Single | Head::Empty => None,
         },
+    }
+}
+
+/// The field of a number of a record that begins at a cell; None where there is none.
+fn placed_in(
+    typed: &Typed,
+    fields: Fields,
+    number: u32,
+    cell: u32,
+    out: &mut Walk,
+) -> Option<Placed>
+    ensures { IsTrue out.new.whole → IsTrue out.old.whole × ((out.new.steps ≡ out.old.steps) × (option_map (spec.placed_shape typed.now) result ≡ field_from cell (fields_of (spec.shape_in typed.now fields.levels) (fields_at typed.now.nodes fields.list)) number)) }
+{
+    match field_at(typed, fields.levels, fields.list, number, cell) {
+        Ok(found) => found,
+        Err(_) => {
+            out.whole = false;
+            None
+        }
     }
 }
 
 /// The same where a field is selected.
 #[cycle(way)]
-#[tactic(auto, using(crate::proofs::Ways::no_field, crate::proofs::Ways::a_field))]
 fn field(
     through: Through<'_>,
     at: Reached,
     fields: Fields,
     selector: Selector,
     rest: &[Selector],
-    steps: Items<Step>,
-) -> Result<Option<Path>, AllocError>
-    ensures { IfOk result (λ found. found ≡ spec.path_by steps (way_of through.entry.ranges at.items (Record (fields_of (spec.shape_in through.entry.typed.now fields.levels) (fields_at through.entry.typed.now.nodes fields.list))) (plain selector ∷ map plain rest.now) at.cell)) }
+    out: &mut Walk,
+) -> Option<End>
+    ensures { IsTrue out.new.whole → IsTrue out.old.whole × (spec.path_found result out.new.steps ≡ spec.path_by out.old.steps (way_of through.entry.ranges at.items (Record (fields_of (spec.shape_in through.entry.typed.now fields.levels) (fields_at through.entry.typed.now.nodes fields.list))) (plain selector ∷ map plain rest.now) at.cell)) }
 {
     match selector {
-        Selector::Field(number) => {
-            let form = Form::Record {
-                fields: fields.list,
+        Selector::Field(number) => selected(through, at, fields, number, rest, out),
+        Selector::Fixed(_) | Selector::Loop(_) | Selector::Chunk(_) | Selector::Any => None,
+    }
+}
+
+/// By the field of a number.
+#[cycle(way)]
+#[inline(never)]
+#[tactic(auto, using(crate::proofs::Ways::no_field, crate::proofs::Ways::a_field))]
+fn selected(
+    through: Through<'_>,
+    at: Reached,
+    fields: Fields,
+    number: u32,
+    rest: &[Selector],
+    out: &mut Walk,
+) -> Option<End>
+    ensures { IsTrue out.new.whole → IsTrue out.old.whole × (spec.path_found result out.new.steps ≡ spec.path_by out.old.steps (way_of through.entry.ranges at.items (Record (fields_of (spec.shape_in through.entry.typed.now fields.levels) (fields_at through.entry.typed.now.nodes fields.list))) (At number ∷ map plain rest.now) at.cell)) }
+{
+    let levels = fields.levels;
+    let form = Form::Record {
+        fields: fields.list,
+    };
+    let size = size_of(through.typed, Part { levels, form }, out);
+    with_item(at.items, size, out);
+    match placed_in(through.typed, fields, number, at.cell, out) {
+        None => None,
+        Some(placed) => {
+            let inner = Reached {
+                part: placed.part,
+                cell: placed.cell,
+                items: None,
             };
-            let levels = fields.levels;
-            let size = part_size(through.typed, Part { levels, form })?;
-            let all = with_item(at.items, size, steps)?;
-            let found = field_at(through.typed, levels, fields.list, number, at.cell)?;
-            match found {
-                None => Ok(None),
-                Some(placed) => {
-                    let inner = Reached {
-                        part: placed.part,
-                        cell: placed.cell,
-                        items: None,
-                    };
-                    way(through, inner, rest, all)
-                }
-            }
+            way(through, inner, rest, out)
         }
-        Selector::Fixed(_) | Selector::Loop(_) | Selector::Chunk(_) | Selector::Any => Ok(None),
     }
 }
 
@@ -172,24 +235,26 @@ fn index(
     dimension: Indexed,
     selector: Selector,
     rest: &[Selector],
-    steps: Items<Step>,
-) -> Result<Option<Path>, AllocError>
-    ensures { IfOk result (λ found. found ≡ spec.path_by steps (way_of through.entry.ranges at.items (spec.dimension_shape through.entry.typed.now dimension) (plain selector ∷ map plain rest.now) at.cell)) }
+    out: &mut Walk,
+) -> Option<End>
+    ensures { IsTrue out.new.whole → IsTrue out.old.whole × (spec.path_found result out.new.steps ≡ spec.path_by out.old.steps (way_of through.entry.ranges at.items (spec.dimension_shape through.entry.typed.now dimension) (plain selector ∷ map plain rest.now) at.cell)) }
 {
     match selector {
-        Selector::Field(_) => Ok(None),
-        Selector::Loop(distance) => by_loop(through, at, dimension, distance, rest, steps),
-        Selector::Fixed(value) => by_static(through, at, dimension, value, rest, steps),
-        Selector::Chunk(distance) => by_chunk(through, at, dimension, distance, rest, steps),
-        Selector::Any => by_any(through, at, dimension, rest, steps),
+        Selector::Field(_) => None,
+        Selector::Loop(distance) => by_loop(through, at, dimension, distance, rest, out),
+        Selector::Fixed(value) => by_static(through, at, dimension, value, rest, out),
+        Selector::Chunk(distance) => by_chunk(through, at, dimension, distance, rest, out),
+        Selector::Any => by_any(through, at, dimension, rest, out),
     }
 }
 
-/// How many places a dimension has.
-fn places_of(dimension: Indexed) -> Result<u32, AllocError>
-    ensures { IfOk result (λ n. n ≡ values.count dimension.low dimension.high) }
+/// The measures of a dimension.
+fn measured(typed: &Typed, dimension: Indexed, out: &mut Walk) -> Extent
+    ensures { IsTrue out.new.whole → IsTrue out.old.whole × ((out.new.steps ≡ out.old.steps) × ((result.places ≡ values.count dimension.low dimension.high) × (result.size ≡ size (spec.part_shape typed.now dimension.inner)))) }
 {
-    count(dimension.low, dimension.high)
+    let places = given(count(dimension.low, dimension.high), out);
+    let size = size_of(typed, dimension.inner, out);
+    Extent { places, size }
 }
 
 /// The value of a parameter for the first place, at that distance.
@@ -207,24 +272,54 @@ fn by_loop(
     dimension: Indexed,
     distance: i64,
     rest: &[Selector],
-    steps: Items<Step>,
-) -> Result<Option<Path>, AllocError>
-    ensures { IfOk result (λ found. found ≡ spec.path_by steps (way_of through.entry.ranges at.items (spec.dimension_shape through.entry.typed.now dimension) (LoopIndex distance ∷ map plain rest.now) at.cell)) }
+    out: &mut Walk,
+) -> Option<End>
+    ensures { IsTrue out.new.whole → IsTrue out.old.whole × (spec.path_found result out.new.steps ≡ spec.path_by out.old.steps (way_of through.entry.ranges at.items (spec.dimension_shape through.entry.typed.now dimension) (LoopIndex distance ∷ map plain rest.now) at.cell)) }
 {
-    let places = places_of(dimension)?;
     if through.ranges {
-        let size = part_size(through.typed, dimension.inner)?;
-        let step = Step::Loop {
-            low: start(dimension, distance),
-            count: places,
-            size,
-        };
-        let all = with_step(step, steps)?;
-        way(through, entered(at, dimension, None), rest, all)
+        by_range(through, at, dimension, distance, rest, out)
     } else {
-        let items = times(at.items, places)?;
-        way(through, entered(at, dimension, Some(items)), rest, steps)
+        by_item(through, at, dimension, rest, out)
     }
+}
+
+/// By the loop parameter.
+#[cycle(way)]
+#[inline(never)]
+fn by_range(
+    through: Through<'_>,
+    at: Reached,
+    dimension: Indexed,
+    distance: i64,
+    rest: &[Selector],
+    out: &mut Walk,
+) -> Option<End>
+    ensures { IsTrue out.new.whole → IsTrue out.old.whole × (spec.path_found result out.new.steps ≡ spec.path_by out.old.steps (also (Loop (dimension.low -ℤ distance) (values.count dimension.low dimension.high) (size (spec.part_shape through.entry.typed.now dimension.inner))) (way_of through.entry.ranges None (spec.part_shape through.entry.typed.now dimension.inner) (map plain rest.now) at.cell))) }
+{
+    let found = measured(through.typed, dimension, out);
+    let step = Step::Loop {
+        low: start(dimension, distance),
+        count: found.places,
+        size: found.size,
+    };
+    with_step(step, out);
+    way(through, entered(at, dimension, None), rest, out)
+}
+
+/// By a dimension of the item.
+#[cycle(way)]
+#[inline(never)]
+fn by_item(
+    through: Through<'_>,
+    at: Reached,
+    dimension: Indexed,
+    rest: &[Selector],
+    out: &mut Walk,
+) -> Option<End>
+    ensures { IsTrue out.new.whole → IsTrue out.old.whole × (spec.path_found result out.new.steps ≡ spec.path_by out.old.steps (way_of through.entry.ranges (times at.items (values.count dimension.low dimension.high)) (spec.part_shape through.entry.typed.now dimension.inner) (map plain rest.now) at.cell)) }
+{
+    let items = with_dimension(at.items, dimension, out);
+    way(through, entered(at, dimension, Some(items)), rest, out)
 }
 
 /// What an index leads to.
@@ -239,27 +334,22 @@ fn entered(at: Reached, dimension: Indexed, items: Option<u32>) -> Reached
 }
 
 /// The places of the item's dimensions, with one more.
-fn times(items: Option<u32>, places: u32) -> Result<u32, AllocError>
-    ensures { IfOk result (λ n. Some n ≡ times items places) }
+fn with_dimension(items: Option<u32>, dimension: Indexed, out: &mut Walk) -> u32
+    ensures { IsTrue out.new.whole → IsTrue out.old.whole × ((out.new.steps ≡ out.old.steps) × (Some result ≡ times items (values.count dimension.low dimension.high))) }
 {
+    let places = given(count(dimension.low, dimension.high), out);
     match items {
-        None => Ok(places),
-        Some(before) => product(before, places),
+        None => places,
+        Some(before) => given(product(before, places), out),
     }
 }
 
-/// The step of the item of an array, and the size of a component.
-fn before(
-    typed: &Typed,
-    at: Reached,
-    dimension: Indexed,
-    steps: Items<Step>,
-) -> Result<Items<Step>, AllocError>
-    ensures { IfOk result (λ all. all ≡ steps ++ spec.item_steps at.items (size (spec.dimension_shape typed.now dimension))) }
+/// The step of the item of an array.
+fn step_of_item(items: Option<u32>, found: Extent, out: &mut Walk)
+    ensures { spec.Walks (out.old.steps ++ spec.item_steps items (found.places * found.size)) out.old out.new }
 {
-    let places = places_of(dimension)?;
-    let size = part_size(typed, dimension.inner)?;
-    with_item(at.items, product(places, size)?, steps)
+    let size = given(product(found.places, found.size), out);
+    with_item(items, size, out);
 }
 
 /// How far a number lies above the lowest of a dimension.
@@ -281,6 +371,15 @@ fn between(dimension: Indexed, value: i64) -> bool
     dimension.low <= value && value <= dimension.high
 }
 
+/// The cell of what a number leads to.
+fn moved(cell: u32, dimension: Indexed, value: i64, size: u32, out: &mut Walk) -> u32
+    ensures { IsTrue out.new.whole → IsTrue out.old.whole × ((out.new.steps ≡ out.old.steps) × (result ≡ cell + values.to_nat (value -ℤ dimension.low) * size)) }
+{
+    let far = given(above(dimension, value), out);
+    let offset = given(product(far, size), out);
+    given(sum(cell, offset), out)
+}
+
 /// By a static index.
 #[cycle(way)]
 #[tactic(auto, using(crate::proofs::Ways::item_none))]
@@ -290,25 +389,39 @@ fn by_static(
     dimension: Indexed,
     value: i64,
     rest: &[Selector],
-    steps: Items<Step>,
-) -> Result<Option<Path>, AllocError>
-    ensures { IfOk result (λ found. found ≡ spec.path_by steps (way_of through.entry.ranges at.items (spec.dimension_shape through.entry.typed.now dimension) (Fixed value ∷ map plain rest.now) at.cell)) }
+    out: &mut Walk,
+) -> Option<End>
+    ensures { IsTrue out.new.whole → IsTrue out.old.whole × (spec.path_found result out.new.steps ≡ spec.path_by out.old.steps (way_of through.entry.ranges at.items (spec.dimension_shape through.entry.typed.now dimension) (Fixed value ∷ map plain rest.now) at.cell)) }
 {
-    let all = before(through.typed, at, dimension, steps)?;
     if between(dimension, value) {
-        let size = part_size(through.typed, dimension.inner)?;
-        let far = above(dimension, value)?;
-        let offset = product(far, size)?;
-        let cell = sum(at.cell, offset)?;
-        let inner = Reached {
-            part: dimension.inner,
-            cell,
-            items: None,
-        };
-        way(through, inner, rest, all)
+        inside(through, at, dimension, value, rest, out)
     } else {
-        Ok(None)
+        None
     }
+}
+
+/// By a static index that the dimension has.
+#[cycle(way)]
+#[inline(never)]
+fn inside(
+    through: Through<'_>,
+    at: Reached,
+    dimension: Indexed,
+    value: i64,
+    rest: &[Selector],
+    out: &mut Walk,
+) -> Option<End>
+    ensures { IsTrue out.new.whole → IsTrue out.old.whole × (spec.path_found result out.new.steps ≡ spec.path_by out.old.steps (at_item at.items (spec.dimension_shape through.entry.typed.now dimension) (way_of through.entry.ranges None (spec.part_shape through.entry.typed.now dimension.inner) (map plain rest.now) (at.cell + values.to_nat (value -ℤ dimension.low) * size (spec.part_shape through.entry.typed.now dimension.inner))))) }
+{
+    let found = measured(through.typed, dimension, out);
+    step_of_item(at.items, found, out);
+    let cell = moved(at.cell, dimension, value, found.size, out);
+    let inner = Reached {
+        part: dimension.inner,
+        cell,
+        items: None,
+    };
+    way(through, inner, rest, out)
 }
 
 /// By the chunk parameter.
@@ -319,20 +432,19 @@ fn by_chunk(
     dimension: Indexed,
     distance: i64,
     rest: &[Selector],
-    steps: Items<Step>,
-) -> Result<Option<Path>, AllocError>
-    ensures { IfOk result (λ found. found ≡ spec.path_by steps (way_of through.entry.ranges at.items (spec.dimension_shape through.entry.typed.now dimension) (ChunkIndex distance ∷ map plain rest.now) at.cell)) }
+    out: &mut Walk,
+) -> Option<End>
+    ensures { IsTrue out.new.whole → IsTrue out.old.whole × (spec.path_found result out.new.steps ≡ spec.path_by out.old.steps (way_of through.entry.ranges at.items (spec.dimension_shape through.entry.typed.now dimension) (ChunkIndex distance ∷ map plain rest.now) at.cell)) }
 {
-    let all = before(through.typed, at, dimension, steps)?;
-    let places = places_of(dimension)?;
-    let size = part_size(through.typed, dimension.inner)?;
+    let found = measured(through.typed, dimension, out);
+    step_of_item(at.items, found, out);
     let step = Step::Chunk {
         low: start(dimension, distance),
-        count: places,
-        size,
+        count: found.places,
+        size: found.size,
     };
-    let whole = with_step(step, all)?;
-    way(through, entered(at, dimension, None), rest, whole)
+    with_step(step, out);
+    way(through, entered(at, dimension, None), rest, out)
 }
 
 /// By any index.
@@ -342,17 +454,16 @@ fn by_any(
     at: Reached,
     dimension: Indexed,
     rest: &[Selector],
-    steps: Items<Step>,
-) -> Result<Option<Path>, AllocError>
-    ensures { IfOk result (λ found. found ≡ spec.path_by steps (way_of through.entry.ranges at.items (spec.dimension_shape through.entry.typed.now dimension) (Any ∷ map plain rest.now) at.cell)) }
+    out: &mut Walk,
+) -> Option<End>
+    ensures { IsTrue out.new.whole → IsTrue out.old.whole × (spec.path_found result out.new.steps ≡ spec.path_by out.old.steps (way_of through.entry.ranges at.items (spec.dimension_shape through.entry.typed.now dimension) (Any ∷ map plain rest.now) at.cell)) }
 {
-    let all = before(through.typed, at, dimension, steps)?;
-    let places = places_of(dimension)?;
-    let size = part_size(through.typed, dimension.inner)?;
+    let found = measured(through.typed, dimension, out);
+    step_of_item(at.items, found, out);
     let step = Step::All {
-        count: places,
-        size,
+        count: found.places,
+        size: found.size,
     };
-    let whole = with_step(step, all)?;
-    way(through, entered(at, dimension, None), rest, whole)
+    with_step(step, out);
+    way(through, entered(at, dimension, None), rest, out)
 }

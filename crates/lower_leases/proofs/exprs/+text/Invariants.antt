@@ -1,5 +1,6 @@
 use Rattle.std.proofs.Common.{◌≡◌, ◌+◌, ◌*◌, ◌≤◌, max}
 use Rattle.typed_tree.specs.Decoded.{actuals_at, associations_at, composite_at, expr_at, selections_at}
+use Rattle.std.specs.Prelude.{IsTrue}
 use Rattle.lower_leased.specs.Standings.{actuals_standings, associations_standings, composite_standings, expr_standings, selections_standings}
 use Rattle.lower_leases.specs.Words.{expr_left, composite_left, IsWithin, rest_size}
 use Rattle.lower_leases.proofs.exprs.+text.Given as goal
@@ -63,7 +64,7 @@ decreases-reduction l = 8 * (max l.parts.initial (max l.parts.chunk (max l.parts
 abbrev pub invariant-selections-cells : goal.invariant-selections-cells
 invariant-selections-cells l = record {
   below : l.at ≤ l.id;
-  same : selections_standings l.depth (selections_at l.nodes l.at) l.out ≡ selections_standings l.depth (selections_at l.nodes l.id) l.fn.out;
+  same : IsTrue l.out.whole → IsTrue l.fn.out.whole × (selections_standings l.depth (selections_at l.nodes l.at) l.out.found ≡ selections_standings l.depth (selections_at l.nodes l.id) l.fn.out.found);
 }
 
 abbrev pub decreases-selections-cells : goal.decreases-selections-cells
@@ -72,7 +73,7 @@ decreases-selections-cells l = l.at
 abbrev pub invariant-actuals-cells : goal.invariant-actuals-cells
 invariant-actuals-cells l = record {
   below : l.at ≤ l.id;
-  same : actuals_standings l.depth (actuals_at l.nodes l.at) l.out ≡ actuals_standings l.depth (actuals_at l.nodes l.id) l.fn.out;
+  same : IsTrue l.out.whole → IsTrue l.fn.out.whole × (actuals_standings l.depth (actuals_at l.nodes l.at) l.out.found ≡ actuals_standings l.depth (actuals_at l.nodes l.id) l.fn.out.found);
 }
 
 abbrev pub decreases-actuals-cells : goal.decreases-actuals-cells
@@ -81,7 +82,7 @@ decreases-actuals-cells l = l.at
 abbrev pub invariant-associations-cells : goal.invariant-associations-cells
 invariant-associations-cells l = record {
   below : l.at ≤ l.id;
-  same : associations_standings l.depth (associations_at l.nodes l.at) l.out ≡ associations_standings l.depth (associations_at l.nodes l.id) l.fn.out;
+  same : IsTrue l.out.whole → IsTrue l.fn.out.whole × (associations_standings l.depth (associations_at l.nodes l.at) l.out.found ≡ associations_standings l.depth (associations_at l.nodes l.id) l.fn.out.found);
 }
 
 abbrev pub decreases-associations-cells : goal.decreases-associations-cells
@@ -90,7 +91,7 @@ decreases-associations-cells l = l.at
 abbrev pub invariant-expr-parts : goal.invariant-expr-parts
 invariant-expr-parts l = record {
   within : IsWithin l.id l.rest;
-  same : expr_left l.nodes l.depth l.out l.rest ≡ expr_standings l.depth (expr_at l.nodes l.id) l.fn.out;
+  same : IsTrue l.out.whole → IsTrue l.fn.out.whole × (expr_left l.nodes l.depth l.out.found l.rest ≡ expr_standings l.depth (expr_at l.nodes l.id) l.fn.out.found);
 }
 
 abbrev pub decreases-expr-parts : goal.decreases-expr-parts
@@ -99,7 +100,7 @@ decreases-expr-parts l = rest_size l.rest
 abbrev pub invariant-composite-parts : goal.invariant-composite-parts
 invariant-composite-parts l = record {
   within : IsWithin l.id l.rest;
-  same : composite_left l.nodes l.depth l.out l.rest ≡ composite_standings l.depth (composite_at l.nodes l.id) l.fn.out;
+  same : IsTrue l.out.whole → IsTrue l.fn.out.whole × (composite_left l.nodes l.depth l.out.found l.rest ≡ composite_standings l.depth (composite_at l.nodes l.id) l.fn.out.found);
 }
 
 abbrev pub decreases-composite-parts : goal.decreases-composite-parts

@@ -1,4 +1,5 @@
 use Rattle.std.proofs.Common.{◌≡◌, ◌+◌, ◌*◌, ◌≤◌, max}
+use Rattle.std.specs.Prelude.{IsTrue}
 use Rattle.typed_tree.specs.Decoded.{alternatives_at, arms_at, handlers_at, stmt_at, stmts_at}
 use Rattle.typed_tree.specs.Programs.{program}
 use Rattle.lower_leased.specs.Homes.{case_homes, arm_homes, handler_homes, stmt_homes, stmts_homes}
@@ -55,7 +56,7 @@ decreases-handler l = 8 * l.id + 0
 abbrev pub invariant-stmts-loop-cell : goal.invariant-stmts-loop-cell
 invariant-stmts-loop-cell l = record {
   below : l.next ≤ l.id;
-  same : stmts_homes (program l.typed) l.at.depth l.at.free (stmts_at l.typed.nodes l.next) l.out ≡ stmts_homes (program l.typed) l.at.depth l.at.free (stmts_at l.typed.nodes l.id) l.fn.out;
+  same : IsTrue l.out.whole → IsTrue l.fn.out.whole × (stmts_homes (program l.typed) l.at.depth l.at.free (stmts_at l.typed.nodes l.next) l.out.found ≡ stmts_homes (program l.typed) l.at.depth l.at.free (stmts_at l.typed.nodes l.id) l.fn.out.found);
 }
 
 abbrev pub decreases-stmts-loop-cell : goal.decreases-stmts-loop-cell
@@ -64,7 +65,7 @@ decreases-stmts-loop-cell l = l.next
 abbrev pub invariant-alternatives-loop-cell : goal.invariant-alternatives-loop-cell
 invariant-alternatives-loop-cell l = record {
   below : l.next ≤ l.id;
-  same : case_homes (program l.typed) l.at.depth l.at.free (alternatives_at l.typed.nodes l.next) l.out ≡ case_homes (program l.typed) l.at.depth l.at.free (alternatives_at l.typed.nodes l.id) l.fn.out;
+  same : IsTrue l.out.whole → IsTrue l.fn.out.whole × (case_homes (program l.typed) l.at.depth l.at.free (alternatives_at l.typed.nodes l.next) l.out.found ≡ case_homes (program l.typed) l.at.depth l.at.free (alternatives_at l.typed.nodes l.id) l.fn.out.found);
 }
 
 abbrev pub decreases-alternatives-loop-cell : goal.decreases-alternatives-loop-cell
@@ -73,7 +74,7 @@ decreases-alternatives-loop-cell l = l.next
 abbrev pub invariant-arms-loop-cell : goal.invariant-arms-loop-cell
 invariant-arms-loop-cell l = record {
   below : l.next ≤ l.id;
-  same : arm_homes (program l.typed) l.at.depth l.at.free (arms_at l.typed.nodes l.next) l.out ≡ arm_homes (program l.typed) l.at.depth l.at.free (arms_at l.typed.nodes l.id) l.fn.out;
+  same : IsTrue l.out.whole → IsTrue l.fn.out.whole × (arm_homes (program l.typed) l.at.depth l.at.free (arms_at l.typed.nodes l.next) l.out.found ≡ arm_homes (program l.typed) l.at.depth l.at.free (arms_at l.typed.nodes l.id) l.fn.out.found);
 }
 
 abbrev pub decreases-arms-loop-cell : goal.decreases-arms-loop-cell
@@ -82,7 +83,7 @@ decreases-arms-loop-cell l = l.next
 abbrev pub invariant-handlers-loop-cell : goal.invariant-handlers-loop-cell
 invariant-handlers-loop-cell l = record {
   below : l.next ≤ l.id;
-  same : handler_homes (program l.typed) l.at.depth l.at.free (handlers_at l.typed.nodes l.next) l.out ≡ handler_homes (program l.typed) l.at.depth l.at.free (handlers_at l.typed.nodes l.id) l.fn.out;
+  same : IsTrue l.out.whole → IsTrue l.fn.out.whole × (handler_homes (program l.typed) l.at.depth l.at.free (handlers_at l.typed.nodes l.next) l.out.found ≡ handler_homes (program l.typed) l.at.depth l.at.free (handlers_at l.typed.nodes l.id) l.fn.out.found);
 }
 
 abbrev pub decreases-handlers-loop-cell : goal.decreases-handlers-loop-cell
@@ -91,7 +92,7 @@ decreases-handlers-loop-cell l = l.next
 abbrev pub invariant-stmt-loop-rest : goal.invariant-stmt-loop-rest
 invariant-stmt-loop-rest l = record {
   within : IsWithin l.id l.rest;
-  same : homes_left (program l.typed) l.typed.nodes l.at.depth l.at.free l.out l.rest ≡ stmt_homes (program l.typed) l.at.depth l.at.free (stmt_at l.typed.nodes l.id) l.fn.out;
+  same : IsTrue l.out.whole → IsTrue l.fn.out.whole × (homes_left (program l.typed) l.typed.nodes l.at.depth l.at.free l.out.found l.rest ≡ stmt_homes (program l.typed) l.at.depth l.at.free (stmt_at l.typed.nodes l.id) l.fn.out.found);
 }
 
 abbrev pub decreases-stmt-loop-rest : goal.decreases-stmt-loop-rest

@@ -15,6 +15,18 @@ decreases-index l = 4 * length l.rest.now + 3
 abbrev pub decreases-by_loop : goal.decreases-by_loop
 decreases-by_loop l = 4 * length l.rest.now + 2
 
+abbrev pub decreases-selected : goal.decreases-selected
+decreases-selected l = 4 * length l.rest.now + 2
+
+abbrev pub decreases-by_range : goal.decreases-by_range
+decreases-by_range l = 4 * length l.rest.now + 1
+
+abbrev pub decreases-by_item : goal.decreases-by_item
+decreases-by_item l = 4 * length l.rest.now + 1
+
+abbrev pub decreases-inside : goal.decreases-inside
+decreases-inside l = 4 * length l.rest.now + 1
+
 abbrev pub decreases-by_static : goal.decreases-by_static
 decreases-by_static l = 4 * length l.rest.now + 2
 

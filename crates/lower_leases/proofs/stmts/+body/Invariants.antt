@@ -1,5 +1,6 @@
 use Rattle.std.proofs.Common.{◌≡◌, ◌+◌, ◌*◌, ◌≤◌, max}
 use Rattle.typed_tree.specs.Decoded.{alternatives_at, arms_at, handlers_at, stmt_at, stmts_at}
+use Rattle.std.specs.Prelude.{IsTrue}
 use Rattle.lower_leased.specs.Standings.{case_standings, arm_standings, handler_standings, stmt_standings, stmts_standings}
 use Rattle.lower_leases.specs.Words.{stmt_left, IsWithin, rest_size}
 use Rattle.lower_leases.proofs.stmts.+body.Given as goal
@@ -54,7 +55,7 @@ decreases-handler l = 8 * l.id + 0
 abbrev pub invariant-stmts-loop-cell : goal.invariant-stmts-loop-cell
 invariant-stmts-loop-cell l = record {
   below : l.at ≤ l.id;
-  same : stmts_standings l.depth (stmts_at l.nodes l.at) l.out ≡ stmts_standings l.depth (stmts_at l.nodes l.id) l.fn.out;
+  same : IsTrue l.out.whole → IsTrue l.fn.out.whole × (stmts_standings l.depth (stmts_at l.nodes l.at) l.out.found ≡ stmts_standings l.depth (stmts_at l.nodes l.id) l.fn.out.found);
 }
 
 abbrev pub decreases-stmts-loop-cell : goal.decreases-stmts-loop-cell
@@ -63,7 +64,7 @@ decreases-stmts-loop-cell l = l.at
 abbrev pub invariant-alternatives-loop-cell : goal.invariant-alternatives-loop-cell
 invariant-alternatives-loop-cell l = record {
   below : l.at ≤ l.id;
-  same : case_standings l.depth (alternatives_at l.nodes l.at) l.out ≡ case_standings l.depth (alternatives_at l.nodes l.id) l.fn.out;
+  same : IsTrue l.out.whole → IsTrue l.fn.out.whole × (case_standings l.depth (alternatives_at l.nodes l.at) l.out.found ≡ case_standings l.depth (alternatives_at l.nodes l.id) l.fn.out.found);
 }
 
 abbrev pub decreases-alternatives-loop-cell : goal.decreases-alternatives-loop-cell
@@ -72,7 +73,7 @@ decreases-alternatives-loop-cell l = l.at
 abbrev pub invariant-arms-loop-cell : goal.invariant-arms-loop-cell
 invariant-arms-loop-cell l = record {
   below : l.at ≤ l.id;
-  same : arm_standings l.depth (arms_at l.nodes l.at) l.out ≡ arm_standings l.depth (arms_at l.nodes l.id) l.fn.out;
+  same : IsTrue l.out.whole → IsTrue l.fn.out.whole × (arm_standings l.depth (arms_at l.nodes l.at) l.out.found ≡ arm_standings l.depth (arms_at l.nodes l.id) l.fn.out.found);
 }
 
 abbrev pub decreases-arms-loop-cell : goal.decreases-arms-loop-cell
@@ -81,7 +82,7 @@ decreases-arms-loop-cell l = l.at
 abbrev pub invariant-handlers-loop-cell : goal.invariant-handlers-loop-cell
 invariant-handlers-loop-cell l = record {
   below : l.at ≤ l.id;
-  same : handler_standings l.depth (handlers_at l.nodes l.at) l.out ≡ handler_standings l.depth (handlers_at l.nodes l.id) l.fn.out;
+  same : IsTrue l.out.whole → IsTrue l.fn.out.whole × (handler_standings l.depth (handlers_at l.nodes l.at) l.out.found ≡ handler_standings l.depth (handlers_at l.nodes l.id) l.fn.out.found);
 }
 
 abbrev pub decreases-handlers-loop-cell : goal.decreases-handlers-loop-cell
@@ -90,7 +91,7 @@ decreases-handlers-loop-cell l = l.at
 abbrev pub invariant-stmt-loop-rest : goal.invariant-stmt-loop-rest
 invariant-stmt-loop-rest l = record {
   within : IsWithin l.id l.rest;
-  same : stmt_left l.nodes l.depth l.out l.rest ≡ stmt_standings l.depth (stmt_at l.nodes l.id) l.fn.out;
+  same : IsTrue l.out.whole → IsTrue l.fn.out.whole × (stmt_left l.nodes l.depth l.out.found l.rest ≡ stmt_standings l.depth (stmt_at l.nodes l.id) l.fn.out.found);
 }
 
 abbrev pub decreases-stmt-loop-rest : goal.decreases-stmt-loop-rest
