@@ -17,6 +17,7 @@ ghost use Rattle.run_reports.specs.Vars.{vars_lines};
 
 use crate::soak::{soak_lines, soak_text};
 use ada_port::{HeldSink, Pulse, Shelf, ShelfFault, Sink, Source};
+use code_listing::listing;
 use command_words::{Mode, Request};
 use driver::{Finals, Ran, Refusal, RunEnd, Unit, compile, execute};
 use run_plan::Setting;
@@ -24,7 +25,7 @@ use run_reports::{
     Status, Unput, put_vars, say, say_out_of_memory, say_raised, say_read_fault, say_spent,
     say_unreadable, say_write_fault,
 };
-use stack_code::{Code, listing};
+use stack_code::Code;
 use std::alloc::{AllocError, Global};
 use std::thread::Threads;
 

@@ -1,7 +1,7 @@
 use crate::top::{Finished, run_words};
 use ada_port::{MemShelf, MemSink, MemSource, Quiet, ShelfText, SinkFail};
+use code_listing::listing;
 use driver::compile;
-use stack_code::listing;
 use std::alloc::{AllocError, Global};
 use std::process::Abort;
 use std::test::Fail;

@@ -6,7 +6,7 @@ use Rattle.ada_base.specs.declared.operation.Op.TheVariants as op
 use Rattle.ada_base.specs.declared.reason.Reason.TheVariants.{StorageError}
 use Rattle.ada_base.specs.Operation.{within}
 use Rattle.stack_code.specs.declared.instr.Instr.{Instr}
-use Rattle.stack_code.specs.declared.instr.Instr.TheVariants.{Push, Pop, Dup, Swap, Local, Outer, Global, Index, Field, Load, Store, Copy, Fill, Add, Sub, Mul, Div, Mod, Rem, Pow, Neg, Abs, Max, Min, Eq, Ne, Lt, Le, Gt, Ge, And, Or, Xor, Not, Range, Jump, JFalse, JTrue, Turn, Call, CallAt, CallTo, Ret, RetV, Raise, Reraise, Exit, Leave as LeaveNow, LeaveV, Fork, Nest, Unnest, Words, Img, Bool as BoolImage, Wide, Send, SendLn, Get, End, EndV, Halt, Combine, Part, Repeat, Again, LoadL, LoadO, LoadG, StoreL, StoreO, StoreG, AddI, IndexL, Item, ItemL, JfEq, JfNe, JfLt, JfLe, JfGt, JfGe, Next, Prior, Flip, Differ}
+use Rattle.stack_code.specs.declared.instr.Instr.TheVariants.{Push, Pop, Dup, Swap, Local, Outer, Global, Index, Field, Load, Store, Copy, Fill, Add, Sub, Mul, Div, Mod, Rem, Pow, Neg, Abs, Max, Min, Eq, Ne, Lt, Le, Gt, Ge, And, Or, Xor, Not, Range, Jump, JFalse, JTrue, Turn, Call, CallAt, CallTo, Ret, RetV, Raise, Reraise, Exit, Leave as LeaveNow, LeaveV, Fork, Nest, Unnest, Words, Img, Bool as BoolImage, Wide, Send, SendLn, Get, End, EndV, Halt, Combine, Part, Repeat, Again, LoadL, LoadO, LoadG, StoreL, StoreO, StoreG, AddI, SubI, MulI, ModI, IndexL, Item, ItemL, IndexG, ItemG, JfEq, JfNe, JfLt, JfLe, JfGt, JfGe, Next, Prior, Flip, Differ}
 use Rattle.stack_code.specs.declared.code.Code.{Code}
 use Rattle.stack_code.specs.declared.operators.Relation.TheVariants.{Equal, Unequal, Less, AtMost, Greater, AtLeast}
 use Rattle.stack_code.specs.declared.operators.Digits.TheVariants.{Both, Either, Differ}
@@ -175,9 +175,14 @@ leaves_by c pc st base outward (StoreL n) = inr (store_free pc st _)
 leaves_by c pc st base outward (StoreO k n) = inr (store_outer_free pc st _ n)
 leaves_by c pc st base outward (StoreG n) = inr (store_free pc st _)
 leaves_by c pc st base outward (AddI v kind) = inr (unary_free pc st (λ x. applied op.Add kind x v))
+leaves_by c pc st base outward (SubI v kind) = inr (unary_free pc st (λ x. applied op.Sub kind x v))
+leaves_by c pc st base outward (MulI v kind) = inr (unary_free pc st (λ x. applied op.Mul kind x v))
+leaves_by c pc st base outward (ModI v kind) = inr (unary_free pc st (λ x. applied op.Mod kind x v))
 leaves_by c pc st base outward (IndexL n lo hi size) = inr (λ i. unary_free pc st (λ a. indexed lo hi size a i))
 leaves_by c pc st base outward (Item lo hi size) = inr (two_free st _ (λ x y rest. item_free pc _ _))
 leaves_by c pc st base outward (ItemL n lo hi size) = inr (λ i. one_free st _ (λ x rest. item_free pc _ _))
+leaves_by c pc st base outward (IndexG g lo hi size n) = inr (λ i. pushed_free pc (indexed lo hi size (pos g) i) st)
+leaves_by c pc st base outward (ItemG g lo hi size n) = inr (λ i. item_free pc (indexed lo hi size (pos g) i) st)
 leaves_by c pc st base outward (JfEq to) = inr (two_free st _ (λ x y rest. tt))
 leaves_by c pc st base outward (JfNe to) = inr (two_free st _ (λ x y rest. tt))
 leaves_by c pc st base outward (JfLt to) = inr (two_free st _ (λ x y rest. tt))

@@ -12,8 +12,8 @@ use Rattle.stack_code.specs.declared.code.Unwind.{Unwind}
 use Rattle.stack_code.specs.declared.instr.Instr.{Instr}
 use Rattle.stack_code.specs.declared.instr.Instr.TheVariants.{Combine, Part, Repeat, Again, Turn, Nest, Unnest}
 use Rattle.stack_code.specs.declared.path.Round.{Round}
-use Rattle.stack_code.specs.declared.operands.Flow.{Flow}
-use Rattle.stack_code.specs.declared.operands.Flow.TheVariants.{On, To, Branch, Back, Round as RoundTo, Ends as Nowhere}
+use Rattle.stack_code.specs.declared.flow.Flow.{Flow}
+use Rattle.stack_code.specs.declared.flow.Flow.TheVariants.{On, To, Branch, Back, Round as RoundTo, Ends as Nowhere}
 use Rattle.stack_code.specs.Operands.{flow_of}
 use Rattle.stack_code.specs.Valid.{IsValid}
 use Rattle.ada_base.specs.Cells.{Cell, seen, written}

@@ -6,9 +6,9 @@ use Rattle.std.proofs.lemmas.Bool.{false≢true}
 use Rattle.stack_code.specs.declared.code.Code.{Code}
 use Rattle.stack_code.specs.declared.code.CodeSub.{CodeSub}
 use Rattle.stack_code.specs.declared.instr.Instr.{Instr}
-use Rattle.stack_code.specs.declared.instr.Instr.TheVariants.{Push, Pop, Dup, Swap, Local, Outer, Global, Index, Field, Load, Store, Copy, Fill, Add, Sub, Mul, Div, Mod, Rem, Pow, Neg, Abs, Max, Min, Eq, Ne, Lt, Le, Gt, Ge, And, Or, Xor, Not, Range, Jump, JFalse, JTrue, Turn, Call, CallAt, CallTo, Ret, RetV, Raise, Reraise, Exit, Leave as LeaveNow, LeaveV, Fork, Nest, Unnest, Words, Img, Bool as BoolImage, Wide, Send, SendLn, Get, End, EndV, Halt, Combine, Part, Repeat, Again, LoadL, LoadO, LoadG, StoreL, StoreO, StoreG, AddI, IndexL, Item, ItemL, JfEq, JfNe, JfLt, JfLe, JfGt, JfGe, Next, Prior, Flip, Differ}
+use Rattle.stack_code.specs.declared.instr.Instr.TheVariants.{Push, Pop, Dup, Swap, Local, Outer, Global, Index, Field, Load, Store, Copy, Fill, Add, Sub, Mul, Div, Mod, Rem, Pow, Neg, Abs, Max, Min, Eq, Ne, Lt, Le, Gt, Ge, And, Or, Xor, Not, Range, Jump, JFalse, JTrue, Turn, Call, CallAt, CallTo, Ret, RetV, Raise, Reraise, Exit, Leave as LeaveNow, LeaveV, Fork, Nest, Unnest, Words, Img, Bool as BoolImage, Wide, Send, SendLn, Get, End, EndV, Halt, Combine, Part, Repeat, Again, LoadL, LoadO, LoadG, StoreL, StoreO, StoreG, AddI, SubI, MulI, ModI, IndexL, Item, ItemL, IndexG, ItemG, JfEq, JfNe, JfLt, JfLe, JfGt, JfGe, Next, Prior, Flip, Differ}
 use Rattle.stack_code.specs.declared.path.Asked.{Asked}
-use Rattle.stack_code.specs.declared.operands.Flow.TheVariants.{On, Branch}
+use Rattle.stack_code.specs.declared.flow.Flow.TheVariants.{On, Branch}
 use Rattle.stack_code.specs.Operands.{takes, pushes, flow_of}
 use Rattle.stack_code.specs.Deeds.{Deed, GoesOn, Fails, Forks, on_one, on_two, pushed, unary, binary, unless, cell_of_frame, load_from, load_of_frame, store_to, store_of_frame, item_at, stepped, loads_all, stores_all, called, called_at, combining, can_fork, many, asked, forked, deed_of, truth, differ, bit, indexed, is_related}
 use Rattle.stack_code.specs.declared.operators.Relation.{Relation}
@@ -177,9 +177,14 @@ fits c pc st base outward (StoreL n) l h = store_fit c pc (StoreL n) tt st _ l r
 fits c pc st base outward (StoreO k n) l h = store_outer_fit c pc (StoreO k n) tt st outward k n h l refl refl refl
 fits c pc st base outward (StoreG n) l h = store_fit c pc (StoreG n) tt st _ l refl refl refl
 fits c pc st base outward (AddI v kind) l h = unary_fit c pc (AddI v kind) tt st _ l refl refl refl
+fits c pc st base outward (SubI v kind) l h = unary_fit c pc (SubI v kind) tt st _ l refl refl refl
+fits c pc st base outward (MulI v kind) l h = unary_fit c pc (MulI v kind) tt st _ l refl refl refl
+fits c pc st base outward (ModI v kind) l h = unary_fit c pc (ModI v kind) tt st _ l refl refl refl
 fits c pc st base outward (IndexL n lo hi size) l h = λ k. unary_fit c pc (IndexL n lo hi size) tt st _ l refl refl refl
 fits c pc st base outward (Item lo hi size) l h = two_fit c pc (Item lo hi size) tt st _ l (λ x y rest. item_fit c pc (Item lo hi size) tt (y ∷ x ∷ rest) rest (indexed lo hi size x y) (omega arith) refl refl)
 fits c pc st base outward (ItemL n lo hi size) l h = λ k. one_fit c pc (ItemL n lo hi size) tt st _ l (λ x rest. item_fit c pc (ItemL n lo hi size) tt (x ∷ rest) rest (indexed lo hi size x k) (omega arith) refl refl)
+fits c pc st base outward (IndexG g lo hi size n) l h = λ k. pushed_fit c pc (IndexG g lo hi size n) tt st st (indexed lo hi size (pos g) k) (omega arith) refl refl
+fits c pc st base outward (ItemG g lo hi size n) l h = λ k. item_fit c pc (ItemG g lo hi size n) tt st st (indexed lo hi size (pos g) k) (omega arith) refl refl
 fits c pc st base outward (JfEq to) l h = unless_fit c pc (JfEq to) tt st Equal to l refl refl refl
 fits c pc st base outward (JfNe to) l h = unless_fit c pc (JfNe to) tt st Unequal to l refl refl refl
 fits c pc st base outward (JfLt to) l h = unless_fit c pc (JfLt to) tt st Less to l refl refl refl

@@ -1,11 +1,9 @@
 pub mod Fits
-pub mod Folds
 pub mod Framing
 pub mod Answering
 pub mod Falling
 pub mod Lists
 pub mod Looks
 pub mod Runs
-pub mod Slacks
 pub mod Standing
 pub mod Topping

@@ -15,8 +15,8 @@ use Rattle.stack_code.specs.declared.code.Unwind.{Unwind}
 use Rattle.stack_code.specs.declared.instr.Instr.{Instr}
 use Rattle.stack_code.specs.declared.instr.Instr.TheVariants.{Fork, Outer, LoadO, StoreO, Call, CallAt, CallTo, Combine, Part, Repeat, Again, Turn, Nest, Unnest, Ret, RetV}
 use Rattle.stack_code.specs.declared.path.Round.{Round}
-use Rattle.stack_code.specs.declared.operands.Flow.{Flow}
-use Rattle.stack_code.specs.declared.operands.Flow.TheVariants.{On, To, Branch, Back, Round as RoundTo, Ends as Nowhere}
+use Rattle.stack_code.specs.declared.flow.Flow.{Flow}
+use Rattle.stack_code.specs.declared.flow.Flow.TheVariants.{On, To, Branch, Back, Round as RoundTo, Ends as Nowhere}
 use Rattle.stack_code.specs.Operands.{takes, taken_by, pushes, given_by, nest_after, flow_of}
 use Rattle.stack_code.specs.Valid.{Has, HasFrame, Lands, Leads, Belongs, SpotFits, IsValid, Holds, outward}
 use Rattle.ada_base.specs.Cells.{Cell, seen, written}

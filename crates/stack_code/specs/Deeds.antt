@@ -10,7 +10,7 @@ use Rattle.ada_base.specs.declared.reason.Reason.TheVariants.{ConstraintError, P
 use Rattle.ada_base.specs.Operation.{within, result_of}
 use Rattle.ada_base.specs.Image.{image, truth_image, padded}
 use Rattle.stack_code.specs.declared.instr.Instr.{Instr}
-use Rattle.stack_code.specs.declared.instr.Instr.TheVariants.{Push, Pop, Dup, Swap, Local, Outer, Global, Index, Field, Load, Store, Copy, Fill, Add, Sub, Mul, Div, Mod, Rem, Pow, Neg, Abs, Max, Min, Eq, Ne, Lt, Le, Gt, Ge, And, Or, Xor, Not, Range, Jump, JFalse, JTrue, Turn, Call, CallAt, CallTo, Ret, RetV, Raise, Reraise, Exit, Leave as LeaveNow, LeaveV, Fork, Nest, Unnest, Words, Img, Bool as BoolImage, Wide, Send, SendLn, Get, End, EndV, Halt, Combine, Part, Repeat, Again, LoadL, LoadO, LoadG, StoreL, StoreO, StoreG, AddI, IndexL, Item, ItemL, JfEq, JfNe, JfLt, JfLe, JfGt, JfGe, Next, Prior, Flip, Differ}
+use Rattle.stack_code.specs.declared.instr.Instr.TheVariants.{Push, Pop, Dup, Swap, Local, Outer, Global, Index, Field, Load, Store, Copy, Fill, Add, Sub, Mul, Div, Mod, Rem, Pow, Neg, Abs, Max, Min, Eq, Ne, Lt, Le, Gt, Ge, And, Or, Xor, Not, Range, Jump, JFalse, JTrue, Turn, Call, CallAt, CallTo, Ret, RetV, Raise, Reraise, Exit, Leave as LeaveNow, LeaveV, Fork, Nest, Unnest, Words, Img, Bool as BoolImage, Wide, Send, SendLn, Get, End, EndV, Halt, Combine, Part, Repeat, Again, LoadL, LoadO, LoadG, StoreL, StoreO, StoreG, AddI, SubI, MulI, ModI, IndexL, Item, ItemL, IndexG, ItemG, JfEq, JfNe, JfLt, JfLe, JfGt, JfGe, Next, Prior, Flip, Differ}
 use Rattle.stack_code.specs.declared.code.Code.{Code}
 use Rattle.stack_code.specs.declared.operators.Relation.{Relation}
 use Rattle.stack_code.specs.declared.operators.Relation.TheVariants.{Equal, Unequal, Less, AtMost, Greater, AtLeast}
@@ -289,9 +289,14 @@ deed_of c pc st base outward (StoreL n) = store_to pc st (pos (base + n))
 deed_of c pc st base outward (StoreO k n) = store_of_frame pc st (slice_get outward (k - 1)) n
 deed_of c pc st base outward (StoreG n) = store_to pc st (pos n)
 deed_of c pc st base outward (AddI v kind) = unary pc st (λ x. applied op.Add kind x v)
+deed_of c pc st base outward (SubI v kind) = unary pc st (λ x. applied op.Sub kind x v)
+deed_of c pc st base outward (MulI v kind) = unary pc st (λ x. applied op.Mul kind x v)
+deed_of c pc st base outward (ModI v kind) = unary pc st (λ x. applied op.Mod kind x v)
 deed_of c pc st base outward (IndexL n lo hi size) = Loads (pos (base + n)) (λ i. unary pc st (λ a. indexed lo hi size a i))
 deed_of c pc st base outward (Item lo hi size) = on_two st (λ a i st. item_at pc (indexed lo hi size a i) st)
 deed_of c pc st base outward (ItemL n lo hi size) = Loads (pos (base + n)) (λ i. on_one st (λ a st. item_at pc (indexed lo hi size a i) st))
+deed_of c pc st base outward (IndexG g lo hi size n) = Loads (pos (base + n)) (λ i. pushed pc (indexed lo hi size (pos g) i) st)
+deed_of c pc st base outward (ItemG g lo hi size n) = Loads (pos (base + n)) (λ i. item_at pc (indexed lo hi size (pos g) i) st)
 deed_of c pc st base outward (JfEq to) = unless pc st Equal to
 deed_of c pc st base outward (JfNe to) = unless pc st Unequal to
 deed_of c pc st base outward (JfLt to) = unless pc st Less to

@@ -3,8 +3,8 @@ use Rattle.std.specs.Prelude.{◌≡◌, ℕ, ◌+◌, ◌<◌, ◌≤◌, ◌�
 use Rattle.stack_code.specs.declared.code.Code.{Code}
 use Rattle.stack_code.specs.declared.instr.Instr.{Instr}
 use Rattle.stack_code.specs.declared.instr.Instr.TheVariants.{Outer, LoadO, StoreO, Call, CallAt, CallTo, Combine, Part, Repeat, Again, Nest, Unnest, Ret, RetV, Turn, Fork, Send, SendLn, Get}
-use Rattle.stack_code.specs.declared.operands.Flow.{Flow}
-use Rattle.stack_code.specs.declared.operands.Flow.TheVariants.{On, To, Branch, Back, Round, Ends as Nowhere}
+use Rattle.stack_code.specs.declared.flow.Flow.{Flow}
+use Rattle.stack_code.specs.declared.flow.Flow.TheVariants.{On, To, Branch, Back, Round, Ends as Nowhere}
 use Rattle.stack_code.specs.Operands.{takes, pushes, flow_of}
 use Rattle.stack_code.specs.Deeds.{Deed, Lacks, GoesOn, Fails, Loads, Stores, Turns, Calls, CallsAt, Combines, Draws, Repeats, Rounds, Ends, Nests, Unnests, Writes, Forks, Sends, Gets}
 

@@ -8,8 +8,6 @@ pub mod Machine
 pub mod Looks
 pub mod Operands
 pub mod Runs
-pub mod Shown
-pub mod Slack
 pub mod Stands
 pub mod Tops
 pub mod Valid

@@ -10,8 +10,8 @@ use Rattle.stack_code.specs.declared.code.Unwind.{Unwind}
 use Rattle.stack_code.specs.declared.instr.Instr.{Instr}
 use Rattle.stack_code.specs.declared.instr.Instr.TheVariants.{Call, CallAt, CallTo, Combine, Fork, Turn, Repeat}
 use Rattle.stack_code.specs.declared.path.Round.{Round}
-use Rattle.stack_code.specs.declared.operands.Flow.{Flow}
-use Rattle.stack_code.specs.declared.operands.Flow.TheVariants.{On, To, Branch, Back, Round as RoundTo, Ends}
+use Rattle.stack_code.specs.declared.flow.Flow.{Flow}
+use Rattle.stack_code.specs.declared.flow.Flow.TheVariants.{On, To, Branch, Back, Round as RoundTo, Ends}
 use Rattle.stack_code.specs.Operands.{takes, flow_of}
 use Rattle.stack_code.specs.Valid.{Holds, outward}
 use Rattle.stack_code.specs.Machine.{Frame, State, Went, Goes, Stops, Asks, Constructs, Astray}

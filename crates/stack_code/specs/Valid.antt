@@ -1,7 +1,7 @@
 -- Code that fits together: each rule is of one instruction, or of one entry of a table.
 use Rattle.std.specs.Prelude.{◌≡◌, ℕ, zero, suc, ◌+◌, ◌-◌, ◌<◌, ◌≤◌, List, length, Option, Some, None, IsSome, IsSomeAnd, slice_get, Bool, true, false}
 use Rattle.stack_code.specs.declared.instr.Instr.{Instr}
-use Rattle.stack_code.specs.declared.instr.Instr.TheVariants.{Local, Outer, Global, Call, CallAt, CallTo, Ret, RetV, Exit, Leave, LeaveV, Fork, Unnest, Words, End, EndV, Halt, Combine, LoadL, LoadO, LoadG, StoreL, StoreO, StoreG, IndexL, ItemL, Next, Prior}
+use Rattle.stack_code.specs.declared.instr.Instr.TheVariants.{Local, Outer, Global, Call, CallAt, CallTo, Ret, RetV, Exit, Leave, LeaveV, Fork, Unnest, Words, End, EndV, Halt, Combine, LoadL, LoadO, LoadG, StoreL, StoreO, StoreG, IndexL, ItemL, IndexG, ItemG, Next, Prior}
 use Rattle.stack_code.specs.declared.code.Around.{Around}
 use Rattle.stack_code.specs.declared.code.Around.TheVariants.{Sub, Site}
 use Rattle.stack_code.specs.declared.code.Code.{Code}
@@ -11,8 +11,8 @@ use Rattle.stack_code.specs.declared.code.SiteKind.{SiteKind}
 use Rattle.stack_code.specs.declared.code.SiteKind.TheVariants.{Reduction, ChunkReduction}
 use Rattle.stack_code.specs.declared.code.Spot.{Spot}
 use Rattle.stack_code.specs.declared.code.Unwind.{Unwind}
-use Rattle.stack_code.specs.declared.operands.Flow.{Flow}
-use Rattle.stack_code.specs.declared.operands.Flow.TheVariants.{On, To, Branch, Back, Round, Ends}
+use Rattle.stack_code.specs.declared.flow.Flow.{Flow}
+use Rattle.stack_code.specs.declared.flow.Flow.TheVariants.{On, To, Branch, Back, Round, Ends}
 use Rattle.stack_code.specs.Operands.{takes, pushes, ends_of, nest_after, flow_of, is_reduction}
 
 -- each item of a list, with its number
@@ -112,6 +112,8 @@ Belongs c at body (StoreO k n) = (0 < k) × IsSomeAnd (outward c (Some body) k) 
 Belongs c at body (StoreG n) = HasFrame c (Sub 0) (λ cells. n < cells)
 Belongs c at body (IndexL n lo hi size) = HasFrame c body (λ cells. n < cells)
 Belongs c at body (ItemL n lo hi size) = HasFrame c body (λ cells. n < cells)
+Belongs c at body (IndexG g lo hi size n) = HasFrame c (Sub 0) (λ cells. g < cells) × HasFrame c body (λ cells. n < cells)
+Belongs c at body (ItemG g lo hi size n) = HasFrame c (Sub 0) (λ cells. g < cells) × HasFrame c body (λ cells. n < cells)
 Belongs c at body (Next n m to) = HasFrame c body (λ cells. n < cells) × HasFrame c body (λ cells. m < cells)
 Belongs c at body (Prior n m to) = HasFrame c body (λ cells. n < cells) × HasFrame c body (λ cells. m < cells)
 Belongs c at body (Call sub) = (0 < sub) × (sub < length c.subs)

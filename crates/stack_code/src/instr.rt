@@ -154,12 +154,23 @@ pub enum Instr {
     StoreG(u32),
     /// Adds a constant: `Push`, `Add`.
     AddI(i64, Base),
+    /// Takes a constant off: `Push`, `Sub`.
+    SubI(i64, Base),
+    /// Multiplies by a constant: `Push`, `Mul`.
+    MulI(i64, Base),
+    /// The remainder by a constant: `Push`, `Mod`.
+    ModI(i64, Base),
     /// Moves an address by a cell of the frame: `Local`, `Load`, `Index`.
     IndexL(u32, i64, i64, u32),
     /// Pushes a component: `Index`, `Load`.
     Item(i64, i64, u32),
     /// The same by a cell of the frame: `Local`, `Load`, `Index`, `Load`.
     ItemL(u32, i64, i64, u32),
+    /// Pushes the address of a component of an object in the main frame, by a cell of the own frame: `Global`, `IndexL`. The
+    /// object's first cell, the least index, the greatest, the cells of one component, and the cell with the index.
+    IndexG(u32, i64, i64, u32, u32),
+    /// Pushes that component: `Global`, `ItemL`.
+    ItemG(u32, i64, i64, u32, u32),
     /// Goes on there where two aren't equal: `Eq`, `JFalse`.
     JfEq(u32),
     /// The same with `Ne`.

@@ -1,25 +1,20 @@
-//! Code of a stack machine: its instructions and tables, its listing, and the test that all fits together.
+//! Code of a stack machine: its instructions and tables, what the machine does with them, and the laws of that.
 #![tactic(auto)]
 
-pub mod belonging;
 pub mod code;
+pub mod flow;
 pub mod instr;
 pub mod laws;
-pub mod lines;
-pub mod operands;
 pub mod operators;
 pub mod path;
-pub mod slack;
-pub mod spots;
-pub mod validity;
+pub mod reasons;
 
 pub use code::{
     Around, Code, CodeSite, CodeSub, Lease, Reducer, SiteKind, Spot, Step, Unwind, Words,
 };
+pub use flow::Flow;
 pub use instr::Instr;
 pub use laws::{cut_law, frame_law, look_law, standing_law, top_law};
-pub use lines::{listing, reason_number};
-pub use operands::{Flow, ends_of, flow_of, nest_after, pushes_of, takes_of};
 pub use operators::{Digits, Relation};
 pub use path::{Asked, Gave, Io, Leave};
-pub use validity::validate;
+pub use reasons::reason_number;

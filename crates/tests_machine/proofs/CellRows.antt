@@ -37,6 +37,14 @@ reads =
     row (i.ItemL 0 (pos 14) (pos 20) 9) (pos 4 ∷ []) (Raised ConstraintError [] five) ∷
     row (i.IndexL 0 (pos 10) (pos 13) 2) (pos 100 ∷ []) (Onward 8 (pos 106 ∷ []) five) ∷
     row (i.IndexL 0 (pos 10) (pos 12) 2) (pos 100 ∷ []) (Raised ConstraintError [] five) ∷
+    row (i.IndexG 100 (pos 10) (pos 13) 2 0) (pos 99 ∷ []) (Onward 8 (pos 106 ∷ pos 99 ∷ []) five) ∷
+    row (i.IndexG 100 (pos 10) (pos 12) 2 0) (pos 99 ∷ []) (Raised ConstraintError (pos 99 ∷ []) five) ∷
+    row (i.IndexG 100 (pos 14) (pos 20) 2 1) [] (Onward 8 (pos 100 ∷ []) five) ∷
+    row (i.IndexG 100 (pos 14) (pos 20) 2 0) [] (Raised ConstraintError [] five) ∷
+    row (i.ItemG 1 (pos 10) (pos 13) 1 0) (pos 99 ∷ []) (Onward 8 (pos 14 ∷ pos 99 ∷ []) five) ∷
+    row (i.ItemG 1 (pos 10) (pos 12) 1 0) (pos 99 ∷ []) (Raised ConstraintError (pos 99 ∷ []) five) ∷
+    row (i.ItemG 0 (pos 13) (pos 20) 3 1) [] (Onward 8 (pos 13 ∷ []) five) ∷
+    row (i.ItemG 2 (pos 13) (pos 13) 7 0) [] Neither ∷
     []
 
 abbrev ten : ℤ → List Cell

@@ -57,6 +57,15 @@ narrow =
     row (i.Abs Narrow) (negsuc 2147483647 ∷ pos 99 ∷ []) None ∷
     row (i.AddI (pos 1) Narrow) (pos 2147483646 ∷ pos 99 ∷ []) (Some (pos 2147483647 ∷ pos 99 ∷ [])) ∷
     row (i.AddI (pos 1) Narrow) (pos 2147483647 ∷ pos 99 ∷ []) None ∷
+    row (i.SubI (pos 3) Narrow) (pos 10 ∷ pos 99 ∷ []) (Some (pos 7 ∷ pos 99 ∷ [])) ∷
+    row (i.SubI (pos 1) Narrow) (negsuc 2147483646 ∷ pos 99 ∷ []) (Some (negsuc 2147483647 ∷ pos 99 ∷ [])) ∷
+    row (i.SubI (pos 1) Narrow) (negsuc 2147483647 ∷ pos 99 ∷ []) None ∷
+    row (i.MulI (negsuc 1) Narrow) (pos 1073741824 ∷ pos 99 ∷ []) (Some (negsuc 2147483647 ∷ pos 99 ∷ [])) ∷
+    row (i.MulI (pos 2) Narrow) (pos 1073741824 ∷ pos 99 ∷ []) None ∷
+    row (i.ModI (pos 2) Narrow) (negsuc 6 ∷ pos 99 ∷ []) (Some (pos 1 ∷ pos 99 ∷ [])) ∷
+    row (i.ModI (negsuc 6) Narrow) (pos 2 ∷ pos 99 ∷ []) (Some (negsuc 4 ∷ pos 99 ∷ [])) ∷
+    row (i.ModI (negsuc 0) Narrow) (negsuc 2147483647 ∷ pos 99 ∷ []) (Some (pos 0 ∷ pos 99 ∷ [])) ∷
+    row (i.ModI (pos 0) Narrow) (pos 1 ∷ pos 99 ∷ []) None ∷
     []
 
 abbrev wide : List Row
@@ -74,6 +83,10 @@ wide =
     row (i.Abs Wide) (negsuc 9223372036854775807 ∷ pos 99 ∷ []) None ∷
     row (i.AddI (negsuc 0) Wide) (negsuc 9223372036854775806 ∷ pos 99 ∷ []) (Some (negsuc 9223372036854775807 ∷ pos 99 ∷ [])) ∷
     row (i.AddI (negsuc 0) Wide) (negsuc 9223372036854775807 ∷ pos 99 ∷ []) None ∷
+    row (i.SubI (negsuc 0) Wide) (pos 9223372036854775806 ∷ pos 99 ∷ []) (Some (pos 9223372036854775807 ∷ pos 99 ∷ [])) ∷
+    row (i.SubI (negsuc 0) Wide) (pos 9223372036854775807 ∷ pos 99 ∷ []) None ∷
+    row (i.MulI (pos 4294967296) Wide) (pos 2147483647 ∷ pos 99 ∷ []) (Some (pos 9223372032559808512 ∷ pos 99 ∷ [])) ∷
+    row (i.MulI (pos 4294967296) Wide) (pos 2147483648 ∷ pos 99 ∷ []) None ∷
     []
 
 abbrev others : List Row

@@ -1,8 +1,8 @@
 //! Rows of programs whose code is listed.
 
 use crate::programs::{program_listed, push_field, text_of};
+use code_listing::listing;
 use driver::compile;
-use stack_code::listing;
 use std::alloc::{AllocError, Global};
 
 /// The listing of the code of a text, or what is said of its fault.

@@ -1,0 +1,6 @@
+//! The text of code: a line for each instruction, unwind entry, site and subprogram.
+#![tactic(auto)]
+
+pub mod lines;
+
+pub use lines::listing;
