@@ -11,6 +11,7 @@ pub mod Holders
 pub mod Keeping
 pub mod Looking
 pub mod Memories
+pub mod Narrows
 pub mod Outcomes
 pub mod Readies
 pub mod Rounding

@@ -150,6 +150,29 @@ module _ (pc : ℕ) (lo hi : ℤ) (size : ℕ) where
     index_cell_out at old rest a x i s f e g = ap (λ o. on_value o (λ i. plays (unary pc (reverse old) (λ a. indexed lo hi size a i)) cells)) s
         ∙ ap (λ st. plays (unary pc st (λ a. indexed lo hi size a i)) cells) (topped (reverse old) (reverse rest) a x f e) ∙ ap (λ o. plays (pushed pc o (reverse rest)) cells) g
 
+    -- at a component of an object whose address is known, nothing is taken off
+    pub index_main_at : (at a : ℤ) (old new : List ℤ) (i to : ℤ) → seen cells at ≡ Some i → indexed lo hi size a i ≡ Some to → reverse new ≡ to ∷ reverse old → plays (Loads at (λ i. pushed pc (indexed lo hi size a i) (reverse old))) cells ≡ Onward (pc + 1) (reverse new) cells
+    index_main_at at a old new i to s g h = plays_load cells at i (λ i. pushed pc (indexed lo hi size a i) (reverse old)) s ∙ ap (λ o. plays (pushed pc o (reverse old)) cells) g ∙ ap (λ st. Onward (pc + 1) st cells) (sym h)
+
+    pub index_main_out : (at a : ℤ) (old : List ℤ) (i : ℤ) → seen cells at ≡ Some i → indexed lo hi size a i ≡ None → plays (Loads at (λ i. pushed pc (indexed lo hi size a i) (reverse old))) cells ≡ Raised ConstraintError (reverse old) cells
+    index_main_out at a old i s g = plays_load cells at i (λ i. pushed pc (indexed lo hi size a i) (reverse old)) s ∙ ap (λ o. plays (pushed pc o (reverse old)) cells) g
+
+    pub index_main_far : (at a : ℤ) (old : List ℤ) (i : ℤ) → seen cells at ≡ Some i → IsSomeAnd (indexed lo hi size a i) IsFar → Exceeds (Loads at (λ i. pushed pc (indexed lo hi size a i) (reverse old))) cells
+    index_main_far at a old i s h = exceeds_on at i (λ i. pushed pc (indexed lo hi size a i) (reverse old)) s (pushed_far pc (indexed lo hi size a i) (reverse old) cells h)
+
+    pub item_main_clear : (at a : ℤ) (old : List ℤ) (i to : ℤ) → IsClear (Loads at (λ i. item_at pc (indexed lo hi size a i) (reverse old))) cells → seen cells at ≡ Some i → indexed lo hi size a i ≡ Some to → IsSome (seen cells to)
+    item_main_clear at a old i to h s g = some_of (seen cells to) (λ v. Unit {0}) (subst (λ o. IsClear (item_at pc o (reverse old)) cells) g (onward_clear cells at i (λ i. item_at pc (indexed lo hi size a i) (reverse old)) h s))
+
+    pub item_main_at : (at a : ℤ) (old new : List ℤ) (i to v : ℤ) → seen cells at ≡ Some i → indexed lo hi size a i ≡ Some to → seen cells to ≡ Some v → reverse new ≡ v ∷ reverse old → plays (Loads at (λ i. item_at pc (indexed lo hi size a i) (reverse old))) cells ≡ Onward (pc + 1) (reverse new) cells
+    item_main_at at a old new i to v s g t h = plays_load cells at i (λ i. item_at pc (indexed lo hi size a i) (reverse old)) s ∙ ap (λ o. plays (item_at pc o (reverse old)) cells) g
+        ∙ ap (λ o. on_value o (λ v. Onward (pc + 1) (v ∷ reverse old) cells)) t ∙ ap (λ st. Onward (pc + 1) st cells) (sym h)
+
+    pub item_main_out : (at a : ℤ) (old : List ℤ) (i : ℤ) → seen cells at ≡ Some i → indexed lo hi size a i ≡ None → plays (Loads at (λ i. item_at pc (indexed lo hi size a i) (reverse old))) cells ≡ Raised ConstraintError (reverse old) cells
+    item_main_out at a old i s g = plays_load cells at i (λ i. item_at pc (indexed lo hi size a i) (reverse old)) s ∙ ap (λ o. plays (item_at pc o (reverse old)) cells) g
+
+    pub item_main_far : (at a : ℤ) (old : List ℤ) (i : ℤ) → seen cells at ≡ Some i → IsSomeAnd (indexed lo hi size a i) IsFar → Exceeds (Loads at (λ i. item_at pc (indexed lo hi size a i) (reverse old))) cells
+    item_main_far at a old i s h = exceeds_on at i (λ i. item_at pc (indexed lo hi size a i) (reverse old)) s (item_exceeds pc (indexed lo hi size a i) (reverse old) cells h)
+
     pub item_clear : (old mid rest : List ℤ) (a i to : ℤ) → IsClear (on_two (reverse old) (λ a i st. item_at pc (indexed lo hi size a i) st)) cells → reverse old ≡ i ∷ reverse mid → reverse mid ≡ a ∷ rest → indexed lo hi size a i ≡ Some to → IsSome (seen cells to)
     item_clear old mid rest a i to h e f g = some_of (seen cells to) (λ v. Unit {0}) (subst (λ o. IsClear (item_at pc o rest) cells) g (subst (λ st. IsClear (on_two st (λ a i st. item_at pc (indexed lo hi size a i) st)) cells) (e ∙ ap (λ st. i ∷ st) f) h))
 

@@ -1,14 +1,12 @@
 -- A class of instructions does what each of its instructions does.
-use Rattle.std.proofs.Common.{◌≡◌, ◌+◌, ℕ, ℤ, pos, negsuc, List, [], ◌∷◌, replicate, reverse, refl, sym, ap, subst, inl, inr, ⊎_elim}
+use Rattle.std.proofs.Common.{◌≡◌, ◌+◌, ℕ, ℤ, pos, negsuc, Option, List, [], ◌∷◌, replicate, reverse, refl, sym, ap, subst, inl, inr, ⊎_elim}
 use Rattle.std.specs.Prelude.{IsSomeAnd}
 use Rattle.ada_base.specs.declared.reason.Reason.TheVariants.{Declared}
 use Rattle.stack_code.specs.declared.instr.Instr.{Instr}
 use Rattle.ada_base.specs.Cells.{Cell, seen}
-use Rattle.ada_base.specs.declared.operation.Base.{Base}
-use Rattle.ada_base.specs.declared.operation.Op.TheVariants as op
 use Rattle.stack_code.specs.declared.code.Code.{Code}
-use Rattle.stack_code.specs.declared.instr.Instr.TheVariants.{Index, Range, AddI, Fill, Copy}
-use Rattle.stack_code.specs.Deeds.{Deed, deed_of, GoesOn, Fails, Loads, on_one, on_two, loads_all, stores_all, unary, binary, if_between, indexed, applied}
+use Rattle.stack_code.specs.declared.instr.Instr.TheVariants.{Index, Range, Fill, Copy}
+use Rattle.stack_code.specs.Deeds.{Deed, deed_of, GoesOn, Fails, Loads, on_one, on_two, loads_all, stores_all, unary, binary, if_between, indexed}
 use Rattle.ada_machine.specs.declared.operands.Computed.{Computed}
 use Rattle.ada_machine.specs.declared.operands.Computed.TheVariants.{To, Failed, Beyond, Other}
 use Rattle.ada_machine.specs.Played.{Computes, ComputesOr, Plays, PlaysOr, CopiesOr, Outcome, IsClear, IsFar, Exceeds, plays}
@@ -67,9 +65,10 @@ module _ (c : Code) (pc base : ℕ) (outward : List ℕ) (i : Instr) (cells : Li
   index_outcome lo hi lo' hi' size e f g h = subst (λ j. Outcome (deed_of c pc (reverse old) base outward j) j r old new cells cells) (sym e) (outcome_or (deed_of c pc (reverse old) base outward (Index lo hi size)) (Index lo hi size) cells r old new
       (subst (λ l. ComputesOr (binary pc (reverse old) (λ a k. indexed l hi size a k)) r old new) f (subst (λ u. ComputesOr (binary pc (reverse old) (λ a k. indexed lo' u size a k)) r old new) g h)))
 
-  pub constant_outcome : (v v' : ℤ) (kind : Base) → i ≡ AddI v kind → v' ≡ v → Computes (unary pc (reverse old) (λ x. applied op.Add kind x v')) r new → Outcome (deed_of c pc (reverse old) base outward i) i r old new cells cells
-  constant_outcome v v' kind e f h = subst (λ j. Outcome (deed_of c pc (reverse old) base outward j) j r old new cells cells) (sym e) (outcome (deed_of c pc (reverse old) base outward (AddI v kind)) (AddI v kind) cells r old new
-      (subst (λ l. Computes (unary pc (reverse old) (λ x. applied op.Add kind x l)) r new) f h))
+  -- an instruction that does an operation with a constant
+  pub constant_outcome : (by : ℤ → Instr) (f : ℤ → ℤ → Option ℤ) (v v' : ℤ) → ((w : ℤ) → deed_of c pc (reverse old) base outward (by w) ≡ unary pc (reverse old) (λ x. f x w)) → i ≡ by v → v' ≡ v → Computes (unary pc (reverse old) (λ x. f x v')) r new → Outcome (deed_of c pc (reverse old) base outward i) i r old new cells cells
+  constant_outcome by f v v' d e w h = subst (λ j. Outcome (deed_of c pc (reverse old) base outward j) j r old new cells cells) (sym e) (subst (λ d. Outcome d (by v) r old new cells cells) (sym (d v))
+      (outcome (unary pc (reverse old) (λ x. f x v)) (by v) cells r old new (subst (λ l. Computes (unary pc (reverse old) (λ x. f x l)) r new) w h)))
 
   pub fill_outcome : (cells' : List Cell) (n : ℕ) (v v' : ℤ) → i ≡ Fill n v → v' ≡ v → Plays (on_one (reverse old) (λ a st. stores_all (replicate n v') a (GoesOn (pc + 1) st))) r new cells cells' → Outcome (deed_of c pc (reverse old) base outward i) i r old new cells cells'
   fill_outcome cells' n v v' e f h = subst (λ j. Outcome (deed_of c pc (reverse old) base outward j) j r old new cells cells') (sym e) (outcome_plays (deed_of c pc (reverse old) base outward (Fill n v)) (Fill n v) cells cells' r old new

@@ -1,27 +1,46 @@
--- A stretch that ends before an instruction, in the state that it was in.
-use Rattle.std.proofs.Common.{◌≡◌, ℕ, ◌≤◌, List, Some, None, reverse, sym, inr, subst}
-use Rattle.std.specs.Prelude.{◌⊎◌, IsSomeAnd, slice_get, vec_capacity}
+-- A stretch at the instruction that it came to.
+use Rattle.std.proofs.Common.{◌≡◌, ℕ, ◌≤◌, List, Some, None, reverse, refl, inr, sym, ap, ◌∙◌, subst, arith}
+use Rattle.std.specs.Prelude.{◌⊎◌, slice_get, vec_capacity}
 use Rattle.ada_base.specs.Cells.{Cell}
 use Rattle.stack_code.specs.declared.code.Code.{Code}
 use Rattle.stack_code.specs.declared.instr.Instr.{Instr}
+use Rattle.stack_code.specs.declared.instr.Instr.TheVariants.{Turn}
 use Rattle.stack_code.specs.Deeds.{deed_of}
-use Rattle.stack_code.specs.Machine.{State, Comes}
+use Rattle.stack_code.specs.Machine.{Comes}
+use Rattle.stack_code.specs.Runs.{NeverStuck}
 use Rattle.stack_code.specs.Stands.{Stands, rank}
-use Rattle.stack_code.specs.Looks.{Looks}
+use Rattle.stack_code.specs.Looks.{Looks, looks_of}
+use Rattle.stack_code.specs.Tops.{IsTopped}
+use Rattle.stack_code.proofs.Runs.{comes_one, comes_on}
 use Rattle.ada_machine.specs.declared.machine.Machine.{Machine}
-use Rattle.ada_machine.specs.declared.walking.Stretch.TheVariants.{More, Beyond}
+use Rattle.ada_machine.specs.declared.machine.Stop as stops
+use Rattle.ada_machine.specs.declared.machine.Stop.TheVariants as stop
+use Rattle.ada_machine.specs.declared.machine.Went.TheVariants as went
 use Rattle.ada_machine.specs.Played.{AsksMore, Exceeds, Overlaps}
-use Rattle.ada_machine.specs.States.{state_of, frames_of, Ready, Roomy, Wants, more}
-use Rattle.ada_machine.specs.Strides.{Strides}
+use Rattle.ada_machine.specs.States.{state_of, frames_of, Ready, Roomy, Steps, LooksBy, Unlooked, more}
+use Rattle.ada_machine.specs.Strides.{Strides, IsHandedOn}
+use Rattle.ada_machine.proofs.Looking.{looked_step, looked_stops}
+use Rattle.ada_machine.proofs.Walks.{stops_after}
 
--- the next instruction asks for more
-asks_here : (c : Code) (q : State) (i : Instr) → slice_get c.instrs q.pc ≡ Some i → AsksMore i → IsSomeAnd (slice_get c.instrs q.pc) (λ i. AsksMore i)
-asks_here c q i at a = subst (λ o. IsSomeAnd o (λ i. AsksMore i)) (sym at) a
+-- what the loop hands on
+pub handed_on : (i : Instr) → AsksMore i → (i ≡ Turn → ⊥) → IsHandedOn i
+handed_on Turn a t = absurd (t refl)
+handed_on i a t = a
 
+-- a machine at an instruction, which a stretch came to
+pub record Came (limit : ℕ) (c : Code) (m0 : Machine) (cells0 : List Cell) (low : ℕ) (i : Instr) (m : Machine) (cells : List Cell) : Type 0 where
+  pub came : Comes limit c (state_of m0 cells0) (state_of m cells)
+  pub ready : Ready c m cells
+  pub calm : m.raising ≡ None
+  pub clear : NeverStuck limit c (state_of m cells)
+  pub within : m.turns ≤ limit
+  pub at : slice_get c.instrs m.pc ≡ Some i
+  pub tops : IsTopped low (state_of m cells)
+  pub looks : (n : ℕ) × (m.looks ≡ more m0.looks n) × Looks limit c n (state_of m0 cells0) (state_of m cells)
+  pub falls : rank c limit (state_of m cells) ≤ rank c limit (state_of m0 cells0)
+
+-- nothing has changed but how it is kept
 module _ (limit : ℕ) (c : Code) (m m' : Machine) (cells cells' : List Cell) (e : state_of m' cells' ≡ state_of m cells) where
-  pub looks_still : (p : State) (old : ℕ) → (n : ℕ) × (m'.looks ≡ more old n) × Looks limit c n p (state_of m cells) → (n : ℕ) × (m'.looks ≡ more old n) × Looks limit c n p (state_of m' cells')
-  looks_still p old h = (h.0, h.1, subst (λ s. Looks limit c h.0 p s) (sym e) h.2)
-
   ready_still : vec_capacity m'.stack ≡ vec_capacity m.stack → Ready c m cells → Ready c m' cells'
   ready_still v r = record {
     valid = r.valid;
@@ -31,19 +50,33 @@ module _ (limit : ℕ) (c : Code) (m m' : Machine) (cells cells' : List Cell) (e
     roomy = subst (λ s. Roomy c r.low (vec_capacity m'.stack) s.base s.waiting s.outward) (sym e) (subst (λ k. Roomy c r.low k m.base (frames_of m.waiting.items) m.outward.items) (sym v) r.roomy);
   }
 
-  module _ (m0 : Machine) (cells0 : List Cell) (came : Comes limit c (state_of m0 cells0) (state_of m cells)) (v : vec_capacity m'.stack ≡ vec_capacity m.stack) (r : Ready c m cells) (w : m'.turns ≤ limit) (n : m.raising ≡ None) (i : Instr) (at : slice_get c.instrs m.pc ≡ Some i) where
-    pub beyond_still : Exceeds (deed_of c m.pc (reverse m.stack.items) m.base m.outward.items i) cells ⊎ Overlaps i (reverse m.stack.items) → Strides limit c Beyond m0 cells0 m' cells'
-    beyond_still x = record {
-      came = subst (λ s. Comes limit c (state_of m0 cells0) s) (sym e) came;
-      ready = ready_still v r;
-      within = w;
-      ends = subst (λ s. Wants c s) (sym e) (n, i, at, inr x);
-    }
+  pub came_still : (m0 : Machine) (cells0 : List Cell) (low low' : ℕ) (i : Instr) → vec_capacity m'.stack ≡ vec_capacity m.stack → low' ≡ low → m'.looks ≡ m.looks → Came limit c m0 cells0 low i m cells → Came limit c m0 cells0 low' i m' cells'
+  came_still m0 cells0 low low' i v l k a = record {
+    came = subst (λ s. Comes limit c (state_of m0 cells0) s) (sym e) a.came;
+    ready = ready_still v a.ready;
+    calm = ap (λ s. s.raising) e ∙ a.calm;
+    clear = subst (λ s. NeverStuck limit c s) (sym e) a.clear;
+    within = subst (λ s. s.turns ≤ limit) (sym e) a.within;
+    at = subst (λ s. slice_get c.instrs s.pc ≡ Some i) (sym e) a.at;
+    tops = subst (λ n. IsTopped n (state_of m' cells')) (sym l) (subst (λ s. IsTopped low s) (sym e) a.tops);
+    looks = (a.looks.0, k ∙ a.looks.1, subst (λ s. Looks limit c a.looks.0 (state_of m0 cells0) s) (sym e) a.looks.2);
+    falls = subst (λ s. rank c limit s ≤ rank c limit (state_of m0 cells0)) (sym e) a.falls;
+  }
 
-    pub more_still : rank c limit (state_of m cells) ≤ rank c limit (state_of m0 cells0) → AsksMore i → Strides limit c More m0 cells0 m' cells'
-    more_still f a = record {
-      came = subst (λ s. Comes limit c (state_of m0 cells0) s) (sym e) came;
-      ready = ready_still v r;
-      within = w;
-      ends = subst (λ s. (rank c limit s ≤ rank c limit (state_of m0 cells0)) × (s.raising ≡ None) × IsSomeAnd (slice_get c.instrs s.pc) (λ i. AsksMore i)) (sym e) (f, n, asks_here c (state_of m cells) i at a);
-    }
+  -- a number of the instruction isn't in 64 bits, or it would overwrite what it has yet to copy
+  pub beyond_still : vec_capacity m'.stack ≡ vec_capacity m.stack → Ready c m cells → m.turns ≤ limit → m.raising ≡ None → (i : Instr) → slice_get c.instrs m.pc ≡ Some i → Exceeds (deed_of c m.pc (reverse m.stack.items) m.base m.outward.items i) cells ⊎ Overlaps i (reverse m.stack.items) → Steps limit c (went.Stopped stop.NoMemory) m cells m' cells'
+  beyond_still v r w n i at x = record { goes = (e, (n, i, at, inr x)); ready = ready_still v r; within = subst (λ s. s.turns ≤ limit) (sym e) w; falls = tt }
+
+-- what a stretch comes to by the instruction that it came to
+module _ (limit : ℕ) (c : Code) (m0 : Machine) (cells0 : List Cell) (low : ℕ) (i : Instr) (m : Machine) (cells : List Cell) (a : Came limit c m0 cells0 low i m cells) (m' : Machine) (cells' : List Cell) where
+  pub raises_there : Steps limit c went.Raising m cells m' cells' → Strides limit c None m0 cells0 m' cells'
+  raises_there s = record { goes = comes_on limit c _ _ _ a.came (comes_one limit c _ _ s.goes); ready = s.ready; within = s.within; falls = omega (arith, a.falls, s.falls) }
+
+  pub stops_there : (s : stops.Stop) → Steps limit c (went.Stopped s) m cells m' cells' → Strides limit c (Some s) m0 cells0 m' cells'
+  stops_there s t = record { goes = stops_after limit c s _ _ _ a.came t.goes; ready = t.ready; within = t.within; falls = tt }
+
+  pub looks_raised : Steps limit c went.Raising m cells m' cells' → LooksBy went.Raising m.looks m'.looks (looks_of c (state_of m cells)) → Unlooked limit c None m0.looks m'.looks (state_of m0 cells0) (state_of m' cells')
+  looks_raised s h = looked_step limit c (state_of m0 cells0) (state_of m cells) (state_of m' cells') m0.looks m.looks m'.looks a.looks refl s.goes h
+
+  pub looks_stopped : (s : stops.Stop) → Steps limit c (went.Stopped s) m cells m' cells' → LooksBy (went.Stopped s) m.looks m'.looks (looks_of c (state_of m cells)) → Unlooked limit c (Some s) m0.looks m'.looks (state_of m0 cells0) (state_of m' cells')
+  looks_stopped s t h = looked_stops limit c s (state_of m0 cells0) (state_of m cells) (state_of m' cells') m0.looks m.looks m'.looks a.looks refl t.goes h

@@ -1,7 +1,7 @@
 -- One step of a machine: what code did, as a step of its state.
 use Rattle.std.proofs.Common.{◌≡◌, ℕ, ◌+◌, ◌<◌, ◌≤◌, List, [], ◌∷◌, length, reverse, Some, None, cond, refl, sym, ap, ◌∙◌, subst, arith}
 use Rattle.std.specs.Prelude.{slice_get, vec_capacity}
-use Rattle.std.proofs.lemmas.Bool.{lt-ltb}
+use Rattle.std.proofs.lemmas.Bool.{lt-ltb, le-ltb}
 use Rattle.std.proofs.lemmas.List.{length-reverse}
 use Rattle.std.proofs.lemmas.Option.{slice_get_within}
 use Rattle.ada_base.specs.declared.reason.Reason.{Reason}
@@ -45,6 +45,10 @@ module _ (limit : ℕ) (c : Code) (m m' : Machine) (cells cells' : List Cell) (r
 
   pub turn_on : m.raising ≡ None → slice_get c.instrs m.pc ≡ Some Turn → m.turns < limit → step limit c (state_of m cells) ≡ Goes (on (reverse m.stack.items) (record (state_of m cells) { turns = m.turns + 1 }))
   turn_on n e l = step_is limit c (state_of m cells) Turn n e ∙ ap (λ b. cond b (Goes (on (reverse m.stack.items) (record (state_of m cells) { turns = m.turns + 1 }))) (Stops Spent (state_of m cells))) (lt-ltb m.turns limit l)
+
+  -- all turns are spent
+  pub turn_spent : m.raising ≡ None → slice_get c.instrs m.pc ≡ Some Turn → m.turns ≡ limit → step limit c (state_of m cells) ≡ Stops Spent (state_of m cells)
+  turn_spent n e l = step_is limit c (state_of m cells) Turn n e ∙ ap (λ b. cond b (Goes (on (reverse m.stack.items) (record (state_of m cells) { turns = m.turns + 1 }))) (Stops Spent (state_of m cells))) (le-ltb m.turns limit (omega (arith, l)))
 
   -- ---- raises
 

@@ -69,6 +69,7 @@ pub(crate) struct Entry {
 }
 
 // A body begins, and the own one waits. Its cells are there already.
+#[inline(always)]
 #[tactic(auto, using(crate::proofs::Callers::frames_more))]
 fn begin_body(m: &mut Machine, callee: CodeSub, entry: Entry)
     requires room { vec_len m.old.waiting < vec_capacity m.old.waiting }
@@ -102,6 +103,7 @@ fn begin_body(m: &mut Machine, callee: CodeSub, entry: Entry)
 }
 
 // Room for a body's operands, and so many cells; it answers where these begin. An Err leaves all as it was.
+#[inline(always)]
 fn make_room<C: Cells>(
     m: &mut Machine,
     view: &mut C,

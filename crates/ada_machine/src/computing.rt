@@ -9,13 +9,14 @@ use crate::addresses::{load_outer, push_outer, store_outer};
 use crate::blocks::{copy, fill};
 use crate::cells::Cells;
 use crate::memory::{
-    Dimension, index, index_cell, item, item_cell, load, load_cell, next, prior, store, store_cell,
+    Dimension, index, index_cell, index_main, item, item_cell, item_main, load, load_cell, next,
+    prior, store, store_cell,
 };
 use crate::operands::{
     Computed, add, add_constant, check_range, combine_digits, compare, differ, divide, double,
     exchange, flip, greater, invert, jump_if_false, jump_if_true, jump_unless, lesser,
-    make_absolute, multiply, negate, pop, push, push_local, push_number, raise_again, raise_to,
-    reduce, remain, select, subtract,
+    make_absolute, multiply, multiply_by_constant, negate, pop, push, push_local, push_number,
+    raise_again, raise_to, reduce, reduce_by_constant, remain, select, subtract, subtract_constant,
 };
 use leave_board::Halt;
 use stack_code::{Code, Digits, Instr, Relation};
@@ -30,8 +31,8 @@ pub struct Frames<'a> {
     pub outward: &'a [u64],
 }
 
-/// Does an instruction that asks for no more than operands and cells. Paths with halts of each kind have code of their own,
-/// since a compiler puts what is called from one place into that place; so the kind goes on to where cells are computed with.
+/// Does an instruction that asks for no more than operands and cells. What computes with cells is made once for each kind of halt,
+/// since a compiler puts a function into its caller only where it is called from one place.
 #[inline(always)]
 #[tactic(auto, using(crate::proofs::Outcomes::outcome, crate::proofs::Outcomes::outcome_or, crate::proofs::Outcomes::outcome_plays, crate::proofs::Outcomes::outcome_plays_or, crate::proofs::Outcomes::outcome_copies))]
 pub fn compute<C: Cells, H: Halt>(
@@ -101,6 +102,9 @@ pub fn compute<C: Cells, H: Halt>(
         Instr::StoreO(steps, cell) => store_outer(stack, pc, view, frames.outward, steps, cell),
         Instr::StoreG(cell) => store_cell(stack, pc, view, u64::from(cell)),
         Instr::AddI(value, kind) => add_constant(stack, pc, value, kind),
+        Instr::SubI(value, kind) => subtract_constant(stack, pc, value, kind),
+        Instr::MulI(value, kind) => multiply_by_constant(stack, pc, value, kind),
+        Instr::ModI(value, kind) => reduce_by_constant(stack, pc, value, kind),
         Instr::IndexL(cell, low, high, size) => {
             index_cell::<C, H>(
                 stack,
@@ -116,6 +120,26 @@ pub fn compute<C: Cells, H: Halt>(
                 stack,
                 pc,
                 view,
+                frames.base + u64::from(cell),
+                Dimension { low, high, size },
+            )
+        }
+        Instr::IndexG(object, low, high, size, cell) => {
+            index_main::<C, H>(
+                stack,
+                pc,
+                view,
+                object,
+                frames.base + u64::from(cell),
+                Dimension { low, high, size },
+            )
+        }
+        Instr::ItemG(object, low, high, size, cell) => {
+            item_main::<C, H>(
+                stack,
+                pc,
+                view,
+                object,
                 frames.base + u64::from(cell),
                 Dimension { low, high, size },
             )

@@ -4,14 +4,14 @@ ghost use Rattle.ada_base.specs.Cells.{Cell};
 ghost use Rattle.stack_code.specs.Runs.{NeverStuck};
 ghost use Rattle.stack_code.specs.Tops.{IsTopped};
 ghost use Rattle.ada_machine.specs.Places.{Stays};
-ghost use Rattle.ada_machine.specs.Played.{AsksMore};
 ghost use Rattle.stack_code.specs.Looks.{looks_of, kept_looks};
 ghost use Rattle.stack_code.specs.Machine.{failed, on};
 ghost use Rattle.ada_machine.specs.States.{state_of, more, Ready, Steps, LooksBy, HeedsBy};
+ghost use Rattle.ada_machine.specs.Strides.{IsHandedOn};
 
 use crate::calls::{enter, enter_at, return_to};
 use crate::cells::Cells;
-use crate::effects::{begin_construct, begin_part, begin_turn, end_construct, end_round, fail};
+use crate::effects::{begin_construct, begin_part, end_construct, end_round, fail};
 use crate::lines::{add_image, add_padded, add_truth, add_words, ask, give_line};
 use crate::machine::{Machine, Stop, Went};
 use crate::operands::{put, take, truth};
@@ -23,31 +23,6 @@ use stack_code::{Code, CodeSub, Instr, Io, Leave};
 const MOST_CALLS: u32 = 1000;
 
 const MOST_NESTED: u32 = 16;
-
-fn turn<H: Halt>(code: &Code, m: &mut Machine, limit: u64, halt: &mut H) -> Went
-    requires ready { (cells : List Cell) × Ready code.now m.old cells }
-    requires calm { m.old.raising ≡ None }
-    requires at { slice_get code.now.instrs m.old.pc ≡ Some Instr.Turn }
-    requires within { m.old.turns ≤ limit }
-    requires next { m.old.pc < usize.MAX }
-    ensures steps { (cells : List Cell) → Ready code.now m.old cells → Steps limit code.now result m.old cells m.new cells }
-    ensures paused { result ≡ Went.Stopped Stop.Paused → H.told halt.new }
-    ensures halts { (H.kept halt.new ≡ H.kept halt.old) × (H.told halt.old → H.told halt.new) }
-    ensures heeds { HeedsBy result (H.told halt.old) (H.told halt.new) m.old.looks m.new.looks }
-    ensures looks { LooksBy result m.old.looks m.new.looks 1 }
-{
-    let _ = code;
-    if halt.asked() {
-        return Went::Stopped(Stop::Paused);
-    }
-    if m.turns == limit {
-        m.looks = m.looks.saturating_add(1);
-        return Went::Stopped(Stop::Spent);
-    }
-    m.looks = m.looks.saturating_add(1);
-    begin_turn(m);
-    Went::On
-}
 
 fn unnest(code: &Code, m: &mut Machine, limit: u64) -> Went
     requires ready { (cells : List Cell) × Ready code.now m.old cells }
@@ -255,7 +230,8 @@ fn send_line(code: &Code, m: &mut Machine, limit: u64) -> Went
     }
 }
 
-fn return_plain<C: Cells>(code: &Code, m: &mut Machine, view: &mut C, limit: u64) -> Went
+#[inline(always)]
+fn return_plain<C: Cells>(code: &Code, m: &mut Machine, view: &mut C, limit: u64)
     requires ready { Ready code.now m.old (C.cells view.old) }
     requires calm { m.old.raising ≡ None }
     requires at { slice_get code.now.instrs m.old.pc ≡ Some Instr.Ret }
@@ -263,18 +239,17 @@ fn return_plain<C: Cells>(code: &Code, m: &mut Machine, view: &mut C, limit: u64
     requires next { m.old.pc < usize.MAX }
     requires whole { C.whole view.old }
     requires tops { IsTopped (C.floor view.old) (state_of m.old (C.cells view.old)) }
-    ensures steps { Steps limit code.now result m.old (C.cells view.old) m.new (C.cells view.new) }
-    ensures paused { result ≡ Went.Stopped Stop.Paused → ⊥ }
+    ensures steps { Steps limit code.now Went.On m.old (C.cells view.old) m.new (C.cells view.new) }
     ensures stays { Stays C.floor C.whole C.place view.old view.new }
     ensures looks { m.new.looks ≡ m.old.looks }
 {
     let _ = code;
     let _ = limit;
     return_to(m, view, None);
-    Went::On
 }
 
-fn return_value<C: Cells>(code: &Code, m: &mut Machine, view: &mut C, limit: u64) -> Went
+#[inline(always)]
+fn return_value<C: Cells>(code: &Code, m: &mut Machine, view: &mut C, limit: u64)
     requires ready { Ready code.now m.old (C.cells view.old) }
     requires calm { m.old.raising ≡ None }
     requires at { slice_get code.now.instrs m.old.pc ≡ Some Instr.RetV }
@@ -282,8 +257,7 @@ fn return_value<C: Cells>(code: &Code, m: &mut Machine, view: &mut C, limit: u64
     requires next { m.old.pc < usize.MAX }
     requires whole { C.whole view.old }
     requires tops { IsTopped (C.floor view.old) (state_of m.old (C.cells view.old)) }
-    ensures steps { Steps limit code.now result m.old (C.cells view.old) m.new (C.cells view.new) }
-    ensures paused { result ≡ Went.Stopped Stop.Paused → ⊥ }
+    ensures steps { Steps limit code.now Went.On m.old (C.cells view.old) m.new (C.cells view.new) }
     ensures stays { Stays C.floor C.whole C.place view.old view.new }
     ensures looks { m.new.looks ≡ m.old.looks }
 {
@@ -291,7 +265,6 @@ fn return_value<C: Cells>(code: &Code, m: &mut Machine, view: &mut C, limit: u64
     let _ = limit;
     let value = take(&mut m.stack);
     return_to(m, view, Some(value));
-    Went::On
 }
 
 fn sub_of(code: &Code, number: u32) -> CodeSub
@@ -363,6 +336,7 @@ struct Return {
 }
 
 // A call of a subprogram whose frame begins at a cell of the own one.
+#[inline(always)]
 fn call_at<C: Cells, H: Halt>(
     code: &Code,
     m: &mut Machine,
@@ -612,7 +586,7 @@ pub(crate) fn effect<C: Cells, H: Halt>(
     requires ready { Ready code.now m.old (C.cells view.old) }
     requires calm { m.old.raising ≡ None }
     requires at { slice_get code.now.instrs m.old.pc ≡ Some instr }
-    requires more { AsksMore instr }
+    requires more { IsHandedOn instr }
     requires within { m.old.turns ≤ limit }
     requires next { m.old.pc < usize.MAX }
     requires whole { C.whole view.old }
@@ -625,7 +599,6 @@ pub(crate) fn effect<C: Cells, H: Halt>(
     ensures looks { LooksBy result m.old.looks m.new.looks (looks_of code.now (state_of m.old (C.cells view.old))) }
 {
     match instr {
-        Instr::Turn => turn(code, m, limit, halt),
         Instr::Call(number) => call(code, m, view, limit, halt, number),
         Instr::CallAt(sub, cell) => call_at(code, m, view, limit, halt, Window { sub, cell }),
         Instr::CallTo(sub, cell, to) => {
@@ -634,8 +607,14 @@ pub(crate) fn effect<C: Cells, H: Halt>(
         Instr::Part => draw(code, m, limit),
         Instr::Repeat(count) => repeat(code, m, limit, count),
         Instr::Again(to) => again(code, m, limit, to),
-        Instr::Ret => return_plain(code, m, view, limit),
-        Instr::RetV => return_value(code, m, view, limit),
+        Instr::Ret => {
+            return_plain(code, m, view, limit);
+            Went::On
+        }
+        Instr::RetV => {
+            return_value(code, m, view, limit);
+            Went::On
+        }
         Instr::Exit(number) => Went::Stopped(Stop::Left(Leave::Exit(number))),
         Instr::Leave => Went::Stopped(Stop::Left(Leave::Return(None))),
         Instr::LeaveV => leave_with(code, m, limit),

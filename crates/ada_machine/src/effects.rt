@@ -14,18 +14,6 @@ use stack_code::path::Round;
 use stack_code::{Unwind, reason_number};
 use std::alloc::AllocError;
 
-#[inline(always)]
-pub(crate) fn begin_turn(m: &mut Machine)
-    requires left { m.old.turns < 2 ^ 64 - 1 }
-    requires next { m.old.pc < usize.MAX }
-    ensures state { (cells : List Cell) → state_of m.new cells ≡ on (reverse m.old.stack.items) (record (state_of m.old cells) { turns = m.old.turns + 1 }) }
-    ensures same { (vec_capacity m.new.stack ≡ vec_capacity m.old.stack) × (m.new.base ≡ m.old.base) × (m.new.waiting ≡ m.old.waiting) × (m.new.outward ≡ m.old.outward) }
-    ensures looks { m.new.looks ≡ m.old.looks }
-{
-    m.turns += 1;
-    m.pc += 1;
-}
-
 pub(crate) fn begin_construct(m: &mut Machine)
     requires few { m.old.nested < 16 }
     requires within { m.old.nest ≤ m.old.nested }

@@ -2,7 +2,7 @@
 ghost use Rattle.std.specs.Prelude.{◌≡◌, ◌+◌, ◌-◌, ◌*◌, ◌^◌, ◌<◌, ◌≤◌, ◌-ℤ◌, ◌+ℤ◌, ◌*ℤ◌, ◌≤ℤ◌, ◌∷◌, reverse, length, vec_len, vec_capacity, Option, Some, None, SomeIff, FitsSigned, IsSome, IsSomeAnd, pos, ℤ, int_lt, List, replicate, slice_get, slice_index, EachIndex};
 ghost use Rattle.std.specs.Int.{w64};
 ghost use Rattle.ada_base.specs.Cells.{seen, written};
-ghost use Rattle.stack_code.specs.Deeds.{on_one, on_two, unary, binary, load_from, store_to, item_at, stepped, indexed, loads_all, stores_all, Loads, Stores, GoesOn};
+ghost use Rattle.stack_code.specs.Deeds.{on_one, on_two, unary, binary, load_from, store_to, item_at, stepped, pushed, indexed, loads_all, stores_all, Loads, Stores, GoesOn};
 ghost use Rattle.ada_machine.specs.Places.{Stays};
 ghost use Rattle.ada_machine.specs.Played.{cell_of, IsClear, IsPlaced, ComputesOr, Plays, PlaysOr};
 
@@ -114,15 +114,18 @@ fn cells_of(steps: u32, size: u32) -> u64
     u64::from(steps) * u64::from(size)
 }
 
+// From an address below 2^30, fewer than 2^30 components of fewer than 2^32 cells lead to one below 2^63.
+const SMALL: u64 = 1_073_741_824;
+
 // An address moved to a component, where 64 bits hold it. Addresses of cells and numbers of components are small.
 #[inline(always)]
-#[tactic(auto, using(crate::proofs::Memories::within_62))]
+#[tactic(auto, using(crate::proofs::Memories::within_62, crate::proofs::Narrows::from_zero, crate::proofs::Narrows::below_30))]
 fn component(address: i64, low: i64, index: i64, size: u32) -> Option<i64>
     requires { low ≤ℤ index }
     ensures { SomeIff result (FitsSigned w64 (address +ℤ ((index -ℤ low) *ℤ pos size))) (address +ℤ ((index -ℤ low) *ℤ pos size)) }
 {
     let steps = index.abs_diff(low);
-    if steps < 1_073_741_824 && 0 <= address && address < 4_611_686_018_427_387_904 {
+    if steps < SMALL && cell_of(address) < SMALL {
         return Some(address + cells_of(steps as u32, size) as i64);
     }
     let cells = steps.checked_mul(u64::from(size))?;
@@ -292,6 +295,75 @@ pub(crate) fn item_cell<C: Cells, H: Halt>(
             let _ = take(stack);
             Computed::Failed(Reason::ConstraintError)
         }
+        Placed::Beyond => Computed::Beyond,
+    }
+}
+
+// ---- components of an object in the main frame, whose address an instruction has
+
+#[inline(always)]
+#[tactic(auto, using(crate::proofs::Memories::cell_clear, crate::proofs::Memories::index_main_at, crate::proofs::Memories::index_main_far, crate::proofs::Memories::index_main_out))]
+pub(crate) fn index_main<C: Cells, H: Halt>(
+    stack: &mut Vec<i64>,
+    pc: usize,
+    view: &C,
+    object: u32,
+    at: u64,
+    dimension: Dimension,
+) -> Computed
+    requires room { vec_len stack.old < vec_capacity stack.old }
+    requires clear { IsClear (Loads (pos at) (λ i. pushed pc (indexed dimension.low dimension.high dimension.size (pos object) i) (reverse stack.old.items))) (C.cells view.now) }
+    requires next { pc < usize.MAX }
+    ensures deed { PlaysOr (Loads (pos at) (λ i. pushed pc (indexed dimension.low dimension.high dimension.size (pos object) i) (reverse stack.old.items))) result stack.old.items stack.new.items (C.cells view.now) (C.cells view.now) }
+    ensures room { vec_capacity stack.new ≡ vec_capacity stack.old }
+{
+    let number = view.get(at);
+    match place(
+        i64::from(object),
+        dimension.low,
+        dimension.high,
+        number,
+        dimension.size,
+    ) {
+        Placed::At(to) => {
+            put(stack, to);
+            Computed::To(pc + 1)
+        }
+        Placed::Outside => Computed::Failed(Reason::ConstraintError),
+        Placed::Beyond => Computed::Beyond,
+    }
+}
+
+#[inline(always)]
+#[tactic(auto, using(crate::proofs::Memories::cell_clear, crate::proofs::Memories::item_main_clear, crate::proofs::Memories::item_main_at, crate::proofs::Memories::item_main_far, crate::proofs::Memories::item_main_out))]
+pub(crate) fn item_main<C: Cells, H: Halt>(
+    stack: &mut Vec<i64>,
+    pc: usize,
+    view: &C,
+    object: u32,
+    at: u64,
+    dimension: Dimension,
+) -> Computed
+    requires room { vec_len stack.old < vec_capacity stack.old }
+    requires clear { IsClear (Loads (pos at) (λ i. item_at pc (indexed dimension.low dimension.high dimension.size (pos object) i) (reverse stack.old.items))) (C.cells view.now) }
+    requires next { pc < usize.MAX }
+    ensures deed { PlaysOr (Loads (pos at) (λ i. item_at pc (indexed dimension.low dimension.high dimension.size (pos object) i) (reverse stack.old.items))) result stack.old.items stack.new.items (C.cells view.now) (C.cells view.now) }
+    ensures room { vec_capacity stack.new ≡ vec_capacity stack.old }
+{
+    let number = view.get(at);
+    match place(
+        i64::from(object),
+        dimension.low,
+        dimension.high,
+        number,
+        dimension.size,
+    ) {
+        Placed::At(to) => {
+            let value = read_at(view, to);
+            put(stack, value);
+            Computed::To(pc + 1)
+        }
+        Placed::Outside => Computed::Failed(Reason::ConstraintError),
         Placed::Beyond => Computed::Beyond,
     }
 }

@@ -85,14 +85,27 @@ pub(crate) fn settle(stack: &mut Vec<i64>, pc: usize, value: Option<i64>) -> Com
     }
 }
 
+// What 32 bits hold lies in each base range, and most values do: then nothing asks which range it is.
 #[inline(always)]
+#[tactic(auto, using(crate::proofs::Narrows::narrow_whole))]
 fn is_in_base(base: Base, value: i64) -> bool
     ensures { result ≡ is_in_base base value }
 {
-    match base {
-        Base::Narrow => -2_147_483_648 <= value && value <= 2_147_483_647,
-        Base::Wide => true,
+    if is_narrow(value) {
+        true
+    } else {
+        match base {
+            Base::Narrow => false,
+            Base::Wide => true,
+        }
     }
+}
+
+#[inline(always)]
+fn is_narrow(value: i64) -> bool
+    ensures { result ≡ is_in_base Base.Narrow value }
+{
+    -2_147_483_648 <= value && value <= 2_147_483_647
 }
 
 #[inline(always)]
@@ -126,10 +139,18 @@ fn difference(base: Base, x: i64, y: i64) -> Option<i64>
     within(base, x.checked_sub(y))
 }
 
+// The product of two numbers of 32 bits is one of 64, for which nothing is to be tested.
 #[inline(always)]
+#[tactic(auto, using(crate::proofs::Narrows::narrow_in, crate::proofs::Narrows::narrow_product))]
 fn product(base: Base, x: i64, y: i64) -> Option<i64>
     ensures { result ≡ applied Op.Mul base x y }
 {
+    if is_narrow(x) && is_narrow(y) {
+        let near = x * y;
+        if is_narrow(near) {
+            return Some(near);
+        }
+    }
     within(base, x.checked_mul(y))
 }
 
@@ -180,7 +201,7 @@ fn aligned(remainder: i64, divisor: i64) -> i64
 
 // The remainder of a division, where the divisor isn't zero.
 #[inline(always)]
-fn left_of(x: i64, y: i64) -> Option<i64>
+fn remainder_unless_zero(x: i64, y: i64) -> Option<i64>
     ensures { result ≡ unless_zero y (int_rem x y) }
 {
     if y == 0 {
@@ -195,7 +216,7 @@ fn left_of(x: i64, y: i64) -> Option<i64>
 fn modulus(base: Base, x: i64, y: i64) -> Option<i64>
     ensures { result ≡ applied Op.Mod base x y }
 {
-    match left_of(x, y) {
+    match remainder_unless_zero(x, y) {
         Some(r) => Some(value_or_zero(within(base, Some(aligned(r, y))))),
         None => None,
     }
@@ -206,7 +227,7 @@ fn modulus(base: Base, x: i64, y: i64) -> Option<i64>
 fn remainder(base: Base, x: i64, y: i64) -> Option<i64>
     ensures { result ≡ applied Op.Rem base x y }
 {
-    match left_of(x, y) {
+    match remainder_unless_zero(x, y) {
         Some(r) => Some(value_or_zero(within(base, Some(r)))),
         None => None,
     }
@@ -386,6 +407,52 @@ pub(crate) fn add_constant(stack: &mut Vec<i64>, pc: usize, value: i64, base: Ba
 {
     let x = top(stack);
     settle(stack, pc, sum(base, x, value))
+}
+
+#[inline(always)]
+#[tactic(auto, using(crate::proofs::Classes::unary_by))]
+pub(crate) fn subtract_constant(stack: &mut Vec<i64>, pc: usize, value: i64, base: Base) -> Computed
+    requires one { 1 ≤ vec_len stack.old }
+    requires next { pc < usize.MAX }
+    ensures deed { Computes (unary pc (reverse stack.old.items) (λ x. applied Op.Sub base x value)) result stack.new.items }
+    ensures room { vec_capacity stack.new ≡ vec_capacity stack.old }
+{
+    let x = top(stack);
+    settle(stack, pc, difference(base, x, value))
+}
+
+#[inline(always)]
+#[tactic(auto, using(crate::proofs::Classes::unary_by))]
+pub(crate) fn multiply_by_constant(
+    stack: &mut Vec<i64>,
+    pc: usize,
+    value: i64,
+    base: Base,
+) -> Computed
+    requires one { 1 ≤ vec_len stack.old }
+    requires next { pc < usize.MAX }
+    ensures deed { Computes (unary pc (reverse stack.old.items) (λ x. applied Op.Mul base x value)) result stack.new.items }
+    ensures room { vec_capacity stack.new ≡ vec_capacity stack.old }
+{
+    let x = top(stack);
+    settle(stack, pc, product(base, x, value))
+}
+
+#[inline(always)]
+#[tactic(auto, using(crate::proofs::Classes::unary_by))]
+pub(crate) fn reduce_by_constant(
+    stack: &mut Vec<i64>,
+    pc: usize,
+    value: i64,
+    base: Base,
+) -> Computed
+    requires one { 1 ≤ vec_len stack.old }
+    requires next { pc < usize.MAX }
+    ensures deed { Computes (unary pc (reverse stack.old.items) (λ x. applied Op.Mod base x value)) result stack.new.items }
+    ensures room { vec_capacity stack.new ≡ vec_capacity stack.old }
+{
+    let x = top(stack);
+    settle(stack, pc, modulus(base, x, value))
 }
 
 #[inline(always)]

@@ -1,14 +1,13 @@
 // One instruction after another.
-ghost use Rattle.std.specs.Prelude.{◌≡◌, ◌≢◌, ◌+◌, ◌<◌, ◌≤◌, ◌∷◌, ℕ, ℤ, pos, List, Some, None, IsSomeAnd, length, reverse, slice_get, vec_len, vec_capacity, true, false};
+ghost use Rattle.std.specs.Prelude.{◌≡◌, ◌≢◌, ◌+◌, ◌<◌, ◌≤◌, ◌∷◌, ℕ, ℤ, pos, List, Some, None, length, reverse, slice_get, vec_len, vec_capacity, true, false};
 ghost use Rattle.stack_code.specs.Machine.{entry_of, Goes, step, Comes};
 ghost use Rattle.stack_code.specs.Runs.{NeverStuck};
 ghost use Rattle.stack_code.specs.Valid.{IsValid};
 ghost use Rattle.stack_code.specs.Tops.{IsTopped};
 ghost use Rattle.ada_machine.specs.Places.{Stays};
-ghost use Rattle.ada_machine.specs.Played.{AsksMore};
-ghost use Rattle.stack_code.specs.Looks.{looks_of, raise_looks};
+ghost use Rattle.stack_code.specs.Looks.{raise_looks};
 ghost use Rattle.ada_machine.specs.States.{state_of, Ready, Steps, Unwinds, StopsAt, ReadyAfter, LooksBy, Unlooked, TookLooks, HeedsAt, HeedsBy, HeedsThen};
-ghost use Rattle.ada_machine.specs.Strides.{Strides, HeedsAlong};
+ghost use Rattle.ada_machine.specs.Strides.{Strides};
 
 use crate::calls::unwind_to;
 use crate::cells::Cells;
@@ -126,19 +125,6 @@ fn unwind<C: Cells, H: Halt>(
     }
 }
 
-/// Why a stretch of instructions ended that need operands, cells and turns alone.
-#[derive(Clone, Copy)]
-pub enum Stretch {
-    /// An exception is being raised.
-    Raises,
-    /// The next instruction asks for more, or a turn isn't begun.
-    More,
-    /// The halt asked for it, before a turn.
-    Paused,
-    /// A number of the next instruction isn't in 64 bits, or it would overwrite what it has yet to copy.
-    Beyond,
-}
-
 // Writes back what a stretch has in registers.
 #[inline(always)]
 fn keep(m: &mut Machine, pc: usize, turns: u64, looks: u64)
@@ -149,8 +135,9 @@ fn keep(m: &mut Machine, pc: usize, turns: u64, looks: u64)
     m.looks = looks;
 }
 
-// Instructions that need operands, cells and turns alone, one after another. Their results stay in registers, and so do
-// the number of the next one, the turns and the looks, which are written back at the end.
+// Instructions one after another, until an exception is being raised or the machine stops. Results stay in registers, and so do
+// where the own frame begins, the number of the next instruction, the turns and the looks: they are written back before an
+// instruction that asks for more than operands, cells and turns, and at the end.
 #[inline(always)]
 fn stride<C: Cells, H: Halt>(
     code: &Code,
@@ -158,19 +145,22 @@ fn stride<C: Cells, H: Halt>(
     view: &mut C,
     limit: u64,
     halt: &mut H,
-) -> Stretch
+) -> Option<Stop>
     requires ready { Ready code.now m.old (C.cells view.old) }
     requires calm { m.old.raising ≡ None }
     requires clear { NeverStuck limit code.now (state_of m.old (C.cells view.old)) }
     requires within { m.old.turns ≤ limit }
+    requires whole { C.whole view.old }
+    requires tops { IsTopped (C.floor view.old) (state_of m.old (C.cells view.old)) }
     ensures strides { Strides limit code.now result m.old (C.cells view.old) m.new (C.cells view.new) }
+    ensures paused { result ≡ Some Stop.Paused → H.told halt.new }
     ensures halts { (H.kept halt.new ≡ H.kept halt.old) × (H.told halt.old → H.told halt.new) }
-    ensures heeds { HeedsAlong result (H.told halt.old) (H.told halt.new) m.old.looks m.new.looks }
+    ensures heeds { HeedsThen result (H.told halt.old) (H.told halt.new) m.old.looks m.new.looks }
     ensures stays { Stays C.floor C.whole C.place view.old view.new }
-    ensures looks { Unlooked limit code.now None m.old.looks m.new.looks (state_of m.old (C.cells view.old)) (state_of m.new (C.cells view.new)) }
+    ensures looks { Unlooked limit code.now result m.old.looks m.new.looks (state_of m.old (C.cells view.old)) (state_of m.new (C.cells view.new)) }
 {
     let instrs = code.instrs.as_slice();
-    let base = m.base;
+    let mut base = m.base;
     let mut pc = m.pc;
     let mut turns = m.turns;
     let mut looks = m.looks;
@@ -181,13 +171,13 @@ fn stride<C: Cells, H: Halt>(
             Instr::Turn => {
                 if halt.asked() {
                     keep(m, pc, turns, looks);
-                    return Stretch::Paused;
-                }
-                if turns == limit {
-                    keep(m, pc, turns, looks);
-                    return Stretch::More;
+                    return Some(Stop::Paused);
                 }
                 looks = looks.saturating_add(1);
+                if turns == limit {
+                    keep(m, pc, turns, looks);
+                    return Some(Stop::Spent);
+                }
                 turns += 1;
                 pc += 1;
             }
@@ -206,44 +196,28 @@ fn stride<C: Cells, H: Halt>(
                 Computed::Failed(reason) => {
                     keep(m, pc, turns, looks);
                     m.raising = Some(reason);
-                    return Stretch::Raises;
+                    return None;
                 }
                 Computed::Beyond => {
                     keep(m, pc, turns, looks);
-                    return Stretch::Beyond;
+                    return Some(Stop::NoMemory);
                 }
                 Computed::Other => {
                     keep(m, pc, turns, looks);
-                    return Stretch::More;
+                    match effect(code, m, view, limit, halt, *instr) {
+                        Went::On => {
+                            base = m.base;
+                            pc = m.pc;
+                            turns = m.turns;
+                            looks = m.looks;
+                        }
+                        Went::Raising => return None,
+                        Went::Stopped(stop) => return Some(stop),
+                    }
                 }
             },
         }
     }
-}
-
-// The next instruction, which asks for more.
-fn proceed<C: Cells, H: Halt>(
-    code: &Code,
-    m: &mut Machine,
-    view: &mut C,
-    limit: u64,
-    halt: &mut H,
-) -> Went
-    requires ready { Ready code.now m.old (C.cells view.old) }
-    requires calm { m.old.raising ≡ None }
-    requires more { IsSomeAnd (slice_get code.now.instrs m.old.pc) (λ i. AsksMore i) }
-    requires within { m.old.turns ≤ limit }
-    requires whole { C.whole view.old }
-    requires tops { IsTopped (C.floor view.old) (state_of m.old (C.cells view.old)) }
-    ensures steps { Steps limit code.now result m.old (C.cells view.old) m.new (C.cells view.new) }
-    ensures paused { result ≡ Went.Stopped Stop.Paused → H.told halt.new }
-    ensures halts { (H.kept halt.new ≡ H.kept halt.old) × (H.told halt.old → H.told halt.new) }
-    ensures heeds { HeedsBy result (H.told halt.old) (H.told halt.new) m.old.looks m.new.looks }
-    ensures stays { Stays C.floor C.whole C.place view.old view.new }
-    ensures looks { LooksBy result m.old.looks m.new.looks (looks_of code.now (state_of m.old (C.cells view.old))) }
-{
-    let instr = fetch(code, m.pc);
-    effect(code, m, view, limit, halt, instr)
 }
 
 /// Goes on until something stops the machine.
@@ -275,14 +249,8 @@ pub fn go<C: Cells, H: Halt>(
             None => {}
         }
         match stride(code, m, view, limit, halt) {
-            Stretch::Raises => {}
-            Stretch::Paused => return Stop::Paused,
-            Stretch::Beyond => return Stop::NoMemory,
-            Stretch::More => match proceed(code, m, view, limit, halt) {
-                Went::On => {}
-                Went::Raising => {}
-                Went::Stopped(stop) => return stop,
-            },
+            Some(stop) => return stop,
+            None => {}
         }
     }
 }

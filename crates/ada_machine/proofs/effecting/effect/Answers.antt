@@ -9,9 +9,6 @@ use Rattle.ada_machine.proofs.Looking.{quiet_looks, same_looks, call_looks, wind
 use Rattle.ada_machine.proofs.Heeding.{quiet_heeds}
 use Rattle.ada_machine.proofs.effecting.effect.Goals as goal
 
-pub returns-in-Turn-clause-steps : goal.returns-in-Turn-clause-steps
-returns-in-Turn-clause-steps g c = c.turn.ensures.steps (g.C.Cells.cells c.args.view.now) c.requires.ready
-
 pub returns-in-LeaveV-clause-steps : goal.returns-in-LeaveV-clause-steps
 returns-in-LeaveV-clause-steps g c = c.leave_with.ensures.steps (g.C.Cells.cells c.args.view.now) c.requires.ready
 
@@ -44,12 +41,6 @@ returns-in-SendLn-clause-steps g c = c.send_line.ensures.steps (g.C.Cells.cells 
 
 pub returns-in-EndV-clause-steps : goal.returns-in-EndV-clause-steps
 returns-in-EndV-clause-steps g c = c.end_with.ensures.steps (g.C.Cells.cells c.args.view.now) c.requires.ready
-
-pub returns-in-Ret-clause-looks : goal.returns-in-Ret-clause-looks
-returns-in-Ret-clause-looks g c = quiet_looks c.args.code.now (state_of c.args.m.now (g.C.Cells.cells c.args.view.now)) (instr.Ret) c.return_plain.result _ _ c.requires.calm (c.requires.at ∙ ap Some c.in-Ret.is) tt c.return_plain.ensures.looks
-
-pub returns-in-RetV-clause-looks : goal.returns-in-RetV-clause-looks
-returns-in-RetV-clause-looks g c = quiet_looks c.args.code.now (state_of c.args.m.now (g.C.Cells.cells c.args.view.now)) (instr.RetV) c.return_value.result _ _ c.requires.calm (c.requires.at ∙ ap Some c.in-RetV.is) tt c.return_value.ensures.looks
 
 pub returns-in-LeaveV-clause-looks : goal.returns-in-LeaveV-clause-looks
 returns-in-LeaveV-clause-looks g c = quiet_looks c.args.code.now (state_of c.args.m.now (g.C.Cells.cells c.args.view.now)) (instr.LeaveV) c.leave_with.result _ _ c.requires.calm (c.requires.at ∙ ap Some c.in-LeaveV.is) tt c.leave_with.ensures.looks
@@ -96,17 +87,11 @@ returns-in-End-clause-looks g c = quiet_looks c.args.code.now (state_of c.args.m
 pub returns-in-Halt-clause-looks : goal.returns-in-Halt-clause-looks
 returns-in-Halt-clause-looks g c = quiet_looks c.args.code.now (state_of c.args.m.now (g.C.Cells.cells c.args.view.now)) (instr.Halt) (went.Stopped (stop.Done None)) c.args.m.now.looks c.args.m.now.looks c.requires.calm (c.requires.at ∙ ap Some c.in-Halt.is) tt refl
 
-pub returns-in-Turn-clause-looks : goal.returns-in-Turn-clause-looks
-returns-in-Turn-clause-looks g c = same_looks c.args.code.now (state_of c.args.m.now (g.C.Cells.cells c.args.view.now)) instr.Turn c.turn.result _ _ 1 c.requires.calm (c.requires.at ∙ ap Some c.in-Turn.is) refl c.turn.ensures.looks
-
 pub returns-in-Nest-clause-looks : goal.returns-in-Nest-clause-looks
 returns-in-Nest-clause-looks g c = same_looks c.args.code.now (state_of c.args.m.now (g.C.Cells.cells c.args.view.now)) instr.Nest c.nest.result _ _ 1 c.requires.calm (c.requires.at ∙ ap Some c.in-Nest.is) refl c.nest.ensures.looks
 
 pub returns-in-Call-clause-looks : goal.returns-in-Call-clause-looks
 returns-in-Call-clause-looks g c = same_looks c.args.code.now (state_of c.args.m.now (g.C.Cells.cells c.args.view.now)) (instr.Call c.in-Call.number) c.call.result _ _ 1 c.requires.calm (c.requires.at ∙ ap Some c.in-Call.is) (call_looks c.args.code.now c.args.m.now (g.C.Cells.cells c.args.view.now) c.requires.ready c.requires.calm c.in-Call.number (c.requires.at ∙ ap Some c.in-Call.is)) c.call.ensures.looks
-
-pub returns-in-CallAt-clause-looks : goal.returns-in-CallAt-clause-looks
-returns-in-CallAt-clause-looks g c = same_looks c.args.code.now (state_of c.args.m.now (g.C.Cells.cells c.args.view.now)) (instr.CallAt c.in-CallAt.sub c.in-CallAt.cell) c.call_at.result _ _ 1 c.requires.calm (c.requires.at ∙ ap Some c.in-CallAt.is) (window_looks c.args.code.now c.args.m.now (g.C.Cells.cells c.args.view.now) c.requires.ready c.requires.calm c.in-CallAt.sub c.in-CallAt.cell (c.requires.at ∙ ap Some c.in-CallAt.is)) c.call_at.ensures.looks
 
 pub returns-in-CallTo-clause-looks : goal.returns-in-CallTo-clause-looks
 returns-in-CallTo-clause-looks g c = same_looks c.args.code.now (state_of c.args.m.now (g.C.Cells.cells c.args.view.now)) (instr.CallTo c.in-CallTo.sub c.in-CallTo.cell c.in-CallTo.to) c.call_to.result _ _ 1 c.requires.calm (c.requires.at ∙ ap Some c.in-CallTo.is) (return_looks c.args.code.now c.args.m.now (g.C.Cells.cells c.args.view.now) c.requires.ready c.requires.calm c.in-CallTo.sub c.in-CallTo.cell c.in-CallTo.to (c.requires.at ∙ ap Some c.in-CallTo.is)) c.call_to.ensures.looks
@@ -132,14 +117,8 @@ returns-in-Again-clause-steps g c = c.again.ensures.steps (g.C.Cells.cells c.arg
 pub returns-in-Again-clause-looks : goal.returns-in-Again-clause-looks
 returns-in-Again-clause-looks g c = quiet_looks c.args.code.now (state_of c.args.m.now (g.C.Cells.cells c.args.view.now)) (instr.Again c.in-Again.to) c.again.result _ _ c.requires.calm (c.requires.at ∙ ap Some c.in-Again.is) tt c.again.ensures.looks
 
-pub returns-in-Turn-clause-heeds : goal.returns-in-Turn-clause-heeds
-returns-in-Turn-clause-heeds g c = c.turn.ensures.heeds
-
 pub returns-in-Call-clause-heeds : goal.returns-in-Call-clause-heeds
 returns-in-Call-clause-heeds g c = c.call.ensures.heeds
-
-pub returns-in-CallAt-clause-heeds : goal.returns-in-CallAt-clause-heeds
-returns-in-CallAt-clause-heeds g c = c.call_at.ensures.heeds
 
 pub returns-in-CallTo-clause-heeds : goal.returns-in-CallTo-clause-heeds
 returns-in-CallTo-clause-heeds g c = c.call_to.ensures.heeds
@@ -158,12 +137,6 @@ returns-in-Repeat-clause-heeds g c = quiet_heeds c.repeat.result _ _ _ c.repeat.
 
 pub returns-in-Again-clause-heeds : goal.returns-in-Again-clause-heeds
 returns-in-Again-clause-heeds g c = quiet_heeds c.again.result _ _ _ c.again.ensures.looks
-
-pub returns-in-Ret-clause-heeds : goal.returns-in-Ret-clause-heeds
-returns-in-Ret-clause-heeds g c = quiet_heeds c.return_plain.result _ _ _ c.return_plain.ensures.looks
-
-pub returns-in-RetV-clause-heeds : goal.returns-in-RetV-clause-heeds
-returns-in-RetV-clause-heeds g c = quiet_heeds c.return_value.result _ _ _ c.return_value.ensures.looks
 
 pub returns-in-LeaveV-clause-heeds : goal.returns-in-LeaveV-clause-heeds
 returns-in-LeaveV-clause-heeds g c = quiet_heeds c.leave_with.result _ _ _ c.leave_with.ensures.looks
@@ -405,21 +378,6 @@ returns-in-Again-clause-halts g c = (refl, λ t. t)
 pub returns-in-Again-clause-stays : goal.returns-in-Again-clause-stays
 returns-in-Again-clause-stays g c = (refl, λ w. w, refl)
 
-pub turn-requires-clause-ready : goal.turn-requires-clause-ready
-turn-requires-clause-ready g c = (g.C.Cells.cells c.args.view.now, c.requires.ready)
-
-pub turn-requires-clause-at : goal.turn-requires-clause-at
-turn-requires-clause-at g c = c.requires.at ∙ ap Some c.in-Turn.is
-
-pub returns-in-Turn-clause-paused : goal.returns-in-Turn-clause-paused
-returns-in-Turn-clause-paused g c = c.turn.ensures.paused
-
-pub returns-in-Turn-clause-halts : goal.returns-in-Turn-clause-halts
-returns-in-Turn-clause-halts g c = c.turn.ensures.halts
-
-pub returns-in-Turn-clause-stays : goal.returns-in-Turn-clause-stays
-returns-in-Turn-clause-stays g c = (refl, λ w. w, refl)
-
 pub nest-requires-clause-ready : goal.nest-requires-clause-ready
 nest-requires-clause-ready g c = (g.C.Cells.cells c.args.view.now, c.requires.ready)
 
@@ -435,36 +393,6 @@ returns-in-Nest-clause-halts g c = c.nest.ensures.halts
 pub returns-in-Nest-clause-stays : goal.returns-in-Nest-clause-stays
 returns-in-Nest-clause-stays g c = (refl, λ w. w, refl)
 
-pub return_plain-requires-clause-ready : goal.return_plain-requires-clause-ready
-return_plain-requires-clause-ready g c = c.requires.ready
-
-pub return_plain-requires-clause-at : goal.return_plain-requires-clause-at
-return_plain-requires-clause-at g c = c.requires.at ∙ ap Some c.in-Ret.is
-
-pub returns-in-Ret-clause-paused : goal.returns-in-Ret-clause-paused
-returns-in-Ret-clause-paused g c = λ e. absurd (c.return_plain.ensures.paused e)
-
-pub returns-in-Ret-clause-halts : goal.returns-in-Ret-clause-halts
-returns-in-Ret-clause-halts g c = (refl, λ t. t)
-
-pub returns-in-Ret-clause-stays : goal.returns-in-Ret-clause-stays
-returns-in-Ret-clause-stays g c = c.return_plain.ensures.stays
-
-pub return_value-requires-clause-ready : goal.return_value-requires-clause-ready
-return_value-requires-clause-ready g c = c.requires.ready
-
-pub return_value-requires-clause-at : goal.return_value-requires-clause-at
-return_value-requires-clause-at g c = c.requires.at ∙ ap Some c.in-RetV.is
-
-pub returns-in-RetV-clause-paused : goal.returns-in-RetV-clause-paused
-returns-in-RetV-clause-paused g c = λ e. absurd (c.return_value.ensures.paused e)
-
-pub returns-in-RetV-clause-halts : goal.returns-in-RetV-clause-halts
-returns-in-RetV-clause-halts g c = (refl, λ t. t)
-
-pub returns-in-RetV-clause-stays : goal.returns-in-RetV-clause-stays
-returns-in-RetV-clause-stays g c = c.return_value.ensures.stays
-
 pub call-requires-clause-ready : goal.call-requires-clause-ready
 call-requires-clause-ready g c = c.requires.ready
 
@@ -479,21 +407,6 @@ returns-in-Call-clause-halts g c = c.call.ensures.halts
 
 pub returns-in-Call-clause-stays : goal.returns-in-Call-clause-stays
 returns-in-Call-clause-stays g c = c.call.ensures.stays
-
-pub call_at-requires-clause-ready : goal.call_at-requires-clause-ready
-call_at-requires-clause-ready g c = c.requires.ready
-
-pub call_at-requires-clause-at : goal.call_at-requires-clause-at
-call_at-requires-clause-at g c = c.requires.at ∙ ap Some c.in-CallAt.is
-
-pub returns-in-CallAt-clause-paused : goal.returns-in-CallAt-clause-paused
-returns-in-CallAt-clause-paused g c = c.call_at.ensures.paused
-
-pub returns-in-CallAt-clause-halts : goal.returns-in-CallAt-clause-halts
-returns-in-CallAt-clause-halts g c = c.call_at.ensures.halts
-
-pub returns-in-CallAt-clause-stays : goal.returns-in-CallAt-clause-stays
-returns-in-CallAt-clause-stays g c = c.call_at.ensures.stays
 
 pub call_to-requires-clause-ready : goal.call_to-requires-clause-ready
 call_to-requires-clause-ready g c = c.requires.ready
@@ -555,20 +468,83 @@ returns-in-Halt-clause-halts g c = (refl, λ t. t)
 pub returns-in-Halt-clause-stays : goal.returns-in-Halt-clause-stays
 returns-in-Halt-clause-stays g c = (refl, λ w. w, refl)
 
-pub returns-in-Ret-clause-steps : goal.returns-in-Ret-clause-steps
-returns-in-Ret-clause-steps g c = c.return_plain.ensures.steps
-
-pub returns-in-RetV-clause-steps : goal.returns-in-RetV-clause-steps
-returns-in-RetV-clause-steps g c = c.return_value.ensures.steps
-
 pub returns-in-Call-clause-steps : goal.returns-in-Call-clause-steps
 returns-in-Call-clause-steps g c = c.call.ensures.steps
-
-pub returns-in-CallAt-clause-steps : goal.returns-in-CallAt-clause-steps
-returns-in-CallAt-clause-steps g c = c.call_at.ensures.steps
 
 pub returns-in-CallTo-clause-steps : goal.returns-in-CallTo-clause-steps
 returns-in-CallTo-clause-steps g c = c.call_to.ensures.steps
 
 pub returns-in-Combine-clause-steps : goal.returns-in-Combine-clause-steps
 returns-in-Combine-clause-steps g c = c.combine.ensures.steps
+
+pub returns-in-Ret-clause-looks : goal.returns-in-Ret-clause-looks
+returns-in-Ret-clause-looks g c = quiet_looks c.args.code.now (state_of c.args.m.now (g.C.Cells.cells c.args.view.now)) (instr.Ret) went.On _ _ c.requires.calm (c.requires.at ∙ ap Some c.in-Ret.is) tt c.return_plain.ensures.looks
+
+pub returns-in-RetV-clause-looks : goal.returns-in-RetV-clause-looks
+returns-in-RetV-clause-looks g c = quiet_looks c.args.code.now (state_of c.args.m.now (g.C.Cells.cells c.args.view.now)) (instr.RetV) went.On _ _ c.requires.calm (c.requires.at ∙ ap Some c.in-RetV.is) tt c.return_value.ensures.looks
+
+pub returns-in-CallAt-clause-looks : goal.returns-in-CallAt-clause-looks
+returns-in-CallAt-clause-looks g c = same_looks c.args.code.now (state_of c.args.m.now (g.C.Cells.cells c.args.view.now)) (instr.CallAt c.in-CallAt.sub c.in-CallAt.cell) c.call_at.result _ _ 1 c.requires.calm (c.requires.at ∙ ap Some c.in-CallAt.is) (window_looks c.args.code.now c.args.m.now (g.C.Cells.cells c.args.view.now) c.requires.ready c.requires.calm c.in-CallAt.sub c.in-CallAt.cell (c.requires.at ∙ ap Some c.in-CallAt.is)) c.call_at.ensures.looks
+
+pub returns-in-CallAt-clause-heeds : goal.returns-in-CallAt-clause-heeds
+returns-in-CallAt-clause-heeds g c = c.call_at.ensures.heeds
+
+pub returns-in-Ret-clause-heeds : goal.returns-in-Ret-clause-heeds
+returns-in-Ret-clause-heeds g c = quiet_heeds went.On _ _ _ c.return_plain.ensures.looks
+
+pub returns-in-RetV-clause-heeds : goal.returns-in-RetV-clause-heeds
+returns-in-RetV-clause-heeds g c = quiet_heeds went.On _ _ _ c.return_value.ensures.looks
+
+pub return_plain-requires-clause-ready : goal.return_plain-requires-clause-ready
+return_plain-requires-clause-ready g c = c.requires.ready
+
+pub return_plain-requires-clause-at : goal.return_plain-requires-clause-at
+return_plain-requires-clause-at g c = c.requires.at ∙ ap Some c.in-Ret.is
+
+pub returns-in-Ret-clause-paused : goal.returns-in-Ret-clause-paused
+returns-in-Ret-clause-paused g c = λ e. cc
+
+pub returns-in-Ret-clause-halts : goal.returns-in-Ret-clause-halts
+returns-in-Ret-clause-halts g c = (refl, λ t. t)
+
+pub returns-in-Ret-clause-stays : goal.returns-in-Ret-clause-stays
+returns-in-Ret-clause-stays g c = c.return_plain.ensures.stays
+
+pub return_value-requires-clause-ready : goal.return_value-requires-clause-ready
+return_value-requires-clause-ready g c = c.requires.ready
+
+pub return_value-requires-clause-at : goal.return_value-requires-clause-at
+return_value-requires-clause-at g c = c.requires.at ∙ ap Some c.in-RetV.is
+
+pub returns-in-RetV-clause-paused : goal.returns-in-RetV-clause-paused
+returns-in-RetV-clause-paused g c = λ e. cc
+
+pub returns-in-RetV-clause-halts : goal.returns-in-RetV-clause-halts
+returns-in-RetV-clause-halts g c = (refl, λ t. t)
+
+pub returns-in-RetV-clause-stays : goal.returns-in-RetV-clause-stays
+returns-in-RetV-clause-stays g c = c.return_value.ensures.stays
+
+pub call_at-requires-clause-ready : goal.call_at-requires-clause-ready
+call_at-requires-clause-ready g c = c.requires.ready
+
+pub call_at-requires-clause-at : goal.call_at-requires-clause-at
+call_at-requires-clause-at g c = c.requires.at ∙ ap Some c.in-CallAt.is
+
+pub returns-in-CallAt-clause-paused : goal.returns-in-CallAt-clause-paused
+returns-in-CallAt-clause-paused g c = c.call_at.ensures.paused
+
+pub returns-in-CallAt-clause-halts : goal.returns-in-CallAt-clause-halts
+returns-in-CallAt-clause-halts g c = c.call_at.ensures.halts
+
+pub returns-in-CallAt-clause-stays : goal.returns-in-CallAt-clause-stays
+returns-in-CallAt-clause-stays g c = c.call_at.ensures.stays
+
+pub returns-in-Ret-clause-steps : goal.returns-in-Ret-clause-steps
+returns-in-Ret-clause-steps g c = c.return_plain.ensures.steps
+
+pub returns-in-RetV-clause-steps : goal.returns-in-RetV-clause-steps
+returns-in-RetV-clause-steps g c = c.return_value.ensures.steps
+
+pub returns-in-CallAt-clause-steps : goal.returns-in-CallAt-clause-steps
+returns-in-CallAt-clause-steps g c = c.call_at.ensures.steps

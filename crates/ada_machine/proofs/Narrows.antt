@@ -1,0 +1,33 @@
+-- Numbers of 32 bits, and addresses of cells below 2 ** 30.
+use Rattle.std.proofs.Common.{◌≡◌, ℤ, pos, negsuc, ◌*ℤ◌, ◌≤ℤ◌, ◌≤◌, ◌<◌, Some, None, true, if◌then◌else◌, ap, arith, w64, FitsSigned}
+use Rattle.std.proofs.lemmas.Bool.Decides.{nat_tests}
+use Rattle.std.proofs.lemmas.Int.{ints, fits_signed_mul}
+use Rattle.std.specs.Prelude.{unsigned_abs}
+use Rattle.ada_machine.specs.Played.{cell_of}
+use Rattle.ada_base.specs.declared.operation.Base.{Base}
+use Rattle.ada_base.specs.declared.operation.Base.TheVariants.{Narrow, Wide}
+use Rattle.ada_base.specs.Operation.{is_in_base, within}
+
+-- what lies in the narrow range lies in each
+pub narrow_whole : (base : Base) (z : ℤ) → is_in_base Narrow z ≡ true → is_in_base base z ≡ true
+narrow_whole Narrow z e = e
+narrow_whole Wide (pos n) e = grind (arith, ints, nat_tests)
+narrow_whole Wide (negsuc n) e = grind (arith, ints, nat_tests)
+
+pub narrow_in : (base : Base) (z : ℤ) → is_in_base Narrow z ≡ true → within base (Some z) ≡ Some z
+narrow_in base z e = ap (λ b. if b then Some z else None) (narrow_whole base z e)
+
+narrow_abs : (z : ℤ) → is_in_base Narrow z ≡ true → unsigned_abs z ≤ 2147483648
+narrow_abs (pos n) e = grind (arith, ints, nat_tests)
+narrow_abs (negsuc n) e = grind (arith, ints, nat_tests)
+
+pub narrow_product : (x y : ℤ) → is_in_base Narrow x ≡ true → is_in_base Narrow y ≡ true → FitsSigned w64 (x *ℤ y)
+narrow_product x y e f = fits_signed_mul w64 x y 2147483648 2147483648 (narrow_abs x e) (narrow_abs y f) (omega arith)
+
+pub from_zero : (z : ℤ) → FitsSigned w64 z → cell_of z < 1073741824 → pos 0 ≤ℤ z
+from_zero (pos n) f l = omega (arith, ints)
+from_zero (negsuc n) f l = absurd (omega (arith, f.sfits, l))
+
+pub below_30 : (z : ℤ) → FitsSigned w64 z → cell_of z < 1073741824 → z ≤ℤ pos 1073741823
+below_30 (pos n) f l = omega (arith, ints, l)
+below_30 (negsuc n) f l = omega (arith, ints)
