@@ -41,8 +41,9 @@ use Rattle.lower_emission.specs.declared.types.Leaving.{Leaving}
 use Rattle.lower_emission.specs.declared.types.Leaving.TheVariants.{ByReturn, ByValue, ByEnd, ByLeave}
 use Rattle.lower_emission.specs.Emits.{Emit, Nothing, One, Seq, Choose, When, Looped, Guarded, Aside, From, listed}
 use Rattle.lower_emission.specs.Scope.{Scope, taking, nested, thread_scope, with_exit, with_entry, root_of, constant_root_of, array_root_of, none, one, load_at, address_at, store_at, address_of}
-use Rattle.lower_emission.specs.Emission.{load_by, load_named, load_where, address, is_whole, part_of, unary_instr, binary_instr, compare_instr, negated_code, counting, bounds_code, folding, combined, doubled, filling, fillings, iterated_scope, turning, entering_next, run_steps, run_turnings, turn_height, turnings, components_of, locating, locating_in, repeating, ends_code, passing, composite_width, width, cells_of, own_cell, indexed_by, item_by}
-unfoldable use Rattle.lower_emission.specs.Emission.{emit, selected, read, passed, put_into, composed, associated, component, filtered, iterated, chunk_code, course_code, threaded}
+use Rattle.lower_emission.specs.Emission.{load_by, load_named, load_where, address, is_whole, unary_instr, binary_instr, static_instr, operated_by, compare_instr, negated_code, counting, bounds_code, folding, combined, doubled, filling, fillings, iterated_scope, turning, entering_next, run_steps, run_turnings, turn_height, turnings, components_of, locating, locating_in, repeating, ends_code, passing, composite_width, width, cells_of, own_cell, indexed_by, item_by, main_named, component_address, component_value}
+use Rattle.lower_emission.proofs.Fused.{of_operated, of_component_address, of_component_value}
+unfoldable use Rattle.lower_emission.specs.Emission.{emit, named_value, selected, read, passed, put_into, composed, associated, component, filtered, iterated, chunk_code, course_code, threaded}
 use Rattle.lower_emission.specs.Statements.{no_handler, is_end, assigned, chosen, has_reason, handled_by, returning, returning_value, away, exiting, handled_target, image_instr, send_instr, piece_texts, object_here, exits_of, arm_exits, exit_code, exits_code, is_own, left_code, field_defaults, default_of, defaults_within, subtype_or_none, defaulted, declared, arms_code, chunk_by, arm_scope}
 unfoldable use Rattle.lower_emission.specs.Statements.{back_code, piece_values, stmt, all, cases, handling, arm_codes}
 use Rattle.lower_emission.specs.Bodies as code
@@ -182,9 +183,6 @@ module _ (site : ℕ) where
   few_address s h None = flat (λ q. refl)
   few_address s h (Some n) = few_address_of s h n
 
-  few_part : (s : Scope) (h : ℕ) (n : Option Named) (whole : Bool) {part : Emit} {m : ℕ} → Few part m → Few (part_of s h n whole part) m
-  few_part s h n whole f = choice whole (some (few_named s h n)) (after (few_address s h n) f)
-
   few_indexed : (s : Scope) (h : ℕ) (o : Option ℕ) (low high : ℤ) (stride : ℕ) {index : Emit} {m : ℕ} → Few index m → Few (indexed_by s h o low high stride index) m
   few_indexed s h None low high stride f = before f (flat (λ q. refl))
   few_indexed s h (Some n) low high stride f = some (flat (λ q. refl))
@@ -192,6 +190,14 @@ module _ (site : ℕ) where
   few_item : (s : Scope) (h : ℕ) (o : Option ℕ) (low high : ℤ) (stride : ℕ) {index : Emit} {m : ℕ} → Few index m → Few (item_by s h o low high stride index) m
   few_item s h None low high stride f = before f (flat (λ q. refl))
   few_item s h (Some n) low high stride f = some (flat (λ q. refl))
+
+  few_component_address : (s : Scope) (h : ℕ) (n : Option Named) (first own : Option ℕ) (low high : ℤ) (stride : ℕ) {index : Emit} {m : ℕ} → Few index m → Few (component_address s h n first own low high stride index) m
+  few_component_address s h n first own low high stride {index} {m} f =
+      of_component_address (λ a. Few a m) s h n first own low high stride index (λ g k e e'. some (flat (λ q. refl))) (after (few_address s h n) (few_indexed s (h + 1) own low high stride f))
+
+  few_component_value : (s : Scope) (h : ℕ) (n : Option Named) (first own : Option ℕ) (low high : ℤ) (stride : ℕ) {index : Emit} {m : ℕ} → Few index m → Few (component_value s h n first own low high stride index) m
+  few_component_value s h n first own low high stride {index} {m} f =
+      of_component_value (λ a. Few a m) s h n first own low high stride index (λ g k e e'. some (flat (λ q. refl))) (after (few_address s h n) (few_item s (h + 1) own low high stride f))
 
   few_unary : (s : Scope) (h : ℕ) (g : Sign) (class : Class) → Few (one s h (unary_instr g class)) 0
   few_unary s h sign.Minus class = flat (λ q. refl)
@@ -211,6 +217,10 @@ module _ (site : ℕ) where
   few_binary s h op.Xor class = flat (λ q. refl)
   few_binary s h op.Max class = flat (λ q. refl)
   few_binary s h op.Min class = flat (λ q. refl)
+
+  few_operated : (s : Scope) (h : ℕ) (x : Op) (class : Class) (f : Expr) {right : Emit} {m : ℕ} → Few right m → Few (operated_by s h (static_instr x class f) (binary_instr x class) right) m
+  few_operated s h x class f {right} {m} k =
+      of_operated (λ a. Few a m) s h x class f (binary_instr x class) right (λ v. some (flat (λ q. refl))) (λ v. some (flat (λ q. refl))) (λ v. some (flat (λ q. refl))) (λ v. some (flat (λ q. refl))) (before k (few_binary s (h + 1) x class))
 
   few_compare : (s : Scope) (h : ℕ) (r : Comparison) → Few (one s h (compare_instr r)) 0
   few_compare s h comparison.Equal = flat (λ q. refl)
@@ -336,18 +346,12 @@ module _ (site : ℕ) where
     whole_selected s h (Field number offset rest) e = absurd (true≢false (sym e))
     whole_selected s h (Index at f low high stride rest) e = absurd (true≢false (sym e))
 
-    whole_read : (s : Scope) (h : ℕ) (x : Selections) → is_whole x ≡ true → Few (read program s h x) 0
-    unfolding read
-    whole_read s h Whole e = flat (λ q. refl)
-    whole_read s h (Field number offset rest) e = absurd (true≢false (sym e))
-    whole_read s h (Index at f low high stride rest) e = absurd (true≢false (sym e))
-
     -- a plain value has no fork
     plain_emit : (s : Scope) (h : ℕ) (e : Expr) → is_plain_expr e ≡ true → Few (emit program s h e) 0
     unfolding emit
     plain_emit s h (Static at value literal mentions) w = flat (λ q. refl)
-    plain_emit s h (Variable at r selections scalar) w = few_part s h (root_of s r) (is_whole selections) (whole_read s (h + 1) selections w)
-    plain_emit s h (Constant at r selections scalar) w = few_part s h (constant_root_of s r) (is_whole selections) (whole_read s (h + 1) selections w)
+    plain_emit s h (Variable at r Whole scalar) w = few_named s h (root_of s r)
+    plain_emit s h (Constant at r Whole scalar) w = few_named s h (constant_root_of s r)
     plain_emit s h (Parameter at k) w = few_where s h (s.parameter k)
     plain_emit s h (Target at scalar) w = few_named s h s.target
     plain_emit s h e w = absurd (true≢false (sym w))
@@ -392,13 +396,13 @@ module _ (site : ℕ) where
 
       few_emit : (o : Option ℕ) (s : Scope) (h : ℕ) (e : Expr) → SitedExpr program o e → Few (emit program s h e) (in_expr site e)
       few_emit _ s h (Static at value literal mentions) w = some (flat (λ q. refl))
-      few_emit _ s h (Variable at r selections scalar) w = few_part s h (root_of s r) (is_whole selections) (few_read _ s (h + 1) selections w)
-      few_emit _ s h (Constant at r selections scalar) w = few_part s h (constant_root_of s r) (is_whole selections) (few_read _ s (h + 1) selections w)
+      few_emit _ s h (Variable at r selections scalar) w = few_value _ s h (root_of s r) selections w
+      few_emit _ s h (Constant at r selections scalar) w = few_value _ s h (constant_root_of s r) selections w
       few_emit _ s h (Parameter at k) w = few_where s h (s.parameter k)
       few_emit _ s h (Target at scalar) w = few_named s h s.target
       few_emit _ s h (Group e) w = few_emit _ s h e w
       few_emit _ s h (Unary at g class e) w = before (few_emit _ s h e w) (few_unary s (h + 1) g class)
-      few_emit _ s h (Binary at x class e f) w = join (few_emit _ s h e w.0) (before (few_emit _ s (h + 1) f w.1) (few_binary s (h + 1 + 1) x class))
+      few_emit _ s h (Binary at x class e f) w = join (few_emit _ s h e w.0) (few_operated s (h + 1) x class f (few_emit _ s (h + 1) f w.1))
       few_emit _ s h (AndThen e f) w = join (few_emit _ s h e w.0) (less (omega arith) (either (few_emit _ s h f w.1) (flat (λ q. refl))))
       few_emit _ s h (OrElse e f) w = join (few_emit _ s h e w.0) (less (omega arith) (either (flat (λ q. refl)) (few_emit _ s h f w.1)))
       few_emit _ s h (Relation class r e f) w = join (few_emit _ s h e w.0) (before (few_emit _ s (h + 1) f w.1) (few_compare s (h + 1 + 1) r))
@@ -416,6 +420,13 @@ module _ (site : ℕ) where
       few_optional_then : (o : Option ℕ) (s : Scope) (h : ℕ) (filter : Optional) {b : Emit} {n : ℕ} → SitedOptional program o filter → Few b n → Few (filtered program s h filter b) (in_optional site filter + n)
       few_optional_then _ s h Absent w f = less (omega arith) f
       few_optional_then _ s h (Present e) w f = join (few_emit _ s h e w) (perhaps f)
+
+      few_value : (o : Option ℕ) (s : Scope) (h : ℕ) (n : Option Named) (x : Selections) → SitedSelections program o x → Few (named_value program s h n x) (in_selections site x)
+      few_value _ s h n Whole w = few_named s h n
+      few_value _ s h n (Field number offset rest) w = after (few_address s h n) (after (flat (λ q. refl)) (few_read _ s (h + 1) rest w))
+      few_value _ s h n (Index at e low high stride rest) w =
+          choice (is_whole rest) (less (omega arith) (few_component_value s h n (main_named n) (own_cell s e) low high stride (few_emit _ s (h + 1) e w.0)))
+          (join (few_component_address s h n (main_named n) (own_cell s e) low high stride (few_emit _ s (h + 1) e w.0)) (few_read _ s (h + 1) rest w.1))
 
       few_selected : (o : Option ℕ) (s : Scope) (h : ℕ) (x : Selections) → SitedSelections program o x → Few (selected program s h x) (in_selections site x)
       few_selected _ s h Whole w = flat (λ q. refl)

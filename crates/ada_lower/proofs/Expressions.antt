@@ -36,7 +36,7 @@ use Rattle.ada_lower.proofs.Courses.{comes_kept, course_does, fit_uncount, count
 use Rattle.ada_lower.proofs.Sent.{Sent, HaveCells, sent_in, suits_in, all_passed, pieces, aheads, pieces_in, aheads_in, have_cells, AreSuited, also_then}
 use Rattle.ada_lower.proofs.Scattered.{AreFree, scattering, fit_unscattered, fewer_scattered, both_kept}
 use Rattle.ada_lower.proofs.Passing.{Passing, passing_none, passing_more, placing}
-use Rattle.ada_lower.proofs.Indexing.{index_does, item_does}
+use Rattle.ada_lower.proofs.Indexing.{index_does, item_does, named_index_does, named_item_does}
 use Rattle.ada_lower.proofs.Names.{root_refers, constant_root_refers, index_below, does_by, does_load, comes_address, comes_number}
 use Rattle.std.proofs.lemmas.Bool.{ne_eqb}
 use Rattle.ada_lower.proofs.Copies.{does_copy}
@@ -44,7 +44,7 @@ use Rattle.ada_lower.proofs.Plain.{s_value}
 use Rattle.ada_meaning.specs.Meaning
 use Rattle.stack_code.specs.declared.instr.Instr.TheVariants as i
 pub use Rattle.ada_lower.proofs.Operands.{does_hold, address_stands, load_stands, named_does, knows_two, fewer_kept_back, fewer_one_more}
-use Rattle.ada_lower.proofs.Operands.{ends_at, push_does, unary_does, compare_deed, choice_does, reads_at, reads_by, comes_within, comes_negated, rows, ends_ret}
+use Rattle.ada_lower.proofs.Operands.{ends_at, push_does, unary_does, operated_does, compare_deed, choice_does, reads_at, reads_by, comes_within, comes_negated, rows, ends_ret}
 use Rattle.ada_lower.proofs.Aggregates as aggregates
 pub use Rattle.ada_lower.proofs.Aggregates.{spread_part}
 use Rattle.ada_lower.proofs.Aggregates.{each_plain, all_runs, all_turnings, component_does, zeros_length, fewer_kept, fill_goes, either_do, turn_env, turn_values}
@@ -251,13 +251,10 @@ module _ (limit : ℕ) (cuts : ℕ → ℕ → List ℕ) (program : Program) (c 
     valued f calls_do B (Unary at sg class e) from to s h st k en w l =
         let (m, l1, (j, z)) = stands_seq c from to (emit program s.scope h e) (one s.scope (h + 1) (unary_instr sg class)) l in
         ends_at limit cuts program c f x calls globals mains epar calls_do _ _ from (m + 1) to st z (does_bind limit c f x (valued f calls_do B e from m s h st k en w l1) (λ v _. unary_does limit cuts program c f x calls globals mains epar calls_do sg at class v st (at_entry en j)))
-    valued f calls_do B (Binary at op class e e') from to s h st k en w l =
-        let (m1, l1, l2) = stands_seq c from to (emit program s.scope h e) (emit program s.scope (h + 1) e' ⨟ one s.scope (h + 1 + 1) (binary_instr op class)) l in
-        let (m2, l3, (j, z)) = stands_seq c m1 to (emit program s.scope (h + 1) e') (one s.scope (h + 1 + 1) (binary_instr op class)) l2 in
-        ends_at limit cuts program c f x calls globals mains epar calls_do _ _ from (m2 + 1) to st z
-        (does_bind limit c f x (valued f calls_do B e from m1 s h st k en w.0 l1) (λ u _.
-        does_bind limit c f x (valued f calls_do B e' m1 m2 s (h + 1) (u ∷ st) k en w.1 l3) (λ v _.
-        does_operate limit c f x op at class u v st (at_entry en j))))
+    valued f calls_do B (Binary at op class e e') from to {g} {env} s h st k en w l =
+        let (m, l1, l2) = stands_seq c from to (emit program s.scope h e) (Emission.operated_by s.scope (h + 1) (Emission.static_instr op class e') (binary_instr op class) (emit program s.scope (h + 1) e')) l in
+        does_bind limit c f x (valued f calls_do B e from m s h st k en w.0 l1) (λ u _.
+        operated_does limit cuts program c f x calls globals mains epar calls_do e' env op at class m to s h u st en (λ r l. valued f calls_do B e' m r s (h + 1) (u ∷ st) k en w.1 l) l2)
     valued f calls_do B (AndThen e e') from to s h st k en w l =
         let (m1, l1, l2) = stands_seq c from to (emit program s.scope h e) (Rattle.ada_lower.specs.Sights.choose s.scope h (h + 1) (emit program s.scope h e') (one s.scope h (i.Push (pos 0)))) l in
         does_bind limit c f x (valued f calls_do B e from m1 s h st k en w.0 l1) (λ u _.
@@ -288,26 +285,10 @@ module _ (limit : ℕ) (cuts : ℕ → ℕ → List ℕ) (program : Program) (c 
         ends_at limit cuts program c f x calls globals mains epar calls_do g (stored.ret (env.parameter p)) from (from + 1) to st z (does_by limit c f x (λ t d fit. comes_number limit c f w (env.parameter p) st d fit (k.parameter p w e) j) (does_ret limit c f x (env.parameter p) tt))
     valued f calls_do B (Target at scalar) from to {g} {env} s h st k en (n, e, some) l =
         does_load limit c f x s h n (VariableOf env.target.object) env.target.offset st en some (k.target n e) (load_stands limit cuts program c f x calls globals mains epar calls_do s h s.scope.target n from to e l)
-    valued f calls_do B (Variable at r Whole scalar) from to {g} {env} s h st k en ((n, e, some), w) l =
-        does_returned limit c f x (λ p. stored.reads (VariableOf p.object) p.offset) (variable_root r env)
-        (does_load limit c f x s h n (VariableOf (variable_root r env).object) (variable_root r env).offset st en some (root_refers r n k e) (load_stands limit cuts program c f x calls globals mains epar calls_do s h (root_of s.scope r) n from to e l))
     valued f calls_do B (Variable at r selections scalar) from to {g} {env} s h st k en ((n, e, reach), w) l =
-        let o : ObjectPart = variable_root r env in
-        let u : Refers g f n (VariableOf o.object) o.offset = root_refers r n k e in
-        let (m1, l1, l2) = stands_seq c from to (Emission.address s.scope h (root_of s.scope r)) (read program s.scope (h + 1) selections) l in
-        let (j1, z1) = address_stands limit cuts program c f x calls globals mains epar calls_do s h (root_of s.scope r) n from m1 e l1 in
-        named_does limit cuts program c f x calls globals mains epar calls_do from m1 n (VariableOf o.object) o.offset st u j1 z1
-        (reading f calls_do B selections (λ y. VariableOf y) m1 to s (h + 1) st o o.object u.address o.offset n.cells n.cells refl k en w reach (le_refl o.offset) (le_refl (o.offset + n.cells)) u.spread l2)
-    valued f calls_do B (Constant at r Whole scalar) from to {g} {env} s h st k en ((n, e, some), w) l =
-        does_returned limit c f x (λ p. stored.reads (ConstantOf p.object) p.offset) (constant_root r env)
-        (does_load limit c f x s h n (ConstantOf (constant_root r env).object) (constant_root r env).offset st en some (constant_root_refers r n k e) (load_stands limit cuts program c f x calls globals mains epar calls_do s h (constant_root_of s.scope r) n from to e l))
+        named f calls_do B selections (λ y. VariableOf y) from to s h st (variable_root r env) (root_of s.scope r) n e (root_refers r n k e) k en w reach l
     valued f calls_do B (Constant at r selections scalar) from to {g} {env} s h st k en ((n, e, reach), w) l =
-        let o : ObjectPart = constant_root r env in
-        let u : Refers g f n (ConstantOf o.object) o.offset = constant_root_refers r n k e in
-        let (m1, l1, l2) = stands_seq c from to (Emission.address s.scope h (constant_root_of s.scope r)) (read program s.scope (h + 1) selections) l in
-        let (j1, z1) = address_stands limit cuts program c f x calls globals mains epar calls_do s h (constant_root_of s.scope r) n from m1 e l1 in
-        named_does limit cuts program c f x calls globals mains epar calls_do from m1 n (ConstantOf o.object) o.offset st u j1 z1
-        (reading f calls_do B selections (λ y. ConstantOf y) m1 to s (h + 1) st o o.object u.address o.offset n.cells n.cells refl k en w reach (le_refl o.offset) (le_refl (o.offset + n.cells)) u.spread l2)
+        named f calls_do B selections (λ y. ConstantOf y) from to s h st (constant_root r env) (constant_root_of s.scope r) n e (constant_root_refers r n k e) k en w reach l
     valued f calls_do B (Membership class negated e low high) from to {g} {env} s h st k en (room, we, wl, wh) l =
         let (m1, l1, (j1, r1)) = stands_seq c from to (emit program s.scope h e) (Emission.keep s.scope (h + 1) s.scope.free ⨟ emit program (taking 1 s).scope h low ⨟ Emission.keep s.scope (h + 1) (s.scope.free + 1) ⨟ emit program (taking 2 s).scope h high ⨟ Emission.within s.scope h s.scope.free ⨟ Emission.negated_code s.scope h negated) l in
         let (m2, l2, (j2, r2)) = stands_seq c (m1 + 1) to (emit program (taking 1 s).scope h low) (Emission.keep s.scope (h + 1) (s.scope.free + 1) ⨟ emit program (taking 2 s).scope h high ⨟ Emission.within s.scope h s.scope.free ⨟ Emission.negated_code s.scope h negated) r1 in
@@ -452,6 +433,45 @@ module _ (limit : ℕ) (cuts : ℕ → ℕ → List ℕ) (program : Program) (c 
         let b : t * stride + stride ≤ count low high * stride = rows limit cuts program c f x calls globals mains epar calls_do t (count low high) stride lt in
         does_before limit c f x (λ d. subst (λ q. To limit c (on f m1 (pos (a + (p.offset - first) + t * stride) ∷ st) d) (on f m1 (pos q ∷ st) d)) z (comes_here limit c _))
         (picked f calls_do B rest m1 to s h st (Meaning.moved p (t * stride)) a first total stride m k en w.1 reach (omega (arith, le)) (omega (arith, room, r, b)) l2)))
+
+    -- what is named is read, or what selections of it lead to
+    named : (f : Fixed) (calls_do : InnerDo limit cuts program globals mains epar c f calls) → (B : Type 0) → (t : Selections) (y : ℕ → Entity) (from to : ℕ) {g : Ghost} {env : Env} (s : Sight) (h : ℕ) (st : List ℤ) (p : ObjectPart) (o : Option Named) (n : Named) → o ≡ Some n → (u : Refers g f n (y p.object) p.offset) → Knows limit cuts g f s env → s.scope.entry ≡ x.entry → FittedSelections program globals mains epar s t → Reaches n.cells t 1
+        → Stands c (Emission.named_value program s.scope h o t) from to
+        → Runs limit c f x g any (stored.bind (Meaning.select oper limit program calls t env p) (λ r. stored.reads (y r.object) r.offset)) (λ d. on f from st d) (λ v d. on f to (v ∷ st) d)
+    named f calls_do B Whole y from to s h st p o n e u k en w reach l =
+        does_returned limit c f x (λ r. stored.reads (y r.object) r.offset) p
+        (does_load limit c f x s h n (y p.object) p.offset st en reach u (load_stands limit cuts program c f x calls globals mains epar calls_do s h o n from to e l))
+    named f calls_do B (Field number offset rest) y from to s h st p o n e u k en w (i', r, reach) l =
+        let (m1, l1, (j, l2)) = stands_seq c from to (Emission.address s.scope h o) (one s.scope (h + 1) (i.Field offset) ⨟ read program s.scope (h + 1) rest) l in
+        let (j1, z1) = address_stands limit cuts program c f x calls globals mains epar calls_do s h o n from m1 e l1 in
+        let z : u.address + (p.offset - p.offset) + offset ≡ u.address + (p.offset + offset - p.offset) = omega arith in
+        named_does limit cuts program c f x calls globals mains epar calls_do from m1 n (y p.object) p.offset st u j1 z1
+        (does_before limit c f x (λ d. comes_goes limit c f (pos (u.address + (p.offset - p.offset)) ∷ st) (m1 + 1) (pos (u.address + (p.offset + offset - p.offset)) ∷ st) d j (ap (λ v. GoesOn (m1 + 1) (pos v ∷ (st ++ f.below))) z))
+        (reading f calls_do B rest y (m1 + 1) to s (h + 1) st (Meaning.moved p offset) p.object u.address p.offset n.cells i' refl k en w reach (omega arith) (omega (arith, r)) u.spread l2))
+    named f calls_do B (Index at e low high stride Whole) y from to s h st p o n some u k en w (r, reach) l =
+        does_assoc limit c f x _ _ _
+        (named_item_does limit cuts program c f x calls globals mains epar e o n from to s h at low high stride (y p.object) p.offset u st _ some k en w.0 (λ a b l. valued f calls_do B e a b s (h + 1) (pos u.address ∷ st) k en w.0 l) l (λ v mid last checked reads.
+        does_assoc limit c f x _ _ _
+        (does_bind limit c f x checked (λ _ is.
+        let t : ℕ = to_nat (v -ℤ low) in
+        let lt : t < count low high = (index_below low v high is).0 in
+        let z : u.address + t * stride ≡ u.address + (p.offset + t * stride - p.offset) = omega arith in
+        let b : t * stride + stride ≤ count low high * stride = rows limit cuts program c f x calls globals mains epar calls_do t (count low high) stride lt in
+        does_returned limit c f x (λ r. stored.reads (y r.object) r.offset) (Meaning.moved p (t * stride))
+        (reads_by limit cuts program c f x calls globals mains epar calls_do y (Meaning.moved p (t * stride)) p.object p.offset u.address n.cells refl (omega arith) (omega (arith, r, b, reach)) u.spread
+        (λ v d seen. reads v d (subst (λ n. value_in (slice_get d.cells n) ≡ Some v) (sym z) seen)))))))
+    named f calls_do B (Index at e low high stride rest) y from to s h st p o n some u k en w (r, reach) l =
+        let (m1, l1, l2) = stands_seq c from to (Emission.component_address s.scope h o (Emission.main_named o) (Emission.own_cell s.scope e) low high stride (emit program s.scope (h + 1) e)) (read program s.scope (h + 1) rest) l in
+        does_assoc limit c f x _ _ _
+        (named_index_does limit cuts program c f x calls globals mains epar e o n from m1 s h at low high stride (y p.object) p.offset u st _ some k en w.0 (λ a b l. valued f calls_do B e a b s (h + 1) (pos u.address ∷ st) k en w.0 l) l1 (λ v mid checked.
+        does_assoc limit c f x _ _ _
+        (does_bind limit c f x checked (λ _ is.
+        let t : ℕ = to_nat (v -ℤ low) in
+        let lt : t < count low high = (index_below low v high is).0 in
+        let z : u.address + t * stride ≡ u.address + (p.offset + t * stride - p.offset) = omega arith in
+        let b : t * stride + stride ≤ count low high * stride = rows limit cuts program c f x calls globals mains epar calls_do t (count low high) stride lt in
+        does_before limit c f x (λ d. subst (λ q. To limit c (on f m1 (pos (u.address + t * stride) ∷ st) d) (on f m1 (pos q ∷ st) d)) z (comes_here limit c _))
+        (reading f calls_do B rest y m1 to s (h + 1) st (Meaning.moved p (t * stride)) p.object u.address p.offset n.cells stride refl k en w.1 reach (omega arith) (omega (arith, r, b)) u.spread l2)))))
 
     -- what selections lead to is read
     reading : (f : Fixed) (calls_do : InnerDo limit cuts program globals mains epar c f calls) → (B : Type 0) → (t : Selections) (y : ℕ → Entity) (from to : ℕ) {g : Ghost} {env : Env} (s : Sight) (h : ℕ) (st : List ℤ) (p : ObjectPart) (o a first total n : ℕ) → p.object ≡ o → Knows limit cuts g f s env → s.scope.entry ≡ x.entry → FittedSelections program globals mains epar s t → Reaches n t 1

@@ -21,7 +21,8 @@ use Rattle.stack_code.specs.Stands.{IsTarget}
 use Rattle.lower_emission.specs.Emits.{Emit}
 use Rattle.lower_emission.specs.Scope.{Scope, own, taking, with_exit, with_parameter, with_item, nested, thread_scope, load_at, address_at, load_of, address_of, none, one, ◌⨟◌, root_of, constant_root_of}
 use Rattle.ada_lower.specs.Sights.{Level, Own, Around, Main, Where, Named}
-use Rattle.ada_lower.specs.Emission.{emit, read, selected, passed, put_into, composed, associated, component, filtered, iterated, chunk_code, course_code, threaded, lost, checked, load_by, load, load_named, load_where, address, is_whole, part_of, unary_instr, binary_instr, compare_instr, falsity, truth, within, negated_code, leaving_by, first_parameter, range_scope, item_scope, counting, bounds_code, ascending, stepping, folding, ranged, combined, doubled, filling, fillings, is_plain, is_repeated, iterated_scope, turning, turnings, entering, entering_next, run_steps, run_turnings, turn_height, components_of, locating, locating_in, repeating, width, composite_width, array_root_of, chunk_scope, raise_above, raise_beyond, ends_code, fork_code, turns_code, items_code, turn_range, turn_component, cells_of, formal_of, passing, own_cell, indexed_by, item_by}
+use Rattle.ada_lower.specs.Emission.{emit, named_value, read, selected, passed, put_into, composed, associated, component, filtered, iterated, chunk_code, course_code, threaded, lost, checked, load_by, load, load_named, load_where, address, is_whole, unary_instr, binary_instr, static_instr, operated_by, compare_instr, falsity, truth, within, negated_code, leaving_by, first_parameter, range_scope, item_scope, counting, bounds_code, ascending, stepping, folding, ranged, combined, doubled, filling, fillings, is_plain, is_repeated, iterated_scope, turning, turnings, entering, entering_next, run_steps, run_turnings, turn_height, components_of, locating, locating_in, repeating, width, composite_width, array_root_of, chunk_scope, raise_above, raise_beyond, ends_code, fork_code, turns_code, items_code, turn_range, turn_component, cells_of, formal_of, passing, own_cell, indexed_by, item_by, main_named, component_address, component_value}
+use Rattle.lower_emission.proofs.Fused.{of_operated, of_component_address, of_component_value}
 use Rattle.ada_lower.proofs.Forward.{BeginsTurn, Also, Fore}
 
 -- the handler and the exits that are known where code is emitted are landmarks
@@ -87,6 +88,10 @@ module _ (l t : ℕ → Type 0) (s : Scope) (k : Known l s) where
   fore_binary h op.Max class = ((λ n z. absurd z), k.0)
   fore_binary h op.Min class = ((λ n z. absurd z), k.0)
 
+  pub fore_operated : (h : ℕ) (o : Op) (class : Class) (f : Expr) (right : Emit) → Fore l t right → Fore l t (operated_by s h (static_instr o class f) (binary_instr o class) right)
+  fore_operated h o class f right m =
+      of_operated (λ a. Fore l t a) s h o class f (binary_instr o class) right (λ v. ((λ n z. absurd z), k.0)) (λ v. ((λ n z. absurd z), k.0)) (λ v. ((λ n z. absurd z), k.0)) (λ v. ((λ n z. absurd z), k.0)) (m, fore_binary (h + 1) o class)
+
   fore_compare : (h : ℕ) (c : Comparison) → Fore l t (one s h (compare_instr c))
   fore_compare h comparison.Equal = ((λ n z. absurd z), k.0)
   fore_compare h comparison.Unequal = ((λ n z. absurd z), k.0)
@@ -117,9 +122,6 @@ module _ (l t : ℕ → Type 0) (s : Scope) (k : Known l s) where
   fore_address h None = ((λ n z. absurd z), k.0)
   fore_address h (Some n) = fore_address_of h n
 
-  pub fore_part : (h : ℕ) (o : Option Named) (whole : Bool) (part : Emit) → Fore l t part → Fore l t (part_of s h o whole part)
-  fore_part h o whole part f = fore_cond whole (load_named s h o) (address s h o ⨟ part) (fore_load_named h o) (fore_address h o, f)
-
   pub fore_indexed : (h : ℕ) (o : Option ℕ) (low high : ℤ) (stride : ℕ) (index : Emit) → Fore l t index → Fore l t (indexed_by s h o low high stride index)
   fore_indexed h None low high stride index f = (f, ((λ n z. absurd z), k.0))
   fore_indexed h (Some n) low high stride index f = ((λ n z. absurd z), k.0)
@@ -127,6 +129,14 @@ module _ (l t : ℕ → Type 0) (s : Scope) (k : Known l s) where
   pub fore_item : (h : ℕ) (o : Option ℕ) (low high : ℤ) (stride : ℕ) (index : Emit) → Fore l t index → Fore l t (item_by s h o low high stride index)
   fore_item h None low high stride index f = (f, ((λ n z. absurd z), k.0))
   fore_item h (Some n) low high stride index f = ((λ n z. absurd z), k.0)
+
+  pub fore_component_address : (h : ℕ) (o : Option Named) (first own : Option ℕ) (low high : ℤ) (stride : ℕ) (index : Emit) → Fore l t index → Fore l t (component_address s h o first own low high stride index)
+  fore_component_address h o first own low high stride index f =
+      of_component_address (λ a. Fore l t a) s h o first own low high stride index (λ g j e e'. ((λ n z. absurd z), k.0)) (fore_address h o, fore_indexed (h + 1) own low high stride index f)
+
+  pub fore_component_value : (h : ℕ) (o : Option Named) (first own : Option ℕ) (low high : ℤ) (stride : ℕ) (index : Emit) → Fore l t index → Fore l t (component_value s h o first own low high stride index)
+  fore_component_value h o first own low high stride index f =
+      of_component_value (λ a. Fore l t a) s h o first own low high stride index (λ g j e e'. ((λ n z. absurd z), k.0)) (fore_address h o, fore_item (h + 1) own low high stride index f)
 
   fore_within : (h d : ℕ) → Fore l t (within s h d)
   fore_within h d = (((λ n z. absurd z), k.0), (((λ n z. absurd z), k.0), (((λ n z. absurd z), k.0), (((λ n z. absurd z), k.0), (((λ n z. absurd z), k.0), ((λ n z. absurd z), k.0))))))
@@ -269,13 +279,13 @@ module _ (program : Program) where
 
     pub fore_emit : (l t : ℕ → Type 0) (s : Scope) (h : ℕ) (x : Expr) → Known l s → Fore l t (emit program s h x)
     fore_emit l t s h (Static at value literal mentions) k = ((λ n z. absurd z), k.0)
-    fore_emit l t s h (Variable at r selections scalar) k = fore_part l t s k h (root_of s r) (is_whole selections) (read program s (h + 1) selections) (fore_read l t s (h + 1) selections k)
-    fore_emit l t s h (Constant at r selections scalar) k = fore_part l t s k h (constant_root_of s r) (is_whole selections) (read program s (h + 1) selections) (fore_read l t s (h + 1) selections k)
+    fore_emit l t s h (Variable at r selections scalar) k = fore_value l t s h (root_of s r) selections k
+    fore_emit l t s h (Constant at r selections scalar) k = fore_value l t s h (constant_root_of s r) selections k
     fore_emit l t s h (Parameter at j) k = fore_load_where l t s k h (s.parameter j)
     fore_emit l t s h (Target at scalar) k = fore_load_named l t s k h s.target
     fore_emit l t s h (Group e) k = fore_emit l t s h e k
     fore_emit l t s h (Unary at g class e) k = (fore_emit l t s h e k, fore_unary l t s k (h + 1) g class)
-    fore_emit l t s h (Binary at o class e f) k = (fore_emit l t s h e k, (fore_emit l t s (h + 1) f k, fore_binary l t s k (h + 1 + 1) o class))
+    fore_emit l t s h (Binary at o class e f) k = (fore_emit l t s h e k, fore_operated l t s k (h + 1) o class f (emit program s (h + 1) f) (fore_emit l t s (h + 1) f k))
     fore_emit l t s h (AndThen e f) k = (fore_emit l t s h e k, (k.0, (fore_emit l t s h f k, ((λ n z. absurd z), k.0))))
     fore_emit l t s h (OrElse e f) k = (fore_emit l t s h e k, (k.0, (((λ n z. absurd z), k.0), fore_emit l t s h f k)))
     fore_emit l t s h (Relation class c e f) k = (fore_emit l t s h e k, (fore_emit l t s (h + 1) f k, fore_compare l t s k (h + 1 + 1) c))
@@ -331,6 +341,13 @@ module _ (program : Program) where
         ),
       ),
     )
+
+    fore_value : (l t : ℕ → Type 0) (s : Scope) (h : ℕ) (o : Option Named) (x : Selections) → Known l s → Fore l t (named_value program s h o x)
+    fore_value l t s h o Whole k = fore_load_named l t s k h o
+    fore_value l t s h o (Field number offset rest) k = (fore_address l t s k h o, (((λ n z. absurd z), k.0), fore_read l t s (h + 1) rest k))
+    fore_value l t s h o (Index at e low high stride rest) k =
+        fore_cond l t s k (is_whole rest) _ _ (fore_component_value l t s k h o (main_named o) (own_cell s e) low high stride (emit program s (h + 1) e) (fore_emit l t s (h + 1) e k))
+        (fore_component_address l t s k h o (main_named o) (own_cell s e) low high stride (emit program s (h + 1) e) (fore_emit l t s (h + 1) e k), fore_read l t s (h + 1) rest k)
 
     pub fore_selected : (l t : ℕ → Type 0) (s : Scope) (h : ℕ) (x : Selections) → Known l s → Fore l t (selected program s h x)
     fore_selected l t s h Whole k = tt

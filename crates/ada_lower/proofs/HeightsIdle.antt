@@ -8,7 +8,7 @@ use Rattle.stack_code.specs.declared.code.SiteKind.TheVariants as kind
 use Rattle.stack_code.specs.declared.instr.Instr.TheVariants as i
 use Rattle.stack_code.specs.Operands.{answered_by, is_reduction}
 use Rattle.stack_code.proofs.Standing.{has_one}
-use Rattle.stack_code.proofs.Slacks.{has_map}
+use Rattle.stack_code.proofs.Lists.{has_map}
 use Rattle.lower_emission.specs.declared.types.Placed.{Placed}
 use Rattle.lower_emission.specs.Scope.{none}
 use Rattle.lower_emission.specs.Bodies.{main_scope}

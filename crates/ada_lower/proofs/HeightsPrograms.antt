@@ -15,7 +15,7 @@ use Rattle.stack_code.specs.declared.instr.Instr.{Instr}
 use Rattle.stack_code.specs.declared.instr.Instr.TheVariants as i
 use Rattle.stack_code.specs.Valid.{Has, HasFrame, Lands, IsEarlier, SiteFits, SubFits, IsValid}
 use Rattle.stack_code.proofs.Standing.{has_one, has_fact}
-use Rattle.stack_code.proofs.Slacks.{has_map}
+use Rattle.stack_code.proofs.Lists.{has_map}
 use Rattle.lower_emission.specs.declared.types.Named.{Named}
 use Rattle.lower_emission.specs.declared.types.Leaving.{Leaving}
 use Rattle.lower_emission.specs.declared.types.Leaving.TheVariants.{ByEnd}

@@ -17,7 +17,8 @@ use Rattle.typed_tree.specs.declared.expressions.Sign.{Sign}
 use Rattle.typed_tree.specs.declared.expressions.Sign.TheVariants as sign
 use Rattle.typed_tree.specs.declared.expressions.Root.{Root}
 use Rattle.typed_tree.specs.declared.expressions.Root.TheVariants as root
-use Rattle.typed_tree.specs.Syntax.{Chunk, NoChunk, Count, Each}
+use Rattle.typed_tree.specs.Syntax.{Expr, Chunk, NoChunk, Count, Each}
+use Rattle.ada_meaning.specs.Values.{base_of}
 use Rattle.stack_code.specs.declared.code.Around.{Around as Body}
 use Rattle.stack_code.specs.declared.code.Around.TheVariants.{Sub, Site}
 use Rattle.stack_code.specs.declared.code.Code.{Code}
@@ -26,7 +27,7 @@ use Rattle.stack_code.specs.declared.instr.Instr.TheVariants as i
 use Rattle.stack_code.specs.Operands.{takes, pushes, given_by}
 use Rattle.stack_code.specs.Valid.{Has, outward, around_of}
 use Rattle.stack_code.proofs.Standing.{has_one}
-use Rattle.stack_code.proofs.Slacks.{has_map}
+use Rattle.stack_code.proofs.Lists.{has_map}
 use Rattle.lower_emission.specs.declared.types.Where.{Where}
 use Rattle.lower_emission.specs.declared.types.Named.{Named}
 use Rattle.lower_emission.specs.declared.types.Mark.{Mark}
@@ -34,7 +35,8 @@ use Rattle.lower_emission.specs.declared.types.Level.{Level}
 use Rattle.lower_emission.specs.declared.types.Level.TheVariants.{Own, Around, Main}
 use Rattle.lower_emission.specs.Emits.{Emit}
 use Rattle.lower_emission.specs.Scope.{Scope, own, taking, nested, thread_scope, with_object, with_parameter, with_item, with_target, with_handled, with_exit, with_entry, root_of, constant_root_of, array_root_of, mark, none, one, keep, ◌⨟◌, load_at, address_at, store_at, address_of, outer_level, outer_where, outer_named, moved_where, moved_named}
-use Rattle.lower_emission.specs.Emission.{checked, load_by, load_named, load_where, address, part_of, indexed_by, item_by, unary_instr, binary_instr, compare_instr, within, negated_code, leaving_by, counting, bounds_code, ascending, stepping, chunk_scope, raise_above, raise_beyond}
+use Rattle.lower_emission.specs.Emission.{checked, load_by, load_named, load_where, address, indexed_by, item_by, main_level, main_named, component_address, component_value, unary_instr, binary_instr, static_instr, operated_by, compare_instr, within, negated_code, leaving_by, counting, bounds_code, ascending, stepping, chunk_scope, raise_above, raise_beyond}
+use Rattle.lower_emission.proofs.Fused.{of_operated, of_component_address, of_component_value}
 use Rattle.ada_lower.proofs.Heights.{Place, Here, up, Also, In, Kept, Step, Firm}
 
 abbrev pub at : Scope → ℕ → Place
@@ -56,6 +58,10 @@ IsPlain (i.Add b) = Unit {0}
 IsPlain (i.Sub b) = Unit {0}
 IsPlain (i.Mul b) = Unit {0}
 IsPlain (i.Div b) = Unit {0}
+IsPlain (i.AddI v b) = Unit {0}
+IsPlain (i.SubI v b) = Unit {0}
+IsPlain (i.MulI v b) = Unit {0}
+IsPlain (i.ModI v b) = Unit {0}
 IsPlain (i.Mod b) = Unit {0}
 IsPlain (i.Rem b) = Unit {0}
 IsPlain (i.Pow b) = Unit {0}
@@ -237,6 +243,10 @@ module _ (c : Code) where
     plain_step m mk base (i.Add b) w = record { here = refl; marked = mk; base = base; operands = refl; begun = omega arith; ways = refl; belongs = λ q. tt }
     plain_step m mk base (i.Sub b) w = record { here = refl; marked = mk; base = base; operands = refl; begun = omega arith; ways = refl; belongs = λ q. tt }
     plain_step m mk base (i.Mul b) w = record { here = refl; marked = mk; base = base; operands = refl; begun = omega arith; ways = refl; belongs = λ q. tt }
+    plain_step m mk base (i.AddI v b) w = record { here = refl; marked = mk; base = base; operands = refl; begun = omega arith; ways = refl; belongs = λ q. tt }
+    plain_step m mk base (i.SubI v b) w = record { here = refl; marked = mk; base = base; operands = refl; begun = omega arith; ways = refl; belongs = λ q. tt }
+    plain_step m mk base (i.MulI v b) w = record { here = refl; marked = mk; base = base; operands = refl; begun = omega arith; ways = refl; belongs = λ q. tt }
+    plain_step m mk base (i.ModI v b) w = record { here = refl; marked = mk; base = base; operands = refl; begun = omega arith; ways = refl; belongs = λ q. tt }
     plain_step m mk base (i.Div b) w = record { here = refl; marked = mk; base = base; operands = refl; begun = omega arith; ways = refl; belongs = λ q. tt }
     plain_step m mk base (i.Mod b) w = record { here = refl; marked = mk; base = base; operands = refl; begun = omega arith; ways = refl; belongs = λ q. tt }
     plain_step m mk base (i.Rem b) w = record { here = refl; marked = mk; base = base; operands = refl; begun = omega arith; ways = refl; belongs = λ q. tt }
@@ -344,11 +354,6 @@ module _ (c : Code) where
     array_root_fits true r n e = constant_root_fits r n e
     array_root_fits false r n e = root_fits r n e
 
-    pub firm_part : (h : ℕ) (o : Option Named) (whole : Bool) (part : Emit) → ((n : Named) → o ≡ Some n → Fits s n) → (Kept c part → Firm c l part (at s (h + 1)) (at s (h + 1)))
-        → Kept c (part_of s h o whole part) → Firm c l (part_of s h o whole part) (at s h) (at s (h + 1))
-    firm_part h o whole part f g r = firm_cond whole (load_named s h o) (address s h o ⨟ part) (at s h) (at s (h + 1)) (firm_named h o f)
-        (λ r. (at s (h + 1), firm_address h o f r.0, g r.1)) r
-
     -- an index, whose code loads the cell where it lies in one
     pub firm_indexed : (h : ℕ) (o : Option ℕ) (low high : ℤ) (stride : ℕ) (index : Emit) → ((n : ℕ) → o ≡ Some n → ◌≡◌ {A = Emit} index (one s (h + 1) (i.LoadL n))) → (Kept c index → Firm c l index (at s (h + 1)) (at s (h + 1 + 1)))
         → Kept c (indexed_by s (h + 1) o low high stride index) → Firm c l (indexed_by s (h + 1) o low high stride index) (at s (h + 1)) (at s (h + 1))
@@ -363,6 +368,38 @@ module _ (c : Code) where
     firm_item h (Some n) low high stride index is f r =
         let loads : Firm c l (one s (h + 1) (i.LoadL n)) (at s (h + 1)) (at s (h + 1 + 1)) = subst (λ a. Firm c l a (at s (h + 1)) (at s (h + 1 + 1))) (is n refl) (f (subst (λ a. Kept c a) (sym (is n refl)) r)) in
         record { here = refl; marked = k.entry; base = h; operands = refl; begun = omega arith; ways = refl; belongs = loads.belongs }
+
+    -- what begins at a cell of the main frame
+    main_cell : (o : Option Named) (g : ℕ) → main_named o ≡ Some g → ((n : Named) → o ≡ Some n → Fits s n) → In c (Sub 0) g
+    main_cell None g e f = absurd (none-some g e)
+    main_cell (Some n) g e f = by n.through n.place.level e (f n refl)
+      where
+        by : (b : Bool) (level : Level) → cond b None (main_level level n.place.cell) ≡ Some g → LevelFits s.body s.free level n.place.cell → In c (Sub 0) g
+        by true level e r = absurd (none-some g e)
+        by false Own e r = absurd (none-some g e)
+        by false (Around j) e r = absurd (none-some g e)
+        by false Main e r = subst (λ m. In c (Sub 0) m) (some_same n.place.cell g e) r
+
+    -- the index whose code loads a cell of the own frame
+    own_there : (h n : ℕ) (index : Emit) → ◌≡◌ {A = Emit} index (one s (h + 1) (i.LoadL n)) → (Kept c index → Firm c l index (at s (h + 1)) (at s (h + 1 + 1))) → Kept c (one s (h + 1) (i.LoadL n)) → (q : ℕ) → In c s.body n
+    own_there h n index same g r q =
+        let loads : Firm c l (one s (h + 1) (i.LoadL n)) (at s (h + 1)) (at s (h + 1 + 1)) = subst (λ a. Firm c l a (at s (h + 1)) (at s (h + 1 + 1))) same (g (subst (λ a. Kept c a) (sym same) r)) in
+        loads.belongs q
+
+    -- a component of what is named
+    pub firm_component_address : (h : ℕ) (o : Option Named) (own : Option ℕ) (low high : ℤ) (stride : ℕ) (index : Emit) → ((n : Named) → o ≡ Some n → Fits s n) → ((n : ℕ) → own ≡ Some n → ◌≡◌ {A = Emit} index (one s (h + 1) (i.LoadL n)))
+        → (Kept c index → Firm c l index (at s (h + 1)) (at s (h + 1 + 1))) → Kept c (component_address s h o (main_named o) own low high stride index) → Firm c l (component_address s h o (main_named o) own low high stride index) (at s h) (at s (h + 1))
+    firm_component_address h o own low high stride index f is g =
+        of_component_address (λ a. Kept c a → Firm c l a (at s h) (at s (h + 1))) s h o (main_named o) own low high stride index
+        (λ m n e e' r. record { here = refl; marked = k.entry; base = h; operands = refl; begun = omega arith; ways = refl; belongs = λ q. (main_cell o m e f, own_there h n index (is n e') g r q) })
+        (λ r. (at s (h + 1), firm_address h o f r.0, firm_indexed h own low high stride index is g r.1))
+
+    pub firm_component_value : (h : ℕ) (o : Option Named) (own : Option ℕ) (low high : ℤ) (stride : ℕ) (index : Emit) → ((n : Named) → o ≡ Some n → Fits s n) → ((n : ℕ) → own ≡ Some n → ◌≡◌ {A = Emit} index (one s (h + 1) (i.LoadL n)))
+        → (Kept c index → Firm c l index (at s (h + 1)) (at s (h + 1 + 1))) → Kept c (component_value s h o (main_named o) own low high stride index) → Firm c l (component_value s h o (main_named o) own low high stride index) (at s h) (at s (h + 1))
+    firm_component_value h o own low high stride index f is g =
+        of_component_value (λ a. Kept c a → Firm c l a (at s h) (at s (h + 1))) s h o (main_named o) own low high stride index
+        (λ m n e e' r. record { here = refl; marked = k.entry; base = h; operands = refl; begun = omega arith; ways = refl; belongs = λ q. (main_cell o m e f, own_there h n index (is n e') g r q) })
+        (λ r. (at s (h + 1), firm_address h o f r.0, firm_item h own low high stride index is g r.1))
 
     -- ---- operators
 
@@ -384,6 +421,13 @@ module _ (c : Code) where
     firm_binary h op.Xor class = plain h (binary_instr op.Xor class) tt
     firm_binary h op.Max class = plain h (binary_instr op.Max class) tt
     firm_binary h op.Min class = plain h (binary_instr op.Min class) tt
+
+    pub firm_operated : (h : ℕ) (o : Op) (class : Class) (f : Expr) (right : Emit) → (Kept c right → Firm c l right (at s (h + 1)) (at s (h + 1 + 1)))
+        → Kept c (operated_by s (h + 1) (static_instr o class f) (binary_instr o class) right) → Firm c l (operated_by s (h + 1) (static_instr o class f) (binary_instr o class) right) (at s (h + 1)) (at s (h + 1))
+    firm_operated h o class f right g =
+        of_operated (λ a. Kept c a → Firm c l a (at s (h + 1)) (at s (h + 1))) s (h + 1) o class f (binary_instr o class) right
+        (λ v r. plain h (i.AddI v (base_of class)) tt) (λ v r. plain h (i.SubI v (base_of class)) tt) (λ v r. plain h (i.MulI v (base_of class)) tt) (λ v r. plain h (i.ModI v (base_of class)) tt)
+        (λ r. (at s (h + 1 + 1), g r.0, firm_binary h o class))
 
     pub firm_compare : (h : ℕ) (r : Comparison) → Firm c l (one s (h + 1 + 1) (compare_instr r)) (at s (h + 1 + 1)) (at s (h + 1))
     firm_compare h comparison.Equal = plain h i.Eq tt

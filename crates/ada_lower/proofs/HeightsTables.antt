@@ -9,8 +9,8 @@ use Rattle.stack_code.specs.declared.code.Code.{Code}
 use Rattle.stack_code.specs.declared.code.Unwind.{Unwind}
 use Rattle.stack_code.specs.declared.instr.Instr.{Instr}
 use Rattle.stack_code.specs.declared.instr.Instr.TheVariants.{Jump}
-use Rattle.stack_code.specs.declared.operands.Flow.{Flow}
-use Rattle.stack_code.specs.declared.operands.Flow.TheVariants.{On, To, Branch, Back, Round, Ends}
+use Rattle.stack_code.specs.declared.flow.Flow.{Flow}
+use Rattle.stack_code.specs.declared.flow.Flow.TheVariants.{On, To, Branch, Back, Round, Ends}
 use Rattle.stack_code.specs.Operands.{takes, pushes, ends_of, nest_after, flow_of}
 use Rattle.stack_code.specs.Valid as valid
 use Rattle.stack_code.specs.Valid.{Each, Has, HasStack, Lands, Belongs, NamesHolder, SpotFits, Holds, Guarded, GuardsIn, HandlerFits, IsUpTo}

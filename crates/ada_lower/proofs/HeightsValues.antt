@@ -17,15 +17,16 @@ use Rattle.stack_code.specs.declared.instr.Instr.TheVariants as i
 use Rattle.stack_code.specs.Operands.{answered_by, is_reduction}
 use Rattle.stack_code.specs.Valid.{Has, IsThread, outward, around_of}
 use Rattle.stack_code.proofs.Standing.{has_one}
-use Rattle.stack_code.proofs.Slacks.{has_map}
+use Rattle.stack_code.proofs.Lists.{has_map}
 use Rattle.lower_emission.specs.Emits.{Emit}
 use Rattle.lower_emission.specs.Scope.{Scope, own, taking, nested, thread_scope, with_parameter, with_item, root_of, constant_root_of, array_root_of, none, one, keep, looped, from, ◌⨟◌}
-use Rattle.lower_emission.specs.Emission.{is_plain, is_repeated, Shape, lead, shapes, shapes_cells, formal_cell, address, folding, ranged, reducing, combined, leaving_by, first_parameter, range_scope, item_scope, doubled, filling, fillings, iterated_scope, turning, turnings, entering, entering_next, run_steps, run_turnings, turn_height, components_of, locating, locating_in, repeating, is_whole, chunk_scope, ends_code, reduction_kind, fork_code, turn_range, turn_component, cells_of, formals_in, formal_of, passing, composite_width, width, own_cell}
-unfoldable use Rattle.lower_emission.specs.Emission.{emit, selected, read, passed, put_into, composed, associated, component, filtered, iterated, chunk_code, course_code, threaded}
+use Rattle.lower_emission.specs.Emission.{is_plain, is_repeated, Shape, lead, shapes, shapes_cells, formal_cell, address, folding, ranged, reducing, combined, leaving_by, first_parameter, range_scope, item_scope, doubled, filling, fillings, iterated_scope, turning, turnings, entering, entering_next, run_steps, run_turnings, turn_height, components_of, locating, locating_in, repeating, is_whole, chunk_scope, ends_code, reduction_kind, fork_code, turn_range, turn_component, cells_of, formals_in, formal_of, passing, composite_width, width, own_cell, main_named}
+use Rattle.lower_emission.specs.declared.types.Named.{Named}
+unfoldable use Rattle.lower_emission.specs.Emission.{emit, named_value, selected, read, passed, put_into, composed, associated, component, filtered, iterated, chunk_code, course_code, threaded}
 use Rattle.ada_lower.specs.Ready.{RunsIn, Calls, ReadyReducer, ReadyExpr, ReadyOptional, ReadySelections, ReadyActuals, ReadyValue, ReadyComposite, ReadyAssociations, ReadyIteration, ReadyChunk}
 use Rattle.lower_emission.proofs.OwnCells.{emit_own}
 use Rattle.ada_lower.proofs.Heights.{Place, Here, Behind, up, Also, In, Told, Kept, Firm}
-use Rattle.ada_lower.proofs.HeightsScopes.{at, Known, in_le, known_taking, known_nested, known_more, known_parameter, known_item, known_leaving, known_thread, known_chunk, plain, firm_own, firm_local, kept_next, firm_keep, firm_cond, firm_indexed, firm_item, firm_named, firm_where, firm_address, root_fits, constant_root_fits, array_root_fits, firm_part, firm_unary, firm_binary, firm_compare, firm_within, firm_negated, firm_checked, firm_bounds, firm_ascending, firm_raise_above, firm_raise_beyond, firm_counting, firm_call, firm_call_back, firm_stepping}
+use Rattle.ada_lower.proofs.HeightsScopes.{at, Known, Fits, in_le, known_taking, known_nested, known_more, known_parameter, known_item, known_leaving, known_thread, known_chunk, plain, firm_own, firm_local, kept_next, firm_keep, firm_cond, firm_indexed, firm_item, firm_named, firm_where, firm_address, root_fits, constant_root_fits, array_root_fits, firm_component_address, firm_component_value, firm_unary, firm_binary, firm_operated, firm_compare, firm_within, firm_negated, firm_checked, firm_bounds, firm_ascending, firm_raise_above, firm_raise_beyond, firm_counting, firm_call, firm_call_back, firm_stepping}
 use Rattle.ada_meaning.specs.Meaning.{most_threads}
 
 -- ---- scopes that differ in names alone
@@ -404,13 +405,13 @@ module _ (c : Code) (program : Program) (subs : (sub : ℕ) (gives : Bool) → C
 
     pub firm_emit : (l : ℕ → Place → Type 0) (s : Scope) (h : ℕ) (x : Expr) → ReadyExpr program x → Known c l s → Kept c (emit program s h x) → Firm c l (emit program s h x) (at s h) (at s (h + 1))
     firm_emit l s h (Static a value literal mentions) w k r = plain c l s k h (i.Push value) tt
-    firm_emit l s h (Variable a q selections scalar) w k r = firm_part c l s k h (root_of s q) (is_whole selections) (read program s (h + 1) selections) (root_fits c l s k q) (λ r. firm_read l s h selections w k r) r
-    firm_emit l s h (Constant a q selections scalar) w k r = firm_part c l s k h (constant_root_of s q) (is_whole selections) (read program s (h + 1) selections) (constant_root_fits c l s k q) (λ r. firm_read l s h selections w k r) r
+    firm_emit l s h (Variable a q selections scalar) w k r = firm_named_value l s h (root_of s q) selections (root_fits c l s k q) w k r
+    firm_emit l s h (Constant a q selections scalar) w k r = firm_named_value l s h (constant_root_of s q) selections (constant_root_fits c l s k q) w k r
     firm_emit l s h (Parameter a j) w k r = firm_where c l s k h (s.parameter j) (k.parameter j) r
     firm_emit l s h (Target a scalar) w k r = firm_named c l s k h s.target k.target r
     firm_emit l s h (Group e) w k r = firm_emit l s h e w k r
     firm_emit l s h (Unary a g class e) w k (r1, r2) = (at s (h + 1), firm_emit l s h e w k r1, firm_unary c l s k h g class)
-    firm_emit l s h (Binary a o class e f) w k (r1, (r2, r3)) = (at s (h + 1), firm_emit l s h e w.0 k r1, (at s (h + 1 + 1), firm_emit l s (h + 1) f w.1 k r2, firm_binary c l s k h o class))
+    firm_emit l s h (Binary a o class e f) w k (r1, r2) = (at s (h + 1), firm_emit l s h e w.0 k r1, firm_operated c l s k h o class f (emit program s (h + 1) f) (λ r. firm_emit l s (h + 1) f w.1 k r) r2)
     firm_emit l s h (AndThen e f) w k (r1, (r2, r3, r4)) = (at s (h + 1), firm_emit l s h e w.0 k r1, (refl, k.entry, refl, firm_emit l s h f w.1 k r3, plain c l s k h (i.Push (pos 0)) tt))
     firm_emit l s h (OrElse e f) w k (r1, (r2, r3, r4)) = (at s (h + 1), firm_emit l s h e w.0 k r1, (refl, k.entry, refl, plain c l s k h (i.Push (pos 1)) tt, firm_emit l s h f w.1 k r4))
     firm_emit l s h (Relation class o e f) w k (r1, (r2, r3)) = (at s (h + 1), firm_emit l s h e w.0 k r1, (at s (h + 1 + 1), firm_emit l s (h + 1) f w.1 k r2, firm_compare c l s k h o))
@@ -482,6 +483,14 @@ module _ (c : Code) (program : Program) (subs : (sub : ℕ) (gives : Bool) → C
         reduces by NoChunk = refl
         reduces by (Count e) = refl
         reduces by (Each p low high check) = refl
+
+    firm_named_value : (l : ℕ → Place → Type 0) (s : Scope) (h : ℕ) (o : Option Named) (x : Selections) → ((n : Named) → o ≡ Some n → Fits c s n) → ReadySelections program x → Known c l s → Kept c (named_value program s h o x) → Firm c l (named_value program s h o x) (at s h) (at s (h + 1))
+    firm_named_value l s h o Whole f w k r = firm_named c l s k h o f r
+    firm_named_value l s h o (Field number offset rest) f w k (r1, (r2, r3)) = (at s (h + 1), firm_address c l s k h o f r1, (at s (h + 1), plain c l s k h (i.Field offset) tt, firm_read l s h rest w k r3))
+    firm_named_value l s h o (Index a e low high stride rest) f w k r =
+        firm_cond c l s k (is_whole rest) _ _ (at s h) (at s (h + 1))
+        (λ r. firm_component_value c l s k h o (own_cell s e) low high stride (emit program s (h + 1) e) f (λ n is. emit_own program s (h + 1) e n is) (λ r. firm_emit l s (h + 1) e w.0 k r) r)
+        (λ r. (at s (h + 1), firm_component_address c l s k h o (own_cell s e) low high stride (emit program s (h + 1) e) f (λ n is. emit_own program s (h + 1) e n is) (λ r. firm_emit l s (h + 1) e w.0 k r) r.0, firm_read l s h rest w.1 k r.1)) r
 
     pub firm_selected : (l : ℕ → Place → Type 0) (s : Scope) (h : ℕ) (x : Selections) → ReadySelections program x → Known c l s → Kept c (selected program s (h + 1) x) → Firm c l (selected program s (h + 1) x) (at s (h + 1)) (at s (h + 1))
     firm_selected l s h Whole w k r = refl

@@ -36,8 +36,9 @@ use Rattle.lower_emission.specs.declared.types.Leaving.{Leaving}
 use Rattle.lower_emission.specs.declared.types.Leaving.TheVariants.{ByReturn, ByValue, ByEnd, ByLeave}
 use Rattle.lower_emission.specs.Emits.{Emit, Nothing, One, Seq, Choose, When, Looped, Guarded, Aside, From, listed}
 use Rattle.lower_emission.specs.Scope.{Scope, own, taking, nested, thread_scope, with_parameter, with_item, with_target, with_handled, with_exit, with_entry, root_of, constant_root_of, array_root_of, none, one, ◌⨟◌, load_at, address_at, store_at, address_of}
-use Rattle.lower_emission.specs.Emission.{is_plain, is_repeated, Shape, shapes, load_by, load_named, load_where, address, is_whole, part_of, unary_instr, binary_instr, compare_instr, within, negated_code, leaving_by, first_parameter, range_scope, item_scope, counting, bounds_code, ascending, stepping, folding, ranged, combined, doubled, filling, fillings, iterated_scope, turnings, entering, entering_next, run_steps, run_turnings, turn_height, components_of, locating, locating_in, repeating, chunk_scope, raise_above, raise_beyond, ends_code, turn_range, turn_component, cells_of, passing, composite_width, width, own_cell, indexed_by, item_by}
-unfoldable use Rattle.lower_emission.specs.Emission.{emit, selected, read, passed, put_into, composed, associated, component, filtered, iterated, chunk_code, course_code, threaded}
+use Rattle.lower_emission.specs.Emission.{is_plain, is_repeated, Shape, shapes, load_by, load_named, load_where, address, is_whole, unary_instr, binary_instr, static_instr, operated_by, compare_instr, within, negated_code, leaving_by, first_parameter, range_scope, item_scope, counting, bounds_code, ascending, stepping, folding, ranged, combined, doubled, filling, fillings, iterated_scope, turnings, entering, entering_next, run_steps, run_turnings, turn_height, components_of, locating, locating_in, repeating, chunk_scope, raise_above, raise_beyond, ends_code, turn_range, turn_component, cells_of, passing, composite_width, width, own_cell, indexed_by, item_by, main_named, component_address, component_value}
+use Rattle.lower_emission.proofs.Fused.{of_operated, of_component_address, of_component_value}
+unfoldable use Rattle.lower_emission.specs.Emission.{emit, named_value, selected, read, passed, put_into, composed, associated, component, filtered, iterated, chunk_code, course_code, threaded}
 use Rattle.lower_emission.specs.Statements.{no_handler, is_end, assigned, in_span, chosen, has_reason, handled_by, returning, returning_value, away, exiting, handled_target, image_instr, send_instr, piece_texts, object_here, exits_of, arm_exits, left_by, exits_code, is_own, left_code, field_defaults, default_of, defaults_within, subtype_or_none, defaulted, declared, parallel_for, arms_code, chunk_by, arm_scope, parallel_block}
 unfoldable use Rattle.lower_emission.specs.Statements.{back_code, piece_values, stmt, all, cases, handling, arm_codes}
 use Rattle.lower_emission.specs.Bodies as code
@@ -163,9 +164,6 @@ module _ (program : Program) where
     made_address h None = (k.0, tt)
     made_address h (Some n) = made_address_of h n
 
-    made_part : (h : ℕ) (n : Option Named) (whole : Bool) (part : Emit) → Made part → Made (part_of s h n whole part)
-    made_part h n whole part f = made_cond whole (load_named s h n) (address s h n ⨟ part) (made_named h n) (made_address h n, f)
-
     made_indexed : (h : ℕ) (n : Option ℕ) (low high : ℤ) (stride : ℕ) (index : Emit) → Made index → Made (indexed_by s h n low high stride index)
     made_indexed h None low high stride index f = (f, (k.0, tt))
     made_indexed h (Some n) low high stride index f = (k.0, tt)
@@ -173,6 +171,12 @@ module _ (program : Program) where
     made_item : (h : ℕ) (n : Option ℕ) (low high : ℤ) (stride : ℕ) (index : Emit) → Made index → Made (item_by s h n low high stride index)
     made_item h None low high stride index f = (f, (k.0, tt))
     made_item h (Some n) low high stride index f = (k.0, tt)
+
+    made_component_address : (h : ℕ) (n : Option Named) (first own : Option ℕ) (low high : ℤ) (stride : ℕ) (index : Emit) → Made index → Made (component_address s h n first own low high stride index)
+    made_component_address h n first own low high stride index f = of_component_address Made s h n first own low high stride index (λ g j e e'. (k.0, tt)) (made_address h n, made_indexed (h + 1) own low high stride index f)
+
+    made_component_value : (h : ℕ) (n : Option Named) (first own : Option ℕ) (low high : ℤ) (stride : ℕ) (index : Emit) → Made index → Made (component_value s h n first own low high stride index)
+    made_component_value h n first own low high stride index f = of_component_value Made s h n first own low high stride index (λ g j e e'. (k.0, tt)) (made_address h n, made_item (h + 1) own low high stride index f)
 
     made_unary : (h : ℕ) (g : Sign) (class : Class) → Made (one s h (unary_instr g class))
     made_unary h sign.Minus class = (k.0, tt)
@@ -192,6 +196,10 @@ module _ (program : Program) where
     made_binary h op.Xor class = (k.0, tt)
     made_binary h op.Max class = (k.0, tt)
     made_binary h op.Min class = (k.0, tt)
+
+    made_operated : (h : ℕ) (x : Op) (class : Class) (f : Expr) (right : Emit) → Made right → Made (operated_by s h (static_instr x class f) (binary_instr x class) right)
+    made_operated h x class f right m =
+        of_operated Made s h x class f (binary_instr x class) right (λ v. (k.0, tt)) (λ v. (k.0, tt)) (λ v. (k.0, tt)) (λ v. (k.0, tt)) (m, made_binary (h + 1) x class)
 
     made_compare : (h : ℕ) (r : Comparison) → Made (one s h (compare_instr r))
     made_compare h comparison.Equal = (k.0, tt)
@@ -302,13 +310,13 @@ module _ (program : Program) where
 
     made_emit : (o : Option ℕ) (s : Scope) (h : ℕ) (x : Expr) → SitedExpr program o x → Inside o s → Made (emit program s h x)
     made_emit o s h (Static a value literal mentions) w k = (k.0, tt)
-    made_emit o s h (Variable a r selections scalar) w k = made_part o s k h (root_of s r) (is_whole selections) (read program s (h + 1) selections) (made_read o s (h + 1) selections w k)
-    made_emit o s h (Constant a r selections scalar) w k = made_part o s k h (constant_root_of s r) (is_whole selections) (read program s (h + 1) selections) (made_read o s (h + 1) selections w k)
+    made_emit o s h (Variable a r selections scalar) w k = made_value o s h (root_of s r) selections w k
+    made_emit o s h (Constant a r selections scalar) w k = made_value o s h (constant_root_of s r) selections w k
     made_emit o s h (Parameter a j) w k = made_where o s k h (s.parameter j)
     made_emit o s h (Target a scalar) w k = made_named o s k h s.target
     made_emit o s h (Group e) w k = made_emit o s h e w k
     made_emit o s h (Unary a g class e) w k = (made_emit o s h e w k, made_unary o s k (h + 1) g class)
-    made_emit o s h (Binary a x class e f) w k = (made_emit o s h e w.0 k, (made_emit o s (h + 1) f w.1 k, made_binary o s k (h + 1 + 1) x class))
+    made_emit o s h (Binary a x class e f) w k = (made_emit o s h e w.0 k, made_operated o s k (h + 1) x class f (emit program s (h + 1) f) (made_emit o s (h + 1) f w.1 k))
     made_emit o s h (AndThen e f) w k = (made_emit o s h e w.0 k, (k.0, made_emit o s h f w.1 k, (k.0, tt)))
     made_emit o s h (OrElse e f) w k = (made_emit o s h e w.0 k, (k.0, (k.0, tt), made_emit o s h f w.1 k))
     made_emit o s h (Relation class r e f) w k = (made_emit o s h e w.0 k, (made_emit o s (h + 1) f w.1 k, made_compare o s k (h + 1 + 1) r))
@@ -358,6 +366,13 @@ module _ (program : Program) where
             ),
           ),
         )
+
+    made_value : (o : Option ℕ) (s : Scope) (h : ℕ) (n : Option Named) (x : Selections) → SitedSelections program o x → Inside o s → Made (named_value program s h n x)
+    made_value o s h n Whole w k = made_named o s k h n
+    made_value o s h n (Field number offset rest) w k = (made_address o s k h n, ((k.0, tt), made_read o s (h + 1) rest w k))
+    made_value o s h n (Index a e low high stride rest) w k =
+        made_cond o s k (is_whole rest) _ _ (made_component_value o s k h n (main_named n) (own_cell s e) low high stride (emit program s (h + 1) e) (made_emit o s (h + 1) e w.0 k))
+        (made_component_address o s k h n (main_named n) (own_cell s e) low high stride (emit program s (h + 1) e) (made_emit o s (h + 1) e w.0 k), made_read o s (h + 1) rest w.1 k)
 
     made_selected : (o : Option ℕ) (s : Scope) (h : ℕ) (x : Selections) → SitedSelections program o x → Inside o s → Made (selected program s h x)
     made_selected o s h Whole w k = tt

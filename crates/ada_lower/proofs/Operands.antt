@@ -6,12 +6,13 @@ use Rattle.ada_base.specs.Operation.{is_in_base, within}
 use Rattle.behaviours.specs.Paths.{Entity}
 use Rattle.typed_tree.specs.declared.scalars.Class.{Class}
 use Rattle.ada_base.specs.declared.operation.Comparison.{Comparison}
+use Rattle.ada_base.specs.declared.operation.Op.{Op}
 use Rattle.typed_tree.specs.declared.expressions.Sign.{Sign}
 use Rattle.typed_tree.specs.declared.expressions.Sign.TheVariants as sign
-use Rattle.typed_tree.specs.Syntax.{Expr, Program}
+use Rattle.typed_tree.specs.Syntax.{Expr, Static, Program}
 use Rattle.ada_meaning.specs.Values
 use Rattle.ada_meaning.specs.Values.{between, truth, bit, to_nat, count, compares, base_of}
-use Rattle.ada_meaning.specs.Operations.{CheckKind, OverflowCheck, Operations}
+use Rattle.ada_meaning.specs.Operations.{CheckKind, OverflowCheck, Operations, operate}
 use Rattle.ada_meaning.specs.Stored as stored
 use Rattle.ada_meaning.specs.Stored.{Stored, Cause, Left, Address}
 use Rattle.ada_meaning.specs.Meaning.{Env, ObjectPart, Passed, Returned, variable_root, constant_root}
@@ -22,12 +23,12 @@ use Rattle.stack_code.specs.Deeds.{GoesOn, deed_of, pushed}
 use Rattle.ada_lower.specs.Driven.{Dyn, Fixed, Step, on, At}
 use Rattle.ada_lower.specs.Sights.{Emit, Level, Named, Own, Sight, Stands, Where, address_of, constant_root_of, load_at, one, own, root_of, taking, with_parameter, ◌⨟◌}
 use Rattle.ada_lower.specs.Emission
-use Rattle.ada_lower.specs.Emission.{address, emit, selected, load, load_named, binary_instr, unary_instr, compare_instr, Shape, shapes, shapes_cells}
+use Rattle.ada_lower.specs.Emission.{address, emit, selected, load, load_named, binary_instr, fixed_instr, static_instr, operated_by, unary_instr, compare_instr, Shape, shapes, shapes_cells}
 use Rattle.ada_lower.specs.Fits.{Free, Keeps, Ghost, Ends, place_in, Spread, Refers, Knows, Stands as StandsFor, What}
-use Rattle.ada_lower.proofs.Framework.{any, To, comes_here, comes_on, comes_goes, does_ret, does_before}
+use Rattle.ada_lower.proofs.Framework.{any, To, comes_here, comes_on, comes_goes, does_ret, does_bind, does_before, does_returned}
 use Rattle.ada_lower.proofs.Memory.{does_read, set_what, own_free, fit_unset, knows_keep, Extends, refers_more, holds_more, main_more}
-use Rattle.ada_lower.proofs.Standing.{stands_choose}
-use Rattle.ada_lower.proofs.Parts.{Runs, Fewer, bit_same, outcome, does_to, does_weak, does_keep, does_choice, does_pushed}
+use Rattle.ada_lower.proofs.Standing.{stands_choose, stands_seq}
+use Rattle.ada_lower.proofs.Parts.{Runs, Fewer, bit_same, outcome, does_to, does_weak, does_keep, does_choice, does_pushed, does_operate, does_fixed}
 use Rattle.ada_lower.proofs.Declared.{keeping, keep_one_more, laid_out, kept_what, among, length_in, laid_what}
 use Rattle.ada_lower.proofs.Inner.{InnerDo}
 pub use Rattle.ada_lower.proofs.Courses.{at_entry}
@@ -172,6 +173,31 @@ module _ (limit : ℕ) (cuts : ℕ → ℕ → List ℕ) (program : Program) (c 
       (ap (λ o. pushed q o (st ++ f.below)) (within_is (base_of class) (Values.unary sign.Abs v)))
   unary_does {g} {q} sign.Not token class v st at =
       does_pushed limit c f x (Some (pos 1 -ℤ v)) (v ∷ st) st (negate_is OverflowCheck token true (pos 1 -ℤ v)) at refl
+
+  -- an operator's left operand is on the stack, and the right one is pushed
+  pushed_does : (e : Expr) (env : Env) {g : Ghost} (o : Op) (token : ℕ) (class : Class) (from to : ℕ) (s : Sight) (h : ℕ) (u : ℤ) (st : List ℤ) → s.scope.entry ≡ x.entry
+      → ((m : ℕ) → Stands c (emit program s.scope (h + 1) e) from m → Gives g (evals e env) from m (u ∷ st))
+      → Stands c (emit program s.scope (h + 1) e ⨟ one s.scope (h + 1 + 1) (binary_instr o class)) from to
+      → Runs limit c f x g any (stored.bind (evals e env) (λ v. operate stored.doings stored.checks o token class u v)) (λ d. on f from (u ∷ st) d) (λ z d. on f to (z ∷ st) d)
+  pushed_does e env {g} o token class from to s h u st en pushes l =
+      let (m, l1, (j, z)) = stands_seq c from to (emit program s.scope (h + 1) e) (one s.scope (h + 1 + 1) (binary_instr o class)) l in
+      subst (λ q. Runs limit c f x g any (stored.bind (evals e env) (λ v. operate stored.doings stored.checks o token class u v)) (λ d. on f from (u ∷ st) d) (λ z d. on f q (z ∷ st) d)) (sym z)
+      (does_bind limit c f x (pushes m l1) (λ v _. does_operate limit c f x o token class u v st (at_entry en j)))
+
+  -- it stands in the instruction, or is pushed
+  pub operated_does : (e : Expr) (env : Env) {g : Ghost} (o : Op) (token : ℕ) (class : Class) (from to : ℕ) (s : Sight) (h : ℕ) (u : ℤ) (st : List ℤ) → s.scope.entry ≡ x.entry
+      → ((m : ℕ) → Stands c (emit program s.scope (h + 1) e) from m → Gives g (evals e env) from m (u ∷ st))
+      → Stands c (operated_by s.scope (h + 1) (static_instr o class e) (binary_instr o class) (emit program s.scope (h + 1) e)) from to
+      → Runs limit c f x g any (stored.bind (evals e env) (λ v. operate stored.doings stored.checks o token class u v)) (λ d. on f from (u ∷ st) d) (λ z d. on f to (z ∷ st) d)
+  operated_does (Static at value literal mentions) env {g} o token class from to s h u st en pushes l = by (fixed_instr o class value) refl l
+    where
+      by : (j : Option Instr) → fixed_instr o class value ≡ j → Stands c (operated_by s.scope (h + 1) j (binary_instr o class) (emit program s.scope (h + 1) (Static at value literal mentions))) from to
+          → Runs limit c f x g any (stored.bind (stored.ret value) (λ v. operate stored.doings stored.checks o token class u v)) (λ d. on f from (u ∷ st) d) (λ z d. on f to (z ∷ st) d)
+      by None is l = pushed_does (Static at value literal mentions) env o token class from to s h u st en pushes l
+      by (Some j) is (a, z) =
+          subst (λ q. Runs limit c f x g any (stored.bind (stored.ret value) (λ v. operate stored.doings stored.checks o token class u v)) (λ d. on f from (u ∷ st) d) (λ z d. on f q (z ∷ st) d)) (sym z)
+          (does_returned limit c f x (λ v. operate stored.doings stored.checks o token class u v) value (does_fixed limit c f x o token class u value j st is (at_entry en a)))
+  operated_does e env o token class from to s h u st en pushes l = pushed_does e env o token class from to s h u st en pushes l
 
   pub compare_deed : (q : ℕ) (r : Comparison) (u v : ℤ) (st : List ℤ) → deed_of c q (v ∷ u ∷ st) f.base f.outward (compare_instr r) ≡ GoesOn (q + 1) (bit (compares r u v) ∷ st)
   compare_deed q comparison.Equal u v st = ap (λ b. GoesOn (q + 1) (b ∷ st)) (bit_same (compares comparison.Equal u v))

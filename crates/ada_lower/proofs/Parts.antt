@@ -4,6 +4,8 @@ use Rattle.ada_base.specs.declared.operation.Op.{Op}
 use Rattle.ada_base.specs.declared.operation.Op.TheVariants as op
 use Rattle.ada_base.specs.declared.reason.Reason.TheVariants as reason
 use Rattle.ada_base.specs.Operation.{result_of}
+use Rattle.std.proofs.lemmas.Option.{none-some}
+use Rattle.ada_meaning.proofs.Cells.{some_same}
 use Rattle.behaviours.specs.Paths.{Raises}
 use Rattle.typed_tree.specs.declared.scalars.Class.{Class}
 use Rattle.ada_meaning.specs.Values
@@ -20,7 +22,7 @@ use Rattle.stack_code.specs.Deeds.{Deed, GoesOn, Fails, deed_of, pushed}
 use Rattle.stack_code.specs.Machine.{done}
 use Rattle.stack_code.specs.Machine
 use Rattle.ada_lower.specs.Driven.{Dyn, Fixed, Step, on, state_of, driven, At}
-use Rattle.ada_lower.specs.Emission.{binary_instr}
+use Rattle.ada_lower.specs.Emission.{binary_instr, fixed_instr}
 use Rattle.ada_lower.specs.Fits.{Keeps, Stands as StandsFor, allows, Ghost, Allows, Fit, Ends, left_by, Lands}
 use Rattle.ada_lower.proofs.Framework.{any, To, Doing, comes_here, comes_as, comes_goes, comes_fails, does_before, lands_from, leads_on}
 use Rattle.ada_lower.proofs.Memory.{set_what, IsOwn, fit_set, what_other, what_same, at_or_not}
@@ -105,6 +107,14 @@ binary_made c q base outward st op.Rem class x y = ap (λ z. pushed q z st) (go 
     go (pos (suc n)) = refl
     go (negsuc n) = refl
 
+-- where the right operand stands in the instruction, it makes the same of the left one
+fixed_made : (c : Code) (q base : ℕ) (outward : List ℕ) (st : List ℤ) (o : Op) (class : Class) (x y : ℤ) (j : Instr) → fixed_instr o class y ≡ Some j → deed_of c q (x ∷ st) base outward j ≡ pushed q (made o class x y) st
+fixed_made c q base outward st op.Add class x y j is = subst (λ j. deed_of c q (x ∷ st) base outward j ≡ pushed q (made op.Add class x y) st) (some_same (i.AddI y (base_of class)) j is) (binary_made c q base outward st op.Add class x y)
+fixed_made c q base outward st op.Sub class x y j is = subst (λ j. deed_of c q (x ∷ st) base outward j ≡ pushed q (made op.Sub class x y) st) (some_same (i.SubI y (base_of class)) j is) (binary_made c q base outward st op.Sub class x y)
+fixed_made c q base outward st op.Mul class x y j is = subst (λ j. deed_of c q (x ∷ st) base outward j ≡ pushed q (made op.Mul class x y) st) (some_same (i.MulI y (base_of class)) j is) (binary_made c q base outward st op.Mul class x y)
+fixed_made c q base outward st op.Mod class x y j is = subst (λ j. deed_of c q (x ∷ st) base outward j ≡ pushed q (made op.Mod class x y) st) (some_same (i.ModI y (base_of class)) j is) (binary_made c q base outward st op.Mod class x y)
+fixed_made c q base outward st o class x y j is = absurd (none-some j is)
+
 pub operate_is : (o : Op) (token : ℕ) (class : Class) (x y : ℤ) (s : stored.State) → (operate stored.doings stored.checks o token class x y).does s ≡ stored.at s (outcome (made o class x y))
 operate_is o token class x y s = stages ZeroCheck OverflowCheck token (Values.divides o) (Values.overflows o) (not (Values.is_zero y)) (result o class x y) s
 
@@ -143,6 +153,11 @@ module _ (limit : ℕ) (c : Code) (f : Fixed) (x : Ends) where
   pub does_operate : {g : Ghost} {q : ℕ} (o : Op) (token : ℕ) (class : Class) (u v : ℤ) (st : List ℤ) → At c q (binary_instr o class) x.entry
       → Runs g any (operate stored.doings stored.checks o token class u v) (λ d. on f q (v ∷ u ∷ st) d) (λ z d. on f (q + 1) (z ∷ st) d)
   does_operate {q = q} o token class u v st a = does_pushed (made o class u v) (v ∷ u ∷ st) st (operate_is o token class u v) a (binary_made c q f.base f.outward (st ++ f.below) o class u v)
+
+  -- its right operand stands in the instruction
+  pub does_fixed : {g : Ghost} {q : ℕ} (o : Op) (token : ℕ) (class : Class) (u v : ℤ) (j : Instr) (st : List ℤ) → fixed_instr o class v ≡ Some j → At c q j x.entry
+      → Runs g any (operate stored.doings stored.checks o token class u v) (λ d. on f q (u ∷ st) d) (λ z d. on f (q + 1) (z ∷ st) d)
+  does_fixed {q = q} o token class u v j st is a = does_pushed (made o class u v) (u ∷ st) st (operate_is o token class u v) a (fixed_made c q f.base f.outward (st ++ f.below) o class u v j is)
 
   -- the number on the stack is checked and stays
   pub does_check : {g : Ghost} {q : ℕ} (kind : CheckKind) (token : ℕ) (low high v : ℤ) (b : Bool) (st : List ℤ) → between low v high ≡ b → At c q (i.Range low high) x.entry

@@ -5,7 +5,7 @@ use Rattle.lower_emission.specs.Statements.{stmt, piece_values, back_code}
 use Rattle.lower_emission.specs.Texts.{stmt_texts}
 use Rattle.lower_emission.specs.StatementRows.{Adds, Decides, Chooses, Fills, Computes, GoesRound, Selects, Gets}
 use Rattle.lower_emission.specs.ValueRows.{Picks, Finds, Copies, HandsOver}
-use Rattle.lower_emission.specs.LoopRows.{Counts, Exits, Sums, Descends, Skips, Visits, Reduces, Crosses}
+use Rattle.lower_emission.specs.LoopRows.{Counts, Exits, Sums, Descends, Skips, Visits, Reduces, Crosses, Mixes}
 use Rattle.lower_emission.specs.BodyRows.{Handles, Passes, Calls}
 use Rattle.lower_emission.specs.ConstructRows.{Shares, Parts, Gathers, Leaves}
 use Rattle.lower_emission.specs.ThreadRows.{Deals, Marks, Reaches, Nests, Divides, ReturnsEarly, Catches, Folds, Mentioned}
@@ -89,6 +89,10 @@ reduces = (refl, refl)
 pub crosses : Crosses
 unfolding emit stmt stmt_texts
 crosses = (refl, refl)
+
+pub mixes : Mixes
+unfolding emit stmt stmt_texts
+mixes = (refl, refl)
 
 pub handles : Handles
 unfolding emit stmt stmt_texts

@@ -2,3 +2,4 @@
 pub mod Computed
 pub mod Written
 pub mod OwnCells
+pub mod Fused

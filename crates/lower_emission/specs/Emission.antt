@@ -65,10 +65,6 @@ abbrev pub address : Scope → ℕ → Option Named → Emit
 address s h None = lost s h
 address s h (Some n) = one s h (address_of n)
 
--- the value of what is named, or that of a part, which is read by way of the address
-abbrev pub part_of : Scope → ℕ → Option Named → Bool → (part : Emit) → Emit
-part_of s h n whole part = cond whole (load_named s h n) (address s h n ⨟ part)
-
 -- the cell of the own frame in which a value lies that a name gives: a loop parameter's, or that of a variable or constant
 
 abbrev pub own_level : Level → ℕ → Option ℕ
@@ -100,6 +96,27 @@ abbrev pub item_by : Scope → ℕ → Option ℕ → (low high : ℤ) → (stri
 item_by s h None low high stride index = index ⨟ one s (h + 1) (i.Item low high stride)
 item_by s h (Some n) low high stride index = one s h (i.ItemL n low high stride)
 
+-- the cell of the main frame at which what is named begins, where that is known
+abbrev pub main_level : Level → ℕ → Option ℕ
+main_level Own n = None
+main_level (Around k) n = None
+main_level Main n = Some n
+
+abbrev pub main_named : Option Named → Option ℕ
+main_named None = None
+main_named (Some n) = cond n.through None (main_level n.place.level n.place.cell)
+
+-- the address of a component of what is named: by one instruction where that begins at a known cell of the main frame, and
+-- the index lies in a cell of the own one
+abbrev pub component_address : Scope → ℕ → Option Named → (first own : Option ℕ) → (low high : ℤ) → (stride : ℕ) → (index : Emit) → Emit
+component_address s h n (Some g) (Some k) low high stride index = one s h (i.IndexG g low high stride k)
+component_address s h n first own low high stride index = address s h n ⨟ indexed_by s (h + 1) own low high stride index
+
+-- the component is read
+abbrev pub component_value : Scope → ℕ → Option Named → (first own : Option ℕ) → (low high : ℤ) → (stride : ℕ) → (index : Emit) → Emit
+component_value s h n (Some g) (Some k) low high stride index = one s h (i.ItemG g low high stride k)
+component_value s h n first own low high stride index = address s h n ⨟ item_by s (h + 1) own low high stride index
+
 -- ---- operators (4.5)
 
 abbrev pub unary_instr : Sign → Class → Instr
@@ -121,6 +138,24 @@ binary_instr op.Or class = i.Max
 binary_instr op.Xor class = i.Differ
 binary_instr op.Max class = i.Max
 binary_instr op.Min class = i.Min
+
+-- an operation whose right operand stands in the instruction
+abbrev pub fixed_instr : Op → Class → ℤ → Option Instr
+fixed_instr op.Add class v = Some (i.AddI v (base_of class))
+fixed_instr op.Sub class v = Some (i.SubI v (base_of class))
+fixed_instr op.Mul class v = Some (i.MulI v (base_of class))
+fixed_instr op.Mod class v = Some (i.ModI v (base_of class))
+fixed_instr o class v = None
+
+-- that of an operator and its right operand, where that is static (4.9)
+abbrev pub static_instr : Op → Class → (right : Expr) → Option Instr
+static_instr o class (Static at value literal mentions) = fixed_instr o class value
+static_instr o class e = None
+
+-- the number on the stack is the left operand; the right one stands in the instruction, or is pushed first
+abbrev pub operated_by : Scope → ℕ → Option Instr → Instr → (right : Emit) → Emit
+operated_by s h None operates right = right ⨟ one s (h + 1) operates
+operated_by s h (Some fixed) operates right = one s h fixed
 
 abbrev pub compare_instr : Comparison → Instr
 compare_instr comparison.Equal = i.Eq
@@ -430,13 +465,13 @@ module _ (program : Program) where
     -- pushes the value
     pub emit : Scope → ℕ → Expr → Emit
     emit s h (Static at value literal mentions) = one s h (i.Push value)
-    emit s h (Variable at r selections scalar) = part_of s h (root_of s r) (is_whole selections) (read s (h + 1) selections)
-    emit s h (Constant at r selections scalar) = part_of s h (constant_root_of s r) (is_whole selections) (read s (h + 1) selections)
+    emit s h (Variable at r selections scalar) = named_value s h (root_of s r) selections
+    emit s h (Constant at r selections scalar) = named_value s h (constant_root_of s r) selections
     emit s h (Parameter at k) = load_where s h (s.parameter k)
     emit s h (Target at scalar) = load_named s h s.target
     emit s h (Group e) = emit s h e
     emit s h (Unary at sign class e) = emit s h e ⨟ one s (h + 1) (unary_instr sign class)
-    emit s h (Binary at op class e f) = emit s h e ⨟ emit s (h + 1) f ⨟ one s (h + 1 + 1) (binary_instr op class)
+    emit s h (Binary at op class e f) = emit s h e ⨟ operated_by s (h + 1) (static_instr op class f) (binary_instr op class) (emit s (h + 1) f)
     emit s h (AndThen e f) = emit s h e ⨟ choose s h (h + 1) (emit s h f) (falsity s h)
     emit s h (OrElse e f) = emit s h e ⨟ choose s h (h + 1) (truth s h) (emit s h f)
     emit s h (Relation class comparison e f) = emit s h e ⨟ emit s (h + 1) f ⨟ one s (h + 1 + 1) (compare_instr comparison)
@@ -456,6 +491,14 @@ module _ (program : Program) where
         ⨟ threaded (thread_scope site s) 1 chunk (s.free + 1 + 1 + 1) iteration (λ u. emit u 1 value ⨟ folding u 0 by)
         ⨟ one (chunk_scope chunk (taking 2 (thread_scope site s))) 1 i.EndV)
         ⨟ one (nested (taking 1 s)) (h + 1) i.Unnest ⨟ combined (taking 2 (taking 2 (taking 1 s))) h by
+
+    -- the value of what is named, or of the part that selections lead to
+    pub named_value : Scope → ℕ → Option Named → Selections → Emit
+    named_value s h n Whole = load_named s h n
+    named_value s h n (Field number offset rest) = address s h n ⨟ one s (h + 1) (i.Field offset) ⨟ read s (h + 1) rest
+    named_value s h n (Index at e low high stride rest) =
+        cond (is_whole rest) (component_value s h n (main_named n) (own_cell s e) low high stride (emit s (h + 1) e))
+        (component_address s h n (main_named n) (own_cell s e) low high stride (emit s (h + 1) e) ⨟ read s (h + 1) rest)
 
     -- the address on the stack is moved by selections
     pub selected : Scope → ℕ → Selections → Emit

@@ -1,6 +1,6 @@
 -- Programs with loops (5.5, 5.5.2, 5.7), a reduction in order (4.5.10) and components that are read at indexes (4.1.1), and their
 -- code by hand.
-use Rattle.std.specs.Prelude.{pos, List, [], ◌∷◌, Some, None, true, false}
+use Rattle.std.specs.Prelude.{ℕ, pos, List, [], ◌∷◌, Some, None, true, false}
 use Rattle.ada_base.specs.declared.operation.Base.TheVariants.{Narrow}
 use Rattle.ada_base.specs.declared.operation.Comparison.TheVariants as comparison
 use Rattle.ada_base.specs.declared.operation.Op.TheVariants as op
@@ -22,19 +22,18 @@ counts_code =
     main 0 0 (i.Push (pos 0))
     ∷ main 1 1 fits
     ∷ main 2 1 (i.StoreL 0)
-    ∷ main 3 0 (i.Jump 11)
-    ∷ main 4 0 (i.Jump 15)
+    ∷ main 3 0 (i.Jump 10)
+    ∷ main 4 0 (i.Jump 14)
     ∷ main 5 0 i.Turn
     ∷ main 6 0 (i.LoadG 0)
-    ∷ main 7 1 (i.Push (pos 1))
-    ∷ main 8 2 (i.Add Narrow)
-    ∷ main 9 1 fits
-    ∷ main 10 1 (i.StoreG 0)
-    ∷ main 11 0 (i.LoadG 0)
-    ∷ main 12 1 (i.Push (pos 3))
-    ∷ main 13 2 i.Lt
-    ∷ main 14 1 (i.JTrue 5)
-    ∷ main 15 0 i.Halt
+    ∷ main 7 1 (i.AddI (pos 1) Narrow)
+    ∷ main 8 1 fits
+    ∷ main 9 1 (i.StoreG 0)
+    ∷ main 10 0 (i.LoadG 0)
+    ∷ main 11 1 (i.Push (pos 3))
+    ∷ main 12 2 i.Lt
+    ∷ main 13 1 (i.JTrue 5)
+    ∷ main 14 0 i.Halt
     ∷ []
 
 abbrev pub Counts : Type 0
@@ -51,21 +50,20 @@ exits_code =
     main 0 0 (i.Push (pos 0))
     ∷ main 1 1 fits
     ∷ main 2 1 (i.StoreL 0)
-    ∷ main 3 0 (i.Jump 16)
-    ∷ main 4 0 (i.Jump 17)
+    ∷ main 3 0 (i.Jump 15)
+    ∷ main 4 0 (i.Jump 16)
     ∷ main 5 0 i.Turn
     ∷ main 6 0 (i.LoadG 0)
-    ∷ main 7 1 (i.Push (pos 1))
-    ∷ main 8 2 (i.Add Narrow)
-    ∷ main 9 1 fits
-    ∷ main 10 1 (i.StoreG 0)
-    ∷ main 11 0 (i.LoadG 0)
-    ∷ main 12 1 (i.Push (pos 3))
-    ∷ main 13 2 i.Eq
-    ∷ main 14 1 (i.JFalse 16)
-    ∷ main 15 0 (i.Jump 17)
-    ∷ main 16 0 (i.Jump 5)
-    ∷ main 17 0 i.Halt
+    ∷ main 7 1 (i.AddI (pos 1) Narrow)
+    ∷ main 8 1 fits
+    ∷ main 9 1 (i.StoreG 0)
+    ∷ main 10 0 (i.LoadG 0)
+    ∷ main 11 1 (i.Push (pos 3))
+    ∷ main 12 2 i.Eq
+    ∷ main 13 1 (i.JFalse 15)
+    ∷ main 14 0 (i.Jump 16)
+    ∷ main 15 0 (i.Jump 5)
+    ∷ main 16 0 i.Halt
     ∷ []
 
 abbrev pub Exits : Type 0
@@ -241,18 +239,17 @@ reduces_code =
     ∷ main 8 1 (i.LoadL 1)
     ∷ main 9 2 (i.LoadL 2)
     ∷ main 10 3 i.Le
-    ∷ main 11 2 (i.JFalse 20)
+    ∷ main 11 2 (i.JFalse 19)
     ∷ main 12 1 (i.Jump 14)
-    ∷ main 13 1 (i.Jump 20)
+    ∷ main 13 1 (i.Jump 19)
     ∷ main 14 1 i.Turn
     ∷ main 15 1 (i.LoadL 1)
-    ∷ main 16 2 (i.Push (pos 2))
-    ∷ main 17 3 (i.Mul Narrow)
-    ∷ main 18 2 (i.Add Narrow)
-    ∷ main 19 1 (i.Next 1 2 14)
-    ∷ main 20 1 fits
-    ∷ main 21 1 (i.StoreG 0)
-    ∷ main 22 0 i.Halt
+    ∷ main 16 2 (i.MulI (pos 2) Narrow)
+    ∷ main 17 2 (i.Add Narrow)
+    ∷ main 18 1 (i.Next 1 2 14)
+    ∷ main 19 1 fits
+    ∷ main 20 1 (i.StoreG 0)
+    ∷ main 21 0 i.Halt
     ∷ []
 
 abbrev pub Reduces : Type 0
@@ -287,27 +284,76 @@ crosses_code =
     ∷ main 15 0 (i.LoadL 5)
     ∷ main 16 1 (i.LoadL 6)
     ∷ main 17 2 i.Le
-    ∷ main 18 1 (i.JFalse 34)
+    ∷ main 18 1 (i.JFalse 33)
     ∷ main 19 0 (i.Jump 21)
-    ∷ main 20 0 (i.Jump 34)
+    ∷ main 20 0 (i.Jump 33)
     ∷ main 21 0 i.Turn
-    ∷ main 22 0 (i.Global 0)
-    ∷ main 23 1 (i.IndexL 5 (pos 1) (pos 2) 2)
-    ∷ main 24 1 (i.ItemL 5 (pos 1) (pos 2) 1)
-    ∷ main 25 1 (i.Global 0)
-    ∷ main 26 2 (i.LoadG 4)
-    ∷ main 27 3 (i.Index (pos 1) (pos 2) 2)
-    ∷ main 28 2 (i.LoadG 4)
-    ∷ main 29 3 (i.Item (pos 1) (pos 2) 1)
-    ∷ main 30 2 (i.Add Narrow)
-    ∷ main 31 1 fits
-    ∷ main 32 1 (i.StoreG 4)
-    ∷ main 33 0 (i.Next 5 6 21)
-    ∷ main 34 0 i.Halt
+    ∷ main 22 0 (i.IndexG 0 (pos 1) (pos 2) 2 5)
+    ∷ main 23 1 (i.ItemL 5 (pos 1) (pos 2) 1)
+    ∷ main 24 1 (i.Global 0)
+    ∷ main 25 2 (i.LoadG 4)
+    ∷ main 26 3 (i.Index (pos 1) (pos 2) 2)
+    ∷ main 27 2 (i.LoadG 4)
+    ∷ main 28 3 (i.Item (pos 1) (pos 2) 1)
+    ∷ main 29 2 (i.Add Narrow)
+    ∷ main 30 1 fits
+    ∷ main 31 1 (i.StoreG 4)
+    ∷ main 32 0 (i.Next 5 6 21)
+    ∷ main 33 0 i.Halt
     ∷ []
 
 abbrev pub Crosses : Type 0
 Crosses = IsPlain crosses crosses_code 8 3
 
+-- A : array (1 .. 3) of Integer; X : Integer := 7; for I in 1 .. 3 loop X := ((A (I) - 1) * 3 + X) mod 5 / 2; end loop;
+
+abbrev times : op.the_data → Expr → (right : ℕ) → Expr
+times o e n = Binary 0 o integers e (number (pos n))
+
+abbrev pub mixes : Program
+mixes = made_of (array_of 3 ∷ []) (object_of 1 3 ∷ object_of 0 1 ∷ []) [] (DeclareDefault 0 (set_to 1 7 NoDecl))
+    (Then (For 0 (upto 0 3) (Then (assign 1 (times op.Div (times op.Mod (sum (times op.Mul (times op.Sub (Variable 0 (root.Object 0) (Index 0 (Parameter 0 0) (pos 1) (pos 3) 1 Whole) integer) 1) 3) (variable 1)) 5) 2)) End)) End)
+
+abbrev mixes_code : List Line
+mixes_code =
+    main 0 0 (i.Push integer.low)
+    ∷ main 1 1 (i.StoreL 0)
+    ∷ main 2 0 (i.Local 1)
+    ∷ main 3 1 (i.Local 0)
+    ∷ main 4 2 (i.Copy 1)
+    ∷ main 5 0 (i.Local 2)
+    ∷ main 6 1 (i.Local 0)
+    ∷ main 7 2 (i.Copy 1)
+    ∷ main 8 0 (i.Push (pos 7))
+    ∷ main 9 1 fits
+    ∷ main 10 1 (i.StoreL 3)
+    ∷ main 11 0 (i.Push (pos 1))
+    ∷ main 12 1 (i.StoreL 4)
+    ∷ main 13 0 (i.Push (pos 3))
+    ∷ main 14 1 (i.StoreL 5)
+    ∷ main 15 0 (i.LoadL 4)
+    ∷ main 16 1 (i.LoadL 5)
+    ∷ main 17 2 i.Le
+    ∷ main 18 1 (i.JFalse 33)
+    ∷ main 19 0 (i.Jump 21)
+    ∷ main 20 0 (i.Jump 33)
+    ∷ main 21 0 i.Turn
+    ∷ main 22 0 (i.ItemG 0 (pos 1) (pos 3) 1 4)
+    ∷ main 23 1 (i.SubI (pos 1) Narrow)
+    ∷ main 24 1 (i.MulI (pos 3) Narrow)
+    ∷ main 25 1 (i.LoadG 3)
+    ∷ main 26 2 (i.Add Narrow)
+    ∷ main 27 1 (i.ModI (pos 5) Narrow)
+    ∷ main 28 1 (i.Push (pos 2))
+    ∷ main 29 2 (i.Div Narrow)
+    ∷ main 30 1 fits
+    ∷ main 31 1 (i.StoreG 3)
+    ∷ main 32 0 (i.Next 4 5 21)
+    ∷ main 33 0 i.Halt
+    ∷ []
+
+abbrev pub Mixes : Type 0
+Mixes = IsPlain mixes mixes_code 7 2
+
 abbrev pub LoopRows : Type 0
-LoopRows = Counts × Exits × Sums × Descends × Skips × Visits × Reduces × Crosses
+LoopRows = Counts × Exits × Sums × Descends × Skips × Visits × Reduces × Crosses × Mixes

@@ -23,20 +23,19 @@ adds_code =
     ∷ main 1 1 fits
     ∷ main 2 1 (i.StoreL 0)
     ∷ main 3 0 (i.LoadG 0)
-    ∷ main 4 1 (i.Push (pos 3))
-    ∷ main 5 2 (i.Add Narrow)
-    ∷ main 6 1 fits
-    ∷ main 7 1 (i.StoreG 0)
-    ∷ main 8 0 (i.LoadG 0)
-    ∷ main 9 1 (i.StoreL 1)
-    ∷ main 10 0 (i.LoadL 1)
-    ∷ main 11 1 i.Img
-    ∷ main 12 0 i.Send
-    ∷ main 13 0 i.Halt
+    ∷ main 4 1 (i.AddI (pos 3) Narrow)
+    ∷ main 5 1 fits
+    ∷ main 6 1 (i.StoreG 0)
+    ∷ main 7 0 (i.LoadG 0)
+    ∷ main 8 1 (i.StoreL 1)
+    ∷ main 9 0 (i.LoadL 1)
+    ∷ main 10 1 i.Img
+    ∷ main 11 0 i.Send
+    ∷ main 12 0 i.Halt
     ∷ []
 
 abbrev pub Adds : Type 0
-Adds = IsPlain adds adds_code 3 2
+Adds = IsPlain adds adds_code 3 1
 
 -- X : Integer := 2; if X < 3 then X := 3; else X := 4; end if; if X = 3 then X := 5; end if;
 
@@ -180,15 +179,14 @@ computes_code =
     ∷ main 11 1 (i.StoreL 5)
     ∷ main 12 0 (i.LoadL 5)
     ∷ main 13 1 (i.LoadG 0)
-    ∷ main 14 2 (i.Push (pos 1))
-    ∷ main 15 3 (i.Add Narrow)
-    ∷ main 16 2 fits
-    ∷ main 17 2 i.Store
-    ∷ main 18 0 (i.LoadL 4)
-    ∷ main 19 1 (i.Field 1)
-    ∷ main 20 1 (i.StoreL 4)
-    ∷ main 21 0 (i.Again 8)
-    ∷ main 22 0 i.Halt
+    ∷ main 14 2 (i.AddI (pos 1) Narrow)
+    ∷ main 15 2 fits
+    ∷ main 16 2 i.Store
+    ∷ main 17 0 (i.LoadL 4)
+    ∷ main 18 1 (i.Field 1)
+    ∷ main 19 1 (i.StoreL 4)
+    ∷ main 20 0 (i.Again 8)
+    ∷ main 21 0 i.Halt
     ∷ []
 
 -- an association with the parameter K, from 1 on
@@ -228,7 +226,7 @@ numbers_code =
     ∷ []
 
 abbrev pub Computes : Type 0
-Computes = IsPlain computes computes_code 7 3 × IsPlain numbers numbers_code 8 3
+Computes = IsPlain computes computes_code 7 2 × IsPlain numbers numbers_code 8 3
 
 -- X : Integer := 3; A : array (1 .. 3) of Integer := [2 => 0, others => X + 1]; and the others from a parameter, in two runs
 
@@ -263,15 +261,14 @@ goes_round_code =
     ∷ main 23 1 (i.StoreL 5)
     ∷ main 24 0 (i.LoadL 5)
     ∷ main 25 1 (i.LoadG 0)
-    ∷ main 26 2 (i.Push (pos 1))
-    ∷ main 27 3 (i.Add Narrow)
-    ∷ main 28 2 fits
-    ∷ main 29 2 i.Store
-    ∷ main 30 0 (i.LoadL 4)
-    ∷ main 31 1 (i.Field 1)
-    ∷ main 32 1 (i.StoreL 4)
-    ∷ main 33 0 (i.Again 11)
-    ∷ main 34 0 i.Halt
+    ∷ main 26 2 (i.AddI (pos 1) Narrow)
+    ∷ main 27 2 fits
+    ∷ main 28 2 i.Store
+    ∷ main 29 0 (i.LoadL 4)
+    ∷ main 30 1 (i.Field 1)
+    ∷ main 31 1 (i.StoreL 4)
+    ∷ main 32 0 (i.Again 11)
+    ∷ main 33 0 i.Halt
     ∷ []
 
 abbrev pub rounds : Program
@@ -333,7 +330,7 @@ rounds_code =
     ∷ []
 
 abbrev pub GoesRound : Type 0
-GoesRound = IsPlain goes_round goes_round_code 7 3 × IsPlain rounds rounds_code 8 4
+GoesRound = IsPlain goes_round goes_round_code 7 2 × IsPlain rounds rounds_code 8 4
 
 -- type Pair is record P, Q : Integer; end record; type Pairs is array (1 .. 2) of Pair; X : Integer := 1; V : Pairs;
 -- V (X).Q := @ + V (2).P;

@@ -18,7 +18,7 @@ use Rattle.lower_emission.specs.Emits.{Emit, Nothing, One, Seq, Choose, When, Lo
 use Rattle.lower_emission.specs.Scope.{Scope, mark_of, moved_named, none, one, thread_scope, with_exit, ◌⨟◌}
 use Rattle.lower_emission.specs.Statements.{away}
 use Rattle.ada_lower.specs.Sights.{Named, Where, array_root_of, constant_root_of, root_of}
-use Rattle.ada_lower.specs.Emission.{address, ascending, bounds_code, chunk_scope, combined, counting, doubled, ends_code, away, exiting, filling, fillings, folding, indexed_by, item_by, leaving_by, load_by, load_named, load_where, negated_code, part_of, raise_above, ranged, raise_beyond, stepping, turning, entering, entering_next, run_steps, run_turnings, turnings, within, components_of, locating, locating_in, repeating}
+use Rattle.ada_lower.specs.Emission.{address, ascending, bounds_code, chunk_scope, combined, counting, doubled, ends_code, away, exiting, filling, fillings, folding, indexed_by, item_by, component_address, component_value, operated_by, leaving_by, load_by, load_named, load_where, negated_code, raise_above, ranged, raise_beyond, stepping, turning, entering, entering_next, run_steps, run_turnings, turnings, within, components_of, locating, locating_in, repeating}
 use Rattle.typed_scopes.specs.Scopes.{Around, ArraySeen, ConstantSeen, VariableSeen, with_chunk}
 
 -- ---- code that is alike: with the same marks and instructions, but for places of handlers and aims of jumps
@@ -141,10 +141,8 @@ module _ (T : ℕ → ℕ → Type 0) (v : Around) (s : Scope) (o : Entity → O
       by None = plain
       by (Some n) = plain
 
-  pub a_part : (h : ℕ) (n n' : Option Named) (whole : Bool) (part part' : Emit) → n ≡ n' → Alike T part part' → Alike T (part_of s h n whole part) (part_of (prime o x e s) h n' whole part')
-  a_part h n n' whole part part' same f =
-      subst (λ m. Alike T (part_of s h n whole part) (part_of (prime o x e s) h m whole part')) same
-      (a_cond T whole (load_named s h n) (address s h n ⨟ part) (load_named (prime o x e s) h n) (address (prime o x e s) h n ⨟ part') (a_load h n) (a_address h n n refl, f))
+  pub a_named : (h : ℕ) (n n' : Option Named) → n ≡ n' → Alike T (load_named s h n) (load_named (prime o x e s) h n')
+  a_named h n n' same = subst (λ m. Alike T (load_named s h n) (load_named (prime o x e s) h m)) same (a_load h n)
 
   pub a_indexed : (h : ℕ) (n n' : Option ℕ) (low high : ℤ) (stride : ℕ) (index index' : Emit) → n ≡ n' → Alike T index index' → Alike T (indexed_by s h n low high stride index) (indexed_by (prime o x e s) h n' low high stride index')
   a_indexed h n n' low high stride index index' same f = subst (λ m. Alike T (indexed_by s h n low high stride index) (indexed_by (prime o x e s) h m low high stride index')) same (by n)
@@ -159,6 +157,33 @@ module _ (T : ℕ → ℕ → Type 0) (v : Around) (s : Scope) (o : Entity → O
       by : (n : Option ℕ) → Alike T (item_by s h n low high stride index) (item_by (prime o x e s) h n low high stride index')
       by None = (f, plain)
       by (Some m) = plain
+
+  pub a_component_address : (h : ℕ) (n n' : Option Named) (g g' m m' : Option ℕ) (low high : ℤ) (stride : ℕ) (index index' : Emit) → n ≡ n' → g ≡ g' → m ≡ m' → Alike T index index'
+      → Alike T (component_address s h n g m low high stride index) (component_address (prime o x e s) h n' g' m' low high stride index')
+  a_component_address h n n' g g' m m' low high stride index index' same same' same'' f =
+      subst (λ v. Alike T (component_address s h n g m low high stride index) (component_address (prime o x e s) h n' v m' low high stride index')) same'
+      (subst (λ v. Alike T (component_address s h n g m low high stride index) (component_address (prime o x e s) h n' g v low high stride index')) same'' (by g m))
+    where
+      by : (g m : Option ℕ) → Alike T (component_address s h n g m low high stride index) (component_address (prime o x e s) h n' g m low high stride index')
+      by (Some a) (Some b) = plain
+      by (Some a) None = (a_address h n n' same, a_indexed (h + 1) None None low high stride index index' refl f)
+      by None m = (a_address h n n' same, a_indexed (h + 1) m m low high stride index index' refl f)
+
+  pub a_component_value : (h : ℕ) (n n' : Option Named) (g g' m m' : Option ℕ) (low high : ℤ) (stride : ℕ) (index index' : Emit) → n ≡ n' → g ≡ g' → m ≡ m' → Alike T index index'
+      → Alike T (component_value s h n g m low high stride index) (component_value (prime o x e s) h n' g' m' low high stride index')
+  a_component_value h n n' g g' m m' low high stride index index' same same' same'' f =
+      subst (λ v. Alike T (component_value s h n g m low high stride index) (component_value (prime o x e s) h n' v m' low high stride index')) same'
+      (subst (λ v. Alike T (component_value s h n g m low high stride index) (component_value (prime o x e s) h n' g v low high stride index')) same'' (by g m))
+    where
+      by : (g m : Option ℕ) → Alike T (component_value s h n g m low high stride index) (component_value (prime o x e s) h n' g m low high stride index')
+      by (Some a) (Some b) = plain
+      by (Some a) None = (a_address h n n' same, a_item (h + 1) None None low high stride index index' refl f)
+      by None m = (a_address h n n' same, a_item (h + 1) m m low high stride index index' refl f)
+
+  -- the same operation
+  pub a_operated : (h : ℕ) (j : Option Instr) (operates : Instr) (right right' : Emit) → Alike T right right' → Alike T (operated_by s h j operates right) (operated_by (prime o x e s) h j operates right')
+  a_operated h None operates right right' f = (f, plain)
+  a_operated h (Some j) operates right right' f = plain
 
   pub a_within : (h d : ℕ) → Alike T (within s h d) (within (prime o x e s) h d)
   a_within h d = (plain, (plain, (plain, (plain, (plain, plain)))))

@@ -8,10 +8,10 @@ use Rattle.stack_code.specs.declared.instr.Instr.TheVariants as i
 use Rattle.lower_emission.specs.Emits.{Emit}
 use Rattle.lower_emission.specs.Scope.{Scope, moved_named, nested, none, one, own, taking, thread_scope, with_item, with_parameter, ◌⨟◌}
 use Rattle.ada_lower.specs.Sights.{Named, array_root_of, constant_root_of, root_of}
-use Rattle.ada_lower.specs.Emission.{associated, chunk_code, chunk_scope, component, composed, composite_width, course_code, emit, filtered, first_parameter, folding, is_plain, fillings, turn_height, turnings, is_whole, items_code, own_cell, own_named, iterated, iterated_scope, passed, passing, put_into, range_scope, read, selected, threaded, turn_item, turns_code, width, is_repeated, repeating}
+use Rattle.ada_lower.specs.Emission.{associated, chunk_code, chunk_scope, component, composed, composite_width, course_code, emit, filtered, main_named, named_value, static_instr, binary_instr, first_parameter, folding, is_plain, fillings, turn_height, turnings, is_whole, items_code, own_cell, own_named, iterated, iterated_scope, passed, passing, put_into, range_scope, read, selected, threaded, turn_item, turns_code, width, is_repeated, repeating}
 use Rattle.typed_scopes.specs.Scopes as scopes
 use Rattle.typed_scopes.specs.Scopes.{Around, ScopedActuals, ScopedAssociations, ScopedChunk, ScopedComposite, ScopedExpr, ScopedIn, ScopedIteration, ScopedOptional, ScopedSelections, ScopedValue, with_chunk}
-use Rattle.lower_formed.proofs.Alike.{Alike, Like, a_above, a_address, a_ascending, a_beyond, a_bounds, a_combined, a_cond, a_counting, a_ends, a_fillings, a_folding, a_indexed, a_item, a_load, a_negated, a_part, a_stepping, a_turnings, a_where, a_within, array_same, chunk_object, chunk_prime, constant_same, leave, like_chunk, like_thread, marked, plain, prime, root_same, a_repeating}
+use Rattle.lower_formed.proofs.Alike.{Alike, Like, a_above, a_address, a_ascending, a_beyond, a_bounds, a_combined, a_cond, a_counting, a_ends, a_fillings, a_folding, a_indexed, a_item, a_load, a_named, a_component_address, a_component_value, a_operated, a_negated, a_stepping, a_turnings, a_where, a_within, array_same, chunk_object, chunk_prime, constant_same, leave, like_chunk, like_thread, marked, plain, prime, root_same, a_repeating}
 
 module _ (T : ℕ → ℕ → Type 0) (program : Program) (shown : ℕ → Entity → Bool) where
   -- those of a function are of all modes
@@ -59,13 +59,13 @@ module _ (T : ℕ → ℕ → Type 0) (program : Program) (shown : ℕ → Entit
 
     pub a_emit : (v : Around) (s : Scope) (o : Entity → Option Named) (xs : ℕ → Option ℕ) (en : Option ℕ) (h : ℕ) (e : Expr) → Like T v s o xs en → ScopedExpr program shown v e → Alike T (emit program s h e) (emit program (prime o xs en s) h e)
     a_emit v s o xs en h (Static at value literal mentions) k p = (plain T v s o xs en k)
-    a_emit v s o xs en h (Variable at r x scalar) k p = a_part T v s o xs en k h (root_of s r) (root_of (prime o xs en s) r) (is_whole x) _ _ (root_same T v s o xs en k r p.0) (a_read v s o xs en (h + 1) x k p.1)
-    a_emit v s o xs en h (Constant at r x scalar) k p = a_part T v s o xs en k h (constant_root_of s r) (constant_root_of (prime o xs en s) r) (is_whole x) _ _ (constant_same T v s o xs en k r p.0) (a_read v s o xs en (h + 1) x k p.1)
+    a_emit v s o xs en h (Variable at r x scalar) k p = a_value v s o xs en h (root_of s r) (root_of (prime o xs en s) r) x (root_same T v s o xs en k r p.0) k p.1
+    a_emit v s o xs en h (Constant at r x scalar) k p = a_value v s o xs en h (constant_root_of s r) (constant_root_of (prime o xs en s) r) x (constant_same T v s o xs en k r p.0) k p.1
     a_emit v s o xs en h (Parameter at j) k p = a_where T v s o xs en k h (s.parameter j)
     a_emit v s o xs en h (Target at scalar) k p = a_load T v s o xs en k h s.target
     a_emit v s o xs en h (Group e) k p = a_emit v s o xs en h e k p
     a_emit v s o xs en h (Unary at sign class e) k p = (a_emit v s o xs en h e k p, (plain T v s o xs en k))
-    a_emit v s o xs en h (Binary at op class e f) k p = (a_emit v s o xs en h e k p.0, (a_emit v s o xs en (h + 1) f k p.1, (plain T v s o xs en k)))
+    a_emit v s o xs en h (Binary at op class e f) k p = (a_emit v s o xs en h e k p.0, a_operated T v s o xs en k (h + 1) (static_instr op class f) (binary_instr op class) _ _ (a_emit v s o xs en (h + 1) f k p.1))
     a_emit v s o xs en h (AndThen e f) k p = (a_emit v s o xs en h e k p.0, ((marked T v s o xs en k), refl, refl, a_emit v s o xs en h f k p.1, (plain T v s o xs en k)))
     a_emit v s o xs en h (OrElse e f) k p = (a_emit v s o xs en h e k p.0, ((marked T v s o xs en k), refl, refl, (plain T v s o xs en k), a_emit v s o xs en h f k p.1))
     a_emit v s o xs en h (Relation class comparison e f) k p = (a_emit v s o xs en h e k p.0, (a_emit v s o xs en (h + 1) f k p.1, (plain T v s o xs en k)))
@@ -124,6 +124,13 @@ module _ (T : ℕ → ℕ → Type 0) (program : Program) (shown : ℕ → Entit
         ),
       ),
     )
+
+    a_value : (v : Around) (s : Scope) (o : Entity → Option Named) (xs : ℕ → Option ℕ) (en : Option ℕ) (h : ℕ) (n n' : Option Named) (x : Selections) → n ≡ n' → Like T v s o xs en → ScopedSelections program shown v x → Alike T (named_value program s h n x) (named_value program (prime o xs en s) h n' x)
+    a_value v s o xs en h n n' Whole same k p = a_named T v s o xs en k h n n' same
+    a_value v s o xs en h n n' (Field number offset rest) same k p = (a_address T v s o xs en k h n n' same, ((plain T v s o xs en k), a_read v s o xs en (h + 1) rest k p))
+    a_value v s o xs en h n n' (Index at e low high stride rest) same k p =
+        a_cond T (is_whole rest) _ _ _ _ (a_component_value T v s o xs en k h n n' (main_named n) (main_named n') (own_cell s e) (own_cell (prime o xs en s) e) low high stride _ _ same (ap main_named same) (own_same v s o xs en e k p.0) (a_emit v s o xs en (h + 1) e k p.0))
+        (a_component_address T v s o xs en k h n n' (main_named n) (main_named n') (own_cell s e) (own_cell (prime o xs en s) e) low high stride _ _ same (ap main_named same) (own_same v s o xs en e k p.0) (a_emit v s o xs en (h + 1) e k p.0), a_read v s o xs en (h + 1) rest k p.1)
 
     pub a_selected : (v : Around) (s : Scope) (o : Entity → Option Named) (xs : ℕ → Option ℕ) (en : Option ℕ) (h : ℕ) (x : Selections) → Like T v s o xs en → ScopedSelections program shown v x → Alike T (selected program s h x) (selected program (prime o xs en s) h x)
     a_selected v s o xs en h Whole k p = tt

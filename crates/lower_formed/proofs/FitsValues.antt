@@ -19,7 +19,7 @@ use Rattle.stack_code.specs.declared.code.SiteKind.{SiteKind}
 use Rattle.lower_emission.specs.Emits.{Emit}
 use Rattle.lower_emission.specs.Scope.{none}
 use Rattle.ada_lower.specs.Sights.{Named, Scope, Sight, chunk_sight, constant_root_of, item_sight, iterated_sight, nested_sight, passing, range_sight, root_of, taking, thread_sight, turn_sight}
-use Rattle.ada_lower.specs.Emission.{Shape, associated, chunk_code, component, combined, composed, composite_width, emit, fillings, filtered, folding, formals_in, is_plain, passed, put_into, selected, shapes, shapes_cells, is_repeated, repeating, turn_height, turnings, width}
+use Rattle.ada_lower.specs.Emission.{Shape, associated, binary_instr, chunk_code, component, combined, composed, composite_width, emit, fillings, filtered, folding, formals_in, is_plain, passed, put_into, selected, shapes, shapes_cells, is_repeated, repeating, turn_height, turnings, width}
 use Rattle.typed_tree.specs.declared.program.Mode.TheVariants as mode
 use Rattle.ada_lower.specs.Fitted.{Spot, spot, spots, Callable, Fitted, FittedAssociations, FittedComponent, FittedComposite, FittedFold, FittedGiven, FittedIn, FittedOptional, FittedRuns, FittedSelections, FittedValue}
 use Rattle.ada_lower.specs.FittedForks.{FittedChunk, FittedReductions}
@@ -28,7 +28,7 @@ use Rattle.typed_scopes.specs.Scopes.{Without, Around, ArraySeen, Called, Consta
 use Rattle.lower_formed.specs.Tables.{HasSite, TabledActuals, TabledAssociations, TabledChunk, TabledComposite, TabledExpr, TabledOptional, TabledSelections, TabledValue}
 use Rattle.lower_formed.specs.Rooms.{Roomy}
 use Rattle.lower_formed.proofs.Formals.{AreApart, AreFound, AreOf, all_found, formals_are, formals_at, none_of, spots_of, taken}
-use Rattle.lower_formed.proofs.Room.{composed_room, index_room, part_room, passed_room}
+use Rattle.lower_formed.proofs.Room.{composed_room, index_room, operand_room, part_room, passed_room}
 use Rattle.lower_formed.proofs.Sees.{Sees, sees_chunk, sees_iterated, sees_nested, sees_range, sees_taking, sees_thread}
 use Rattle.lower_formed.proofs.Walks.{Through, chunk_free, filled_room, kept, positive, reached_constant, reached_variable, through, repeated_room, turned_room}
 
@@ -165,13 +165,13 @@ module _ (program : Program) (globals : ℕ → Entity → Option Named) (mains 
 
     pub fits : (n : ℕ) (i : Sight) (w : Known) (v : Around) (h : ℕ) (e : Expr) → S w v i → FormedExpr program w e → ScopedExpr program shown v e → TabledExpr T n e → R (emit program i.scope h e) → Fitted program globals mains (Fold n) i e
     fits n i w v h (Static at value literal mentions) k f p t m = tt
-    fits n i w v h (Variable at r x scalar) k f p t m = (reached_variable program names mains T frames room r x 1 k f.0 p.0, fits_selections n i w v (h + 1) x k f.1 p.1 t (part_room program Row room i.scope i.scope h (root_of i.scope r) x m))
-    fits n i w v h (Constant at r x scalar) k f p t m = (reached_constant program names mains T frames room r x 1 k f.0 p.0, fits_selections n i w v (h + 1) x k f.1 p.1 t (part_room program Row room i.scope i.scope h (constant_root_of i.scope r) x m))
+    fits n i w v h (Variable at r x scalar) k f p t m = (reached_variable program names mains T frames room r x 1 k f.0 p.0, fits_selections n i w v (h + 1) x k f.1 p.1 t (part_room program Row room i.scope h (root_of i.scope r) x m))
+    fits n i w v h (Constant at r x scalar) k f p t m = (reached_constant program names mains T frames room r x 1 k f.0 p.0, fits_selections n i w v (h + 1) x k f.1 p.1 t (part_room program Row room i.scope h (constant_root_of i.scope r) x m))
     fits n i w v h (Parameter at j) k f p t m = k.parameter j p
     fits n i w v h (Target at scalar) k f p t m = let (j, e, one) = p in let (o, is, le) = k.target j e in (o, is, omega (arith, one, le))
     fits n i w v h (Group e) k f p t m = fits n i w v h e k f p t m
     fits n i w v h (Unary at sign class e) k f p t m = fits n i w v h e k f.1 p t m.0
-    fits n i w v h (Binary at op class e g) k f p t m = (fits n i w v h e k f.1 p.0 t.0 m.0, fits n i w v (h + 1) g k f.2 p.1 t.1 m.1.0)
+    fits n i w v h (Binary at op class e g) k f p t m = (fits n i w v h e k f.1 p.0 t.0 m.0, fits n i w v (h + 1) g k f.2 p.1 t.1 (operand_room program Row room i.scope (h + 1) op class g (binary_instr op class) m.1))
     fits n i w v h (AndThen e g) k f p t m = (fits n i w v h e k f.0 p.0 t.0 m.0, fits n i w v h g k f.1 p.1 t.1 m.1.1)
     fits n i w v h (OrElse e g) k f p t m = (fits n i w v h e k f.0 p.0 t.0 m.0, fits n i w v h g k f.1 p.1 t.1 m.1.2)
     fits n i w v h (Relation class comparison e g) k f p t m = (fits n i w v h e k f.1 p.0 t.0 m.0, fits n i w v (h + 1) g k f.2 p.1 t.1 m.1.0)

@@ -3,15 +3,20 @@ use Rattle.std.proofs.Common.{◌≡◌, ℕ, zero, suc, ◌+◌, ◌≤◌, ℤ
 use Rattle.std.proofs.Math.Nat.{le-max_right}
 use Rattle.typed_tree.specs.declared.scalars.Scalar.{Scalar}
 use Rattle.typed_tree.specs.declared.program.Field.{Field as Part}
-use Rattle.typed_tree.specs.Syntax.{Expr, Actuals, NoActual, In, InOut, Out, CompositeInOut, CompositeOut, Value, Number, Cells, Composite, WholeVariable, WholeConstant, WholeTarget, CompositeIf, Aggregate, Pieces, NoPiece, Text, Image, Padded, Selections, Whole, Field, Index, Subtype, OfScalar, Array, Record, Program}
+use Rattle.typed_tree.specs.Syntax.{Expr, Static, Actuals, NoActual, In, InOut, Out, CompositeInOut, CompositeOut, Value, Number, Cells, Composite, WholeVariable, WholeConstant, WholeTarget, CompositeIf, Aggregate, Pieces, NoPiece, Text, Image, Padded, Selections, Whole, Field, Index, Subtype, OfScalar, Array, Record, Program}
 use Rattle.ada_meaning.specs.Values.{components, fields, layout_of, layout_within, repeated}
 use Rattle.stack_code.specs.declared.code.Around.{Around}
 use Rattle.stack_code.specs.declared.code.SiteKind.{SiteKind}
 use Rattle.lower_emission.specs.Emits.{Emit}
 use Rattle.lower_emission.specs.Scope.{Scope, one, ◌⨟◌}
 use Rattle.lower_emission.specs.declared.types.Named.{Named}
-use Rattle.ada_lower.specs.Emission.{cells_of, default_of, defaults_within, emit, field_defaults, indexed_by, is_whole, item_by, own_cell, part_of, passed, piece_cells, piece_values, put_into, composed, read, selected, send_instr}
+use Rattle.ada_lower.specs.Emission.{cells_of, default_of, defaults_within, emit, field_defaults, indexed_by, is_whole, item_by, own_cell, main_named, component_address, component_value, named_value, operated_by, static_instr, passed, piece_cells, piece_values, put_into, composed, read, selected, send_instr}
 use Rattle.lower_emission.proofs.OwnCells.{emit_own}
+use Rattle.lower_emission.proofs.Fused.{of_operated}
+use Rattle.ada_base.specs.declared.operation.Op.{Op}
+use Rattle.typed_tree.specs.declared.scalars.Class.{Class}
+use Rattle.stack_code.specs.declared.instr.Instr.{Instr}
+use Rattle.stack_code.specs.declared.instr.Instr.TheVariants as i
 use Rattle.lower_formed.specs.Rooms.{Roomy}
 
 module _ (program : Program) (rows : ℕ → SiteKind → Around → Type 0) (room : Around → ℕ) where
@@ -38,12 +43,28 @@ module _ (program : Program) (rows : ℕ → SiteKind → Around → Type 0) (ro
       by true is more m = (item_room s h (own_cell s e) low high stride (emit program s h e) m, whole_room s h rest is)
       by false is more m = (m.0, more m.1)
 
+  component_room : (s : Scope) (h : ℕ) (o : Option Named) (first own : Option ℕ) (low high : ℤ) (stride : ℕ) (index : Emit) → Roomy rows room (component_address s h o first own low high stride index) → Roomy rows room (indexed_by s (h + 1) own low high stride index)
+  component_room s h o None own low high stride index m = m.1
+  component_room s h o (Some g) None low high stride index m = m.1
+  component_room s h o (Some g) (Some n) low high stride index m = m
+
+  value_room : (s : Scope) (h : ℕ) (o : Option Named) (first own : Option ℕ) (low high : ℤ) (stride : ℕ) (index : Emit) → Roomy rows room (component_value s h o first own low high stride index) → Roomy rows room (indexed_by s (h + 1) own low high stride index)
+  value_room s h o None own low high stride index m = item_room s (h + 1) own low high stride index m.1
+  value_room s h o (Some g) None low high stride index m = m.1
+  value_room s h o (Some g) (Some n) low high stride index m = m
+
   -- the code of a part of what is named has that of its selections
-  pub part_room : (s u : Scope) (h : ℕ) (o : Option Named) (x : Selections) → Roomy rows room (part_of s h o (is_whole x) (read program u (h + 1) x)) → Roomy rows room (selected program u (h + 1) x)
-  unfolding selected
-  part_room s u h o Whole m = tt
-  part_room s u h o (Field number offset rest) m = read_room u (h + 1) (Field number offset rest) m.1
-  part_room s u h o (Index at e low high stride rest) m = read_room u (h + 1) (Index at e low high stride rest) m.1
+  pub part_room : (s : Scope) (h : ℕ) (o : Option Named) (x : Selections) → Roomy rows room (named_value program s h o x) → Roomy rows room (selected program s (h + 1) x)
+  unfolding named_value selected
+  part_room s h o Whole m = tt
+  part_room s h o (Field number offset rest) m = (m.1.0, read_room s (h + 1) rest m.1.1)
+  part_room s h o (Index at e low high stride rest) m = by (is_whole rest) refl m
+    where
+      by : (b : Bool) → is_whole rest ≡ b
+          → Roomy rows room (cond b (component_value s h o (main_named o) (own_cell s e) low high stride (emit program s (h + 1) e)) (component_address s h o (main_named o) (own_cell s e) low high stride (emit program s (h + 1) e) ⨟ read program s (h + 1) rest))
+          → Roomy rows room (indexed_by s (h + 1) (own_cell s e) low high stride (emit program s (h + 1) e) ⨟ selected program s (h + 1) rest)
+      by true is m = (value_room s h o (main_named o) (own_cell s e) low high stride (emit program s (h + 1) e) m, whole_room s (h + 1) rest is)
+      by false is m = (component_room s h o (main_named o) (own_cell s e) low high stride (emit program s (h + 1) e) m.0, read_room s (h + 1) rest m.1)
 
   -- where an index is, its code has room
   pub index_room : (s : Scope) (h : ℕ) (e : Expr) (low high : ℤ) (stride : ℕ) → Roomy rows room (indexed_by s h (own_cell s e) low high stride (emit program s h e)) → Roomy rows room (emit program s h e)
@@ -52,6 +73,13 @@ module _ (program : Program) (rows : ℕ → SiteKind → Around → Type 0) (ro
       by : (o : Option ℕ) → own_cell s e ≡ o → Roomy rows room (indexed_by s h o low high stride (emit program s h e)) → Roomy rows room (emit program s h e)
       by None is m = m.0
       by (Some n) is m = subst (λ a. Roomy rows room a) (sym (emit_own program s h e n is)) m
+
+  -- where an operation is, the code of its right operand has room
+  pub operand_room : (s : Scope) (h : ℕ) (o : Op) (class : Class) (f : Expr) (operates : Instr) → Roomy rows room (operated_by s h (static_instr o class f) operates (emit program s h f)) → Roomy rows room (emit program s h f)
+  unfolding emit
+  operand_room s h o class (Static at value literal mentions) operates m =
+      of_operated (λ a. Roomy rows room a → Roomy rows room (one s h (i.Push value))) s h o class (Static at value literal mentions) operates (one s h (i.Push value)) (λ v m. m) (λ v m. m) (λ v m. m) (λ v m. m) (λ m. m.0) m
+  operand_room s h o class f operates m = m.0
 
   pub composed_room : (s : Scope) (h t : ℕ) (c : Composite) → Roomy rows room (composed program s h t c) → s.free ≤ room s.body
   unfolding composed

@@ -37,8 +37,9 @@ use Rattle.lower_emission.specs.declared.types.Leaving.{Leaving}
 use Rattle.lower_emission.specs.declared.types.Leaving.TheVariants.{ByReturn, ByValue, ByEnd, ByLeave}
 use Rattle.lower_emission.specs.Emits.{Emit, Nothing, One, Seq, Choose, When, Looped, Guarded, Aside, From, listed}
 use Rattle.lower_emission.specs.Scope.{Scope, own, taking, nested, thread_scope, with_parameter, with_item, with_target, with_handled, with_exit, with_entry, root_of, constant_root_of, array_root_of, none, one, ◌⨟◌, load_at, address_at, store_at, address_of}
-use Rattle.lower_emission.specs.Emission.{is_plain, Shape, shapes, load_by, load_named, load_where, address, is_whole, part_of, own_cell, indexed_by, item_by, unary_instr, binary_instr, compare_instr, within, negated_code, leaving_by, first_parameter, range_scope, item_scope, counting, bounds_code, ascending, stepping, folding, ranged, combined, doubled, filling, fillings, iterated_scope, turnings, entering, entering_next, run_steps, run_turnings, turn_height, chunk_scope, raise_above, raise_beyond, ends_code, turn_range, turn_component, cells_of, passing, composite_width, width, is_repeated, components_of, locating, locating_in, repeating}
-unfoldable use Rattle.lower_emission.specs.Emission.{emit, selected, read, passed, put_into, composed, associated, component, filtered, iterated, chunk_code, course_code, threaded}
+use Rattle.lower_emission.specs.Emission.{is_plain, Shape, shapes, load_by, load_named, load_where, address, is_whole, own_cell, indexed_by, item_by, main_named, component_address, component_value, unary_instr, binary_instr, static_instr, operated_by, compare_instr, within, negated_code, leaving_by, first_parameter, range_scope, item_scope, counting, bounds_code, ascending, stepping, folding, ranged, combined, doubled, filling, fillings, iterated_scope, turnings, entering, entering_next, run_steps, run_turnings, turn_height, chunk_scope, raise_above, raise_beyond, ends_code, turn_range, turn_component, cells_of, passing, composite_width, width, is_repeated, components_of, locating, locating_in, repeating}
+use Rattle.lower_emission.proofs.Fused.{of_operated, of_component_address, of_component_value}
+unfoldable use Rattle.lower_emission.specs.Emission.{emit, named_value, selected, read, passed, put_into, composed, associated, component, filtered, iterated, chunk_code, course_code, threaded}
 use Rattle.lower_emission.specs.Statements.{no_handler, is_end, assigned, in_span, chosen, has_reason, handled_by, returning, returning_value, away, exiting, handled_target, image_instr, send_instr, piece_texts, object_here, exits_of, arm_exits, left_by, exits_code, is_own, left_code, field_defaults, default_of, defaults_within, subtype_or_none, defaulted, declared, parallel_for, arms_code, chunk_by, arm_scope, parallel_block}
 unfoldable use Rattle.lower_emission.specs.Statements.{back_code, piece_values, stmt, all, cases, handling, arm_codes}
 use Rattle.lower_emission.specs.Bodies as code
@@ -156,9 +157,6 @@ module _ (program : Program) where
     quiet_address h None = tt
     quiet_address h (Some n) = quiet_address_of h n
 
-    quiet_part : (h : ℕ) (n : Option Named) (whole : Bool) (part : Emit) → Hushed part → Hushed (part_of s h n whole part)
-    quiet_part h n whole part f = quiet_cond whole (load_named s h n) (address s h n ⨟ part) (quiet_named h n) (quiet_address h n, f)
-
     quiet_indexed : (h : ℕ) (n : Option ℕ) (low high : ℤ) (stride : ℕ) (index : Emit) → Hushed index → Hushed (indexed_by s h n low high stride index)
     quiet_indexed h None low high stride index f = (f, tt)
     quiet_indexed h (Some n) low high stride index f = tt
@@ -166,6 +164,12 @@ module _ (program : Program) where
     quiet_item : (h : ℕ) (n : Option ℕ) (low high : ℤ) (stride : ℕ) (index : Emit) → Hushed index → Hushed (item_by s h n low high stride index)
     quiet_item h None low high stride index f = (f, tt)
     quiet_item h (Some n) low high stride index f = tt
+
+    quiet_component_address : (h : ℕ) (n : Option Named) (first own : Option ℕ) (low high : ℤ) (stride : ℕ) (index : Emit) → Hushed index → Hushed (component_address s h n first own low high stride index)
+    quiet_component_address h n first own low high stride index f = of_component_address Hushed s h n first own low high stride index (λ g j e e'. tt) (quiet_address h n, quiet_indexed (h + 1) own low high stride index f)
+
+    quiet_component_value : (h : ℕ) (n : Option Named) (first own : Option ℕ) (low high : ℤ) (stride : ℕ) (index : Emit) → Hushed index → Hushed (component_value s h n first own low high stride index)
+    quiet_component_value h n first own low high stride index f = of_component_value Hushed s h n first own low high stride index (λ g j e e'. tt) (quiet_address h n, quiet_item (h + 1) own low high stride index f)
 
     quiet_unary : (h : ℕ) (g : Sign) (class : Class) → Hushed (one s h (unary_instr g class))
     quiet_unary h sign.Minus class = tt
@@ -185,6 +189,9 @@ module _ (program : Program) where
     quiet_binary h op.Xor class = tt
     quiet_binary h op.Max class = tt
     quiet_binary h op.Min class = tt
+
+    quiet_operated : (h : ℕ) (x : Op) (class : Class) (f : Expr) (right : Emit) → Hushed right → Hushed (operated_by s h (static_instr x class f) (binary_instr x class) right)
+    quiet_operated h x class f right m = of_operated Hushed s h x class f (binary_instr x class) right (λ v. tt) (λ v. tt) (λ v. tt) (λ v. tt) (m, quiet_binary (h + 1) x class)
 
     quiet_compare : (h : ℕ) (r : Comparison) → Hushed (one s h (compare_instr r))
     quiet_compare h comparison.Equal = tt
@@ -301,13 +308,13 @@ module _ (program : Program) where
 
     quiet_emit : (may : Bool) (s : Scope) (h : ℕ) (x : Expr) → KeepsExpr nonblocking x may → Inside may s → Hushed (emit program s h x)
     quiet_emit may s h (Static a value literal mentions) w k = tt
-    quiet_emit may s h (Variable a r selections scalar) w k = quiet_part s h (root_of s r) (is_whole selections) (read program s (h + 1) selections) (quiet_read may s (h + 1) selections w k)
-    quiet_emit may s h (Constant a r selections scalar) w k = quiet_part s h (constant_root_of s r) (is_whole selections) (read program s (h + 1) selections) (quiet_read may s (h + 1) selections w k)
+    quiet_emit may s h (Variable a r selections scalar) w k = quiet_value may s h (root_of s r) selections w k
+    quiet_emit may s h (Constant a r selections scalar) w k = quiet_value may s h (constant_root_of s r) selections w k
     quiet_emit may s h (Parameter a j) w k = quiet_where s h (s.parameter j)
     quiet_emit may s h (Target a scalar) w k = quiet_named s h s.target
     quiet_emit may s h (Group e) w k = quiet_emit may s h e w k
     quiet_emit may s h (Unary a g class e) w k = (quiet_emit may s h e w k, quiet_unary s (h + 1) g class)
-    quiet_emit may s h (Binary a x class e f) w k = (quiet_emit may s h e w.0 k, (quiet_emit may s (h + 1) f w.1 k, quiet_binary s (h + 1 + 1) x class))
+    quiet_emit may s h (Binary a x class e f) w k = (quiet_emit may s h e w.0 k, quiet_operated s (h + 1) x class f (emit program s (h + 1) f) (quiet_emit may s (h + 1) f w.1 k))
     quiet_emit may s h (AndThen e f) w k = (quiet_emit may s h e w.0 k, (quiet_emit may s h f w.1 k, tt))
     quiet_emit may s h (OrElse e f) w k = (quiet_emit may s h e w.0 k, (tt, quiet_emit may s h f w.1 k))
     quiet_emit may s h (Relation class r e f) w k = (quiet_emit may s h e w.0 k, (quiet_emit may s (h + 1) f w.1 k, quiet_compare s (h + 1 + 1) r))
@@ -355,6 +362,13 @@ module _ (program : Program) where
             ),
           ),
         )
+
+    quiet_value : (may : Bool) (s : Scope) (h : ℕ) (n : Option Named) (x : Selections) → KeepsSelections nonblocking x may → Inside may s → Hushed (named_value program s h n x)
+    quiet_value may s h n Whole w k = quiet_named s h n
+    quiet_value may s h n (Field number offset rest) w k = (quiet_address s h n, (tt, quiet_read may s (h + 1) rest w k))
+    quiet_value may s h n (Index a e low high stride rest) w k =
+        quiet_cond s (is_whole rest) _ _ (quiet_component_value s h n (main_named n) (own_cell s e) low high stride (emit program s (h + 1) e) (quiet_emit may s (h + 1) e w.0 k))
+        (quiet_component_address s h n (main_named n) (own_cell s e) low high stride (emit program s (h + 1) e) (quiet_emit may s (h + 1) e w.0 k), quiet_read may s (h + 1) rest w.1 k)
 
     quiet_selected : (may : Bool) (s : Scope) (h : ℕ) (x : Selections) → KeepsSelections nonblocking x may → Inside may s → Hushed (selected program s h x)
     quiet_selected may s h Whole w k = tt

@@ -1,6 +1,6 @@
 //! How code is emitted.
 
-ghost use Rattle.std.specs.Prelude.{◌≡◌, ◌+◌, length, slice_set};
+ghost use Rattle.std.specs.Prelude.{◌≡◌, ◌+◌, ◌++◌, ◌∷◌, [], length, slice_set};
 ghost use Rattle.lower_emission.specs.Emits.{put, gap, aimed, aimed_at, aimed_false};
 ghost use Rattle.lower_emission.specs.Scope.{forks, keep, mark};
 ghost use Rattle.lower_values.specs.Words.{env_of, Emits, Wrote, Finds, Leaps};
@@ -10,14 +10,20 @@ use lower_emission::types::Placed;
 use stack_code::{Instr, SiteKind};
 
 impl Emitter {
+    /// An instruction is put at the end, with what holds around it.
+    fn push(&mut self, placed: Placed)
+        ensures { Wrote (λ c. c ++ placed ∷ []) self.old self.new }
+    {
+        if self.code.push(placed).is_err() {
+            self.whole = false;
+        }
+    }
+
     /// An instruction is put at the end.
     pub fn put(&mut self, env: &Env<'_>, height: u32, instr: Instr)
         ensures { Wrote (put (mark (env_of env.now)) height instr) self.old self.new }
     {
-        let placed = env.placed(env.free, height, instr);
-        if self.code.push(placed).is_err() {
-            self.whole = false;
-        }
+        self.push(env.placed(env.free, height, instr));
     }
 
     /// The top of the stack goes to a cell of the frame.
@@ -25,10 +31,7 @@ impl Emitter {
         ensures { Emits (keep (env_of env.now) height cell) self.old self.new }
     {
         let above = self.sum(cell, 1);
-        let placed = env.placed(env.free.max(above), height, Instr::StoreL(cell));
-        if self.code.push(placed).is_err() {
-            self.whole = false;
-        }
+        self.push(env.placed(env.free.max(above), height, Instr::StoreL(cell)));
     }
 
     /// A construct is begun.
@@ -39,9 +42,7 @@ impl Emitter {
             kind,
             ..env.placed(env.free, height, Instr::Fork(site))
         };
-        if self.code.push(fork).is_err() {
-            self.whole = false;
-        }
+        self.push(fork);
     }
 
     /// A sum, if there is room for it.

@@ -11,14 +11,15 @@ ghost use Rattle.stack_code.specs.declared.instr.Instr.TheVariants as i;
 use crate::aggregates::composed;
 use crate::calls::call;
 use crate::instrs::{
-    address_of, binary_instr, compare_instr, load_of, own_named, own_where, unary_instr,
+    address_of, binary_instr, compare_instr, fixed_instr, load_of, main_named, own_named,
+    own_where, unary_instr,
 };
 use crate::reductions::reduction;
-use crate::types::{Emitter, Env};
-use ada_base::Reason;
+use crate::types::{Emitter, Env, Index};
+use ada_base::{Op, Reason};
 use lower_emission::types::{Named, Where};
 use stack_code::Instr;
-use typed_tree::{Expr, Scalar, Selection, Value};
+use typed_tree::{Class, Expr, Scalar, Selection, Value};
 
 /// What no accepted program reaches.
 pub fn lost(env: &Env<'_>, h: u32, out: &mut Emitter)
@@ -135,6 +136,30 @@ fn own_cell(env: &Env<'_>, id: u32, out: &mut Emitter) -> Option<u32>
     }
 }
 
+/// The instruction of an operator and its right operand, where that is static and stands in it.
+fn static_instr(env: &Env<'_>, op: Op, class: Class, right: u32) -> Option<Instr>
+    ensures { result ≡ spec.static_instr op class (expr_at (nodes env.now) right) }
+{
+    match env.typed.nodes.expr(right) {
+        Expr::Static { value, .. } => fixed_instr(op, class, value),
+        Expr::Variable { .. }
+        | Expr::Constant { .. }
+        | Expr::Parameter { .. }
+        | Expr::Target { .. }
+        | Expr::Group { .. }
+        | Expr::Unary { .. }
+        | Expr::Binary { .. }
+        | Expr::AndThen { .. }
+        | Expr::OrElse { .. }
+        | Expr::Relation { .. }
+        | Expr::Membership { .. }
+        | Expr::If { .. }
+        | Expr::Convert { .. }
+        | Expr::Call { .. }
+        | Expr::Reduction { .. } => None,
+    }
+}
+
 /// Pushes the value of an expression.
 #[cycle(emit)]
 #[tactic(auto, unfolding(lower_emission::specs::Emission::emit))]
@@ -149,7 +174,7 @@ pub fn emit(env: &Env<'_>, h: u32, id: u32, out: &mut Emitter)
             ..
         } => {
             let found = env.root(root, out);
-            part(env, h, found, selections, out);
+            named(env, h, found, selections, out);
         }
         Expr::Constant {
             root,
@@ -157,7 +182,7 @@ pub fn emit(env: &Env<'_>, h: u32, id: u32, out: &mut Emitter)
             ..
         } => {
             let found = env.constant_root(root, out);
-            part(env, h, found, selections, out);
+            named(env, h, found, selections, out);
         }
         Expr::Parameter { parameter, .. } => {
             let found = env.names.parameter(parameter, out);
@@ -184,7 +209,10 @@ pub fn emit(env: &Env<'_>, h: u32, id: u32, out: &mut Emitter)
             left,
             right,
             ..
-        } => two(env, h, left, right, binary_instr(op, class), out),
+        } => match static_instr(env, op, class, right) {
+            Some(fixed) => applied(env, h, left, fixed, out),
+            None => two(env, h, left, right, binary_instr(op, class), out),
+        },
         Expr::AndThen { left, right } => and_then(env, h, left, right, out),
         Expr::OrElse { left, right } => or_else(env, h, left, right, out),
         Expr::Relation {
@@ -221,18 +249,86 @@ pub fn emit(env: &Env<'_>, h: u32, id: u32, out: &mut Emitter)
     }
 }
 
+/// Pushes the value of what is named, or of the part that selections lead to.
 #[cycle(emit)]
 #[inline(never)]
-fn part(env: &Env<'_>, h: u32, found: Option<Named>, selections: u32, out: &mut Emitter)
-    ensures { Emits (spec.part_of (env_of env.now) h found (spec.is_whole (selections_at (nodes env.now) selections)) (spec.read (tables env.now) (env_of env.now) (h + 1) (selections_at (nodes env.now) selections))) out.old out.new }
+#[tactic(auto, unfolding(lower_emission::specs::Emission::named_value))]
+fn named(env: &Env<'_>, h: u32, found: Option<Named>, id: u32, out: &mut Emitter)
+    ensures { Emits (spec.named_value (tables env.now) (env_of env.now) h found (selections_at (nodes env.now) id)) out.old out.new }
 {
-    if is_whole(env, selections) {
-        load(env, h, found, out);
-    } else {
-        address(env, h, found, out);
-        let h1 = out.sum(h, 1);
-        read(env, h1, selections, out);
+    match env.typed.nodes.selections(id) {
+        None => load(env, h, found, out),
+        Some(cell) => match env.typed.nodes.selection(cell.first) {
+            None => named(env, h, found, cell.rest, out),
+            Some(Selection::Field { offset, .. }) => {
+                address(env, h, found, out);
+                let h1 = out.sum(h, 1);
+                out.put(env, h1, Instr::Field(offset));
+                read(env, h1, cell.rest, out);
+            }
+            Some(
+                Selection::Index {
+                    index,
+                    low,
+                    high,
+                    stride,
+                    ..
+                },
+            ) => {
+                let index = Index {
+                    index,
+                    low,
+                    high,
+                    stride,
+                };
+                if is_whole(env, cell.rest) {
+                    component_value(env, h, found, index, out);
+                } else {
+                    component_address(env, h, found, index, out);
+                    let h1 = out.sum(h, 1);
+                    read(env, h1, cell.rest, out);
+                }
+            }
+        },
     }
+}
+
+/// The address of a component of what is named.
+#[cycle(emit)]
+#[inline(never)]
+fn component_address(env: &Env<'_>, h: u32, found: Option<Named>, by: Index, out: &mut Emitter)
+    ensures { Emits (spec.component_address (env_of env.now) h found (spec.main_named found) (spec.own_cell (env_of env.now) (expr_at (nodes env.now) by.index)) by.low by.high by.stride (spec.emit (tables env.now) (env_of env.now) (h + 1) (expr_at (nodes env.now) by.index))) out.old out.new }
+{
+    if let Some(first) = main_named(found) {
+        if let Some(own) = own_cell(env, by.index, out) {
+            out.put(
+                env,
+                h,
+                Instr::IndexG(first, by.low, by.high, by.stride, own),
+            );
+            return;
+        }
+    }
+    address(env, h, found, out);
+    let h1 = out.sum(h, 1);
+    indexed(env, h1, by.index, by.low, by.high, by.stride, out);
+}
+
+/// A component of what is named is read.
+#[cycle(emit)]
+#[inline(never)]
+fn component_value(env: &Env<'_>, h: u32, found: Option<Named>, by: Index, out: &mut Emitter)
+    ensures { Emits (spec.component_value (env_of env.now) h found (spec.main_named found) (spec.own_cell (env_of env.now) (expr_at (nodes env.now) by.index)) by.low by.high by.stride (spec.emit (tables env.now) (env_of env.now) (h + 1) (expr_at (nodes env.now) by.index))) out.old out.new }
+{
+    if let Some(first) = main_named(found) {
+        if let Some(own) = own_cell(env, by.index, out) {
+            out.put(env, h, Instr::ItemG(first, by.low, by.high, by.stride, own));
+            return;
+        }
+    }
+    address(env, h, found, out);
+    let h1 = out.sum(h, 1);
+    item(env, h1, by.index, by.low, by.high, by.stride, out);
 }
 
 /// The address on the stack is moved by an index.
@@ -330,6 +426,17 @@ fn read(env: &Env<'_>, h: u32, id: u32, out: &mut Emitter)
             }
         },
     }
+}
+
+/// Pushes the value of an operand, on which an instruction works.
+#[cycle(emit)]
+#[inline(never)]
+fn applied(env: &Env<'_>, h: u32, operand: u32, instr: Instr, out: &mut Emitter)
+    ensures { Emits (spec.emit (tables env.now) (env_of env.now) h (expr_at (nodes env.now) operand) ⨟ one (env_of env.now) (h + 1) instr) out.old out.new }
+{
+    emit(env, h, operand, out);
+    let h1 = out.sum(h, 1);
+    out.put(env, h1, instr);
 }
 
 #[cycle(emit)]

@@ -50,6 +50,20 @@ pub fn binary_instr(op: Op, class: Class) -> Instr
     }
 }
 
+/// The instruction of an operator whose right operand stands in it, if there is one.
+pub fn fixed_instr(op: Op, class: Class, value: i64) -> Option<Instr>
+    ensures { result ≡ spec.fixed_instr op class value }
+{
+    let base = base_of(class);
+    match op {
+        Op::Add => Some(Instr::AddI(value, base)),
+        Op::Sub => Some(Instr::SubI(value, base)),
+        Op::Mul => Some(Instr::MulI(value, base)),
+        Op::Mod => Some(Instr::ModI(value, base)),
+        Op::Div | Op::Rem | Op::Pow | Op::And | Op::Or | Op::Xor | Op::Max | Op::Min => None,
+    }
+}
+
 /// The instruction of a comparison (4.5.2).
 pub fn compare_instr(comparison: Comparison) -> Instr
     ensures { result ≡ spec.compare_instr comparison }
@@ -132,6 +146,25 @@ pub fn own_named(found: Option<Named>) -> Option<u32>
                 None
             } else {
                 own_where(Some(named.place))
+            }
+        }
+        None => None,
+    }
+}
+
+/// The cell of the main frame at which what is named begins, if that is known.
+pub fn main_named(found: Option<Named>) -> Option<u32>
+    ensures { result ≡ spec.main_named found }
+{
+    match found {
+        Some(named) => {
+            if named.through {
+                None
+            } else {
+                match named.place.level {
+                    Level::Main => Some(named.place.cell),
+                    Level::Own | Level::Around(_) => None,
+                }
             }
         }
         None => None,

@@ -66,3 +66,12 @@ pub struct Emitter {
     pub code: Items<Placed>,
     pub whole: bool,
 }
+
+/// An index of a name: its expression, its least and greatest value, and the cells of one component.
+#[derive(Clone, Copy)]
+pub struct Index {
+    pub index: u32,
+    pub low: i64,
+    pub high: i64,
+    pub stride: u32,
+}

@@ -14,8 +14,14 @@ decreases-exprs::emit l = 17179869184 * l.id + 10
 abbrev pub decreases-reductions::reduction : goal.decreases-reductions::reduction
 decreases-reductions::reduction l = 17179869184 * l.id + 5
 
-abbrev pub decreases-exprs::part : goal.decreases-exprs::part
-decreases-exprs::part l = 17179869184 * l.selections + 20
+abbrev pub decreases-exprs::named : goal.decreases-exprs::named
+decreases-exprs::named l = 17179869184 * l.id + 1
+
+abbrev pub decreases-exprs::component_address : goal.decreases-exprs::component_address
+decreases-exprs::component_address l = 17179869184 * l.by.index + 25
+
+abbrev pub decreases-exprs::component_value : goal.decreases-exprs::component_value
+decreases-exprs::component_value l = 17179869184 * l.by.index + 25
 
 abbrev pub decreases-exprs::indexed : goal.decreases-exprs::indexed
 decreases-exprs::indexed l = 17179869184 * l.index + 20
@@ -28,6 +34,9 @@ decreases-exprs::selected l = 17179869184 * l.id + 1
 
 abbrev pub decreases-exprs::read : goal.decreases-exprs::read
 decreases-exprs::read l = 17179869184 * l.id + 1
+
+abbrev pub decreases-exprs::applied : goal.decreases-exprs::applied
+decreases-exprs::applied l = 17179869184 * l.operand + 20
 
 abbrev pub decreases-exprs::two : goal.decreases-exprs::two
 decreases-exprs::two l = 17179869184 * max l.left l.right + 20

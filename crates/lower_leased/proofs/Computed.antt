@@ -2,7 +2,7 @@
 use Rattle.std.proofs.Common.{refl}
 use Rattle.lower_leased.specs.Homes.{stmt_homes}
 use Rattle.lower_leased.specs.Standings.{expr_standings, decls_standings, stmt_standings}
-use Rattle.tests_lowering.specs.Leases.{Shares, Parts, Deals, Marks, Reaches, Nests}
+use Rattle.lower_leased.specs.LeaseRows.{Shares, Parts, Deals, Marks, Reaches, Nests}
 
 pub shares : Shares
 unfolding stmt_homes stmt_standings decls_standings expr_standings
