@@ -1,4 +1,4 @@
--- Duties that are dealt evenly, in halves.
+-- Duties that are dealt evenly, in two parts.
 use Rattle.std.proofs.Common.{◌≡◌, ℕ, zero, suc, ◌+◌, ◌-◌, ◌/◌, ◌<◌, ◌≤◌, min, inl, inr, List, [], ◌∷◌, ◌++◌, length, get_or, set, take, sum, arith, refl, sym, ◌∙◌, ap, subst, length-append}
 use Rattle.std.proofs.lemmas.List.{get_or_append_left, get_or-append_right, get_or-set_same, get_or-set_other, get_or_default, take_all}
 use Rattle.std.proofs.lemmas.Bool.{cases_lt, cases_eq}
@@ -41,34 +41,28 @@ module _ {T : Type 0} where
     pub all_dealt : (ts : List T) (n workers : ℕ) → AreNumbered number 0 ts → 0 < workers → n ≡ length ts → AreDealt number (record { duties = n; workers = workers; from = 0; to = workers }) ts
     all_dealt ts n workers a lt e = record { some = lt; most = omega arith; first = a; long = omega (arith, first_last n workers lt, e) }
 
-    module _ (d : Deal) (ts : List T) (a : AreDealt number d ts) (ne : d.to - d.from ≡ 1 → ⊥) (share up : Range) (is : share ≡ even_of d.duties d.workers d.from) (is-up : up ≡ even_of d.duties d.workers (d.from + (d.to - d.from) / 2)) where
+    -- the deal is cut behind so many of its workers
+    module _ (d : Deal) (ts : List T) (a : AreDealt number d ts) (part : ℕ) (some : 0 < part) (few : part < d.to - d.from) (share up : Range) (is : share ≡ even_of d.duties d.workers d.from) (is-up : up ≡ even_of d.duties d.workers (d.from + part)) where
       abbrev middle : ℕ
-      middle = d.from + (d.to - d.from) / 2
-
-      over : 2 ≤ d.to - d.from
-      over = by_cases (d.to - d.from) ne (omega (arith, a.some)) where
-        by_cases : (n : ℕ) → (n ≡ 1 → ⊥) → 0 < n → 2 ≤ n
-        by_cases zero f lt = absurd (omega (arith, lt))
-        by_cases (suc zero) f lt = absurd (f refl)
-        by_cases (suc (suc n)) f lt = omega arith
+      middle = d.from + part
 
       low : d.from < middle
-      low = let h = over in omega arith
+      low = omega (arith, some)
 
       high : middle < d.to
-      high = let h = over in omega arith
+      high = omega (arith, few)
 
       begin : share.first ≡ (even_of d.duties d.workers d.from).first
       begin = ap (λ (s : Range). s.first) is
 
-      halfway : up.first ≡ (even_of d.duties d.workers middle).first
-      halfway = ap (λ (s : Range). s.first) is-up
+      behind : up.first ≡ (even_of d.duties d.workers middle).first
+      behind = ap (λ (s : Range). s.first) is-up
 
       pub up_le : share.first ≤ up.first
-      up_le = omega (arith, begin, halfway, first_le d.duties d.workers d.from middle (omega (arith, low)))
+      up_le = omega (arith, begin, behind, first_le d.duties d.workers d.from middle (omega (arith, low)))
 
       pub within : up.first - share.first ≤ length ts
-      within = omega (arith, begin, halfway, a.long, first_le d.duties d.workers middle d.to (omega (arith, high)))
+      within = omega (arith, begin, behind, a.long, first_le d.duties d.workers middle d.to (omega (arith, high)))
 
       module _ (xs ys : List T) (e : ts ≡ xs ++ ys) (n : length xs ≡ up.first - share.first) where
         long : length ts ≡ length xs + length ys
@@ -86,7 +80,7 @@ module _ {T : Type 0} where
             some = low;
             most = omega (arith, a.most, high);
             first = λ k z lt. ap number (sym (at_low k z lt)) ∙ a.first k z (omega (arith, long));
-            long = omega (arith, n, begin, halfway, up_le);
+            long = omega (arith, n, begin, behind, up_le);
           },
           λ k z lt. subst ready (at_low k z lt) (r k z (omega (arith, long))),
         )
@@ -96,8 +90,8 @@ module _ {T : Type 0} where
           record {
             some = high;
             most = a.most;
-            first = λ k z lt. ap number (sym (at_high k z)) ∙ a.first (length xs + k) z (omega (arith, long)) ∙ omega (arith, n, begin, halfway, up_le);
-            long = omega (arith, n, begin, halfway, up_le, long, a.long);
+            first = λ k z lt. ap number (sym (at_high k z)) ∙ a.first (length xs + k) z (omega (arith, long)) ∙ omega (arith, n, begin, behind, up_le);
+            long = omega (arith, n, begin, behind, up_le, long, a.long);
           },
           λ k z lt. subst ready (at_high k z) (r (length xs + k) z (omega (arith, long))),
         )

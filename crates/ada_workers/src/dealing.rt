@@ -41,7 +41,19 @@ fn work<T: Duty, U: Pulse>(_share: Range, pulse: &U, tasks: &mut [T])
     }
 }
 
-// The workers are halved at each step, and one half goes to a new thread where one can be made.
+// A worker whose thread is begun by a thread that was itself just begun waits for both to come up. So a thread begins up to
+// so many workers' threads itself, one right after the other, and gives away parts of more.
+const SPREAD: u32 = 4;
+
+// How many of several workers go to the next new thread.
+fn given_away(workers: u32) -> u32
+    requires { 1 < workers }
+    ensures { (0 < result) × (result < workers) }
+{
+    1 + (workers - 1) / SPREAD
+}
+
+// Some of the workers go to a new thread, where one can be made, and then some of those that are left.
 #[cycle(dealt)]
 fn run_dealt<R: Threads + Sync, T: Duty + Send, U: Pulse + Sync>(
     rt: &R,
@@ -58,7 +70,7 @@ fn run_dealt<R: Threads + Sync, T: Duty + Send, U: Pulse + Sync>(
         work(share, pulse, tasks);
         return;
     }
-    let middle = deal.from + (deal.to - deal.from) / 2;
+    let middle = deal.from + given_away(deal.to - deal.from);
     let up = even(deal.duties, deal.workers, middle);
     let (front, back) = tasks.split_at_mut((up.first - share.first) as usize);
     let low = Deal { to: middle, ..deal };
@@ -66,12 +78,12 @@ fn run_dealt<R: Threads + Sync, T: Duty + Send, U: Pulse + Sync>(
         from: middle,
         ..deal
     };
-    run_halves(rt, pulse, low, front, high, back);
+    run_both(rt, pulse, low, front, high, back);
 }
 
 // A function of its own, so that what the closures require is what it is given.
 #[cycle(dealt)]
-fn run_halves<R: Threads + Sync, T: Duty + Send, U: Pulse + Sync>(
+fn run_both<R: Threads + Sync, T: Duty + Send, U: Pulse + Sync>(
     rt: &R,
     pulse: &U,
     low: Deal,
