@@ -1,6 +1,6 @@
 #!/usr/bin/env bash
 # Runs the Ada compiler on the words that it is given, wherever the user stands: the proved program once `ada build` has
-# built it from these sources by Rattle's own compiler, whose program is the faster one, and until then the same sources,
+# built it from these sources by Rattle's own compiler, and until then the same sources,
 # compiled without a proof at each use. The words, the input, the output and the status pass through; 125 says that the
 # compiler could not be built. Where err is a terminal a refusal is followed by its line of the text and by what the rule
 # asks, and there are the words `help` and `explain`.
