@@ -1,7 +1,7 @@
 -- What follows the name of an instruction in its line, by kind.
 use Rattle.std.specs.Prelude.{ℤ, pos, List, [], ◌∷◌}
-use Rattle.code_listing.specs.declared.lines.Operands.{Operands}
-use Rattle.code_listing.specs.declared.lines.Operands.TheVariants.{Nothing, Number, Signed, Two, Three, Both, Indexed, Found, FoundBy}
+use Rattle.code_listing.specs.declared.operands.Operands.{Operands}
+use Rattle.code_listing.specs.declared.operands.Operands.TheVariants.{Nothing, Number, Signed, Two, Three, Both, Indexed, Found, FoundBy}
 
 abbrev pub numbers_of : Operands → List ℤ
 numbers_of Nothing = []

@@ -2,5 +2,7 @@
 #![tactic(auto)]
 
 pub mod lines;
+pub mod names;
+pub mod operands;
 
 pub use lines::listing;

@@ -1,7 +1,7 @@
-//! The test that code fits together: its instructions where they stand, its calls, unwind entries and leases.
+//! The test that code fits together: its instructions where they stand, and its tables.
 #![tactic(auto)]
 
-pub mod slack;
+pub mod spots;
 pub mod validity;
 
 pub use validity::validate;
