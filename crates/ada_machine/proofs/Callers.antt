@@ -1,5 +1,5 @@
 -- Calls and returns, as what they do to a state.
-use Rattle.std.proofs.Common.{◌≡◌, ℕ, ◌≤◌, ◌+◌, ◌-◌, ℤ, List, [], ◌∷◌, ◌++◌, length, Option, sym, ap, ◌∙◌, subst}
+use Rattle.std.proofs.Common.{◌≡◌, ℕ, ◌≤◌, ◌+◌, ◌-◌, ℤ, List, [], ◌∷◌, ◌++◌, length, Option, sym, ap, ◌∙◌, subst, Box, Global}
 use Rattle.std.specs.Prelude.{map, Result, Ok, Err, OnErr}
 use Rattle.std.proofs.lemmas.List.{reverse-append}
 use Rattle.ada_base.specs.declared.reason.Reason.{Reason}
@@ -9,8 +9,10 @@ use Rattle.stack_code.proofs.Topping.{tops_low}
 use Rattle.stack_code.specs.declared.code.CodeSub.{CodeSub}
 use Rattle.ada_base.specs.Cells.{Cell, zeros}
 use Rattle.ada_machine.specs.declared.calls.Entry.{Entry}
+use Rattle.ada_machine.specs.declared.machine.Aside.{Aside}
+use Rattle.ada_machine.specs.declared.machine.Machine.{Machine}
 use Rattle.ada_machine.specs.declared.machine.Waiting.{Waiting}
-use Rattle.ada_machine.specs.States.{frame_of, frames_of, begins}
+use Rattle.ada_machine.specs.States.{frame_of, frames_of, begins, IsRoomFor}
 
 pub frames_last : (ws rest : List Waiting) (w : Waiting) → ws ≡ rest ++ w ∷ [] → frames_of ws ≡ frame_of w ∷ frames_of rest
 frames_last ws rest w e = ap frames_of e ∙ ap (λ l. map frame_of l) (reverse-append rest (w ∷ []))
@@ -34,6 +36,10 @@ tops_last low s w rest ws e f t =
 pub on_err : {A E : Type 0} (r : Result A E) (P : Type 0) → P → OnErr r P
 on_err (Ok a) P h = tt
 on_err (Err e) P h = h
+
+-- memory for what the own body keeps and repeats
+pub room_still : (aside : Option (Box Aside Global)) (m m' : Machine) → m'.kept ≡ m.kept → m'.rounds ≡ m.rounds → IsRoomFor aside m.kept.items m.rounds.items → IsRoomFor aside m'.kept.items m'.rounds.items
+room_still aside m m' e f h = subst (λ r. IsRoomFor aside m'.kept.items r) (sym (ap (λ v. v.items) f)) (subst (λ k. IsRoomFor aside k m.rounds.items) (sym (ap (λ v. v.items) e)) h)
 
 -- a body that begins is a call
 pub begins_entered : (f : CodeSub) (e : Entry) (to : ℕ) (s : State) (cells : List Cell) → e.to ≡ to → e.floor ≡ length s.stack - f.takes → e.base ≡ length s.cells → e.top ≡ length s.cells → cells ≡ s.cells ++ zeros f.frame

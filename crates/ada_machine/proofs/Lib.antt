@@ -3,6 +3,7 @@ pub mod Stretches
 pub mod Callers
 pub mod Changes
 pub mod Classes
+pub mod Counts
 pub mod Divisions
 pub mod Doings
 pub mod Frames

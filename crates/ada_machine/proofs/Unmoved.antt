@@ -4,7 +4,7 @@ use Rattle.std.specs.Prelude.{◌⊎◌, slice_get, vec_capacity}
 use Rattle.ada_base.specs.Cells.{Cell}
 use Rattle.stack_code.specs.declared.code.Code.{Code}
 use Rattle.stack_code.specs.declared.instr.Instr.{Instr}
-use Rattle.stack_code.specs.declared.instr.Instr.TheVariants.{Turn}
+use Rattle.stack_code.specs.declared.instr.Instr.TheVariants.{Turn, CallAt, Ret, RetV}
 use Rattle.stack_code.specs.Deeds.{deed_of}
 use Rattle.stack_code.specs.Machine.{Comes}
 use Rattle.stack_code.specs.Runs.{NeverStuck}
@@ -18,7 +18,7 @@ use Rattle.ada_machine.specs.declared.machine.Stop.TheVariants as stop
 use Rattle.ada_machine.specs.declared.machine.Went.TheVariants as went
 use Rattle.ada_machine.specs.Played.{AsksMore, Exceeds, Overlaps}
 use Rattle.ada_machine.specs.States.{state_of, frames_of, Ready, Roomy, Steps, LooksBy, Unlooked, more}
-use Rattle.ada_machine.specs.Strides.{Strides, IsHandedOn}
+use Rattle.ada_machine.specs.Strides.{Strides, IsHandedOn, IsRare}
 use Rattle.ada_machine.proofs.Looking.{looked_step, looked_stops}
 use Rattle.ada_machine.proofs.Walks.{stops_after}
 
@@ -26,6 +26,13 @@ use Rattle.ada_machine.proofs.Walks.{stops_after}
 pub handed_on : (i : Instr) → AsksMore i → (i ≡ Turn → ⊥) → IsHandedOn i
 handed_on Turn a t = absurd (t refl)
 handed_on i a t = a
+
+-- and what it doesn't have in itself
+pub rarely : (i : Instr) → IsHandedOn i → ((sub n : ℕ) → i ≡ CallAt sub n → ⊥) → (i ≡ Ret → ⊥) → (i ≡ RetV → ⊥) → IsRare i
+rarely (CallAt sub n) a k r v = absurd (k sub n refl)
+rarely Ret a k r v = absurd (r refl)
+rarely RetV a k r v = absurd (v refl)
+rarely i a k r v = a
 
 -- a machine at an instruction, which a stretch came to
 pub record Came (limit : ℕ) (c : Code) (m0 : Machine) (cells0 : List Cell) (low : ℕ) (i : Instr) (m : Machine) (cells : List Cell) : Type 0 where

@@ -1,7 +1,6 @@
 -- Views as the cells of a path.
-use mathlib.Core.Path.{Path}
-use Rattle.std.proofs.Common.{◌≡◌, ◌≢◌, ℕ, ◌+◌, ◌-◌, ◌<◌, ◌≤◌, inl, inr, ℤ, pos, Bool, true, false, List, [], ◌∷◌, ◌++◌, map, length, get_or, set, take, Option, Some, None, arith, refl, sym, ◌∙◌, ap, subst, length-append, length-set, length-take-le}
-use Rattle.std.specs.Prelude.{IsSome, slice_get, replicate}
+use Rattle.std.proofs.Common.{◌≡◌, ◌≢◌, ℕ, ◌+◌, ◌-◌, ◌<◌, ◌≤◌, inl, inr, ℤ, pos, Bool, true, false, List, ◌++◌, map, length, get_or, set, take, Option, Some, None, arith, refl, sym, ◌∙◌, ap, subst, length-append, length-set, length-take-le}
+use Rattle.std.specs.Prelude.{IsSome, slice_get}
 use Rattle.std.specs.List.{range_with_len}
 use Rattle.std.proofs.lemmas.Bool.{cases_lt, cases_eq, false≢true}
 use Rattle.std.proofs.lemmas.List.{length-replicate, get_or_past, get_or-set_same, get_or-set_other, get_or_append_left, get_or-append_right, get_or-replicate, get_or-take}
@@ -10,7 +9,7 @@ use Rattle.std.proofs.lemmas.Option.{get_or_from_slice_get}
 use Rattle.ada_base.specs.Cells.{Cell, Gone, Seen, Mine, value_in, where_mine, seen, written, zeros}
 use Rattle.cell_memory.specs.Sight.{Sight, cell_at, value_of, is_mine, is_gone, stored, pushed, popped, OwnThere, lower_length}
 use Rattle.ada_machine.specs.Places.{Stays}
-use Rattle.ada_machine.specs.Viewed.{Seat, seat_of}
+use Rattle.ada_machine.specs.Viewed.{seat_of}
 
 abbrev pub SeatStays : Sight → Sight → Type 0
 SeatStays s t = Stays lower_length OwnThere seat_of s t

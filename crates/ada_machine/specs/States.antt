@@ -22,6 +22,10 @@ use Rattle.stack_code.specs.Looks.{counting, Looks, Looks_to}
 use Rattle.stack_code.specs.Runs.{IsAtLook}
 use Rattle.stack_code.specs.Stands.{IsCall, IsForward, Stands, Forked, rank}
 use Rattle.leave_board.specs.Halts.{Heeds}
+use Rattle.std.specs.declared.boxed.Box.{Box}
+use Rattle.std.specs.declared.alloc.Global.{Global}
+use Rattle.stack_code.specs.declared.path.Round.{Round}
+use Rattle.ada_machine.specs.declared.machine.Aside.{Aside}
 use Rattle.ada_machine.specs.declared.machine.Machine.{Machine}
 use Rattle.ada_machine.specs.declared.machine.Waiting.{Waiting}
 use Rattle.stack_code.specs.declared.code.Around.TheVariants.{Sub, Site}
@@ -33,8 +37,25 @@ use Rattle.ada_machine.specs.declared.machine.Went.{Went}
 use Rattle.ada_machine.specs.declared.machine.Went.TheVariants as went
 use Rattle.ada_machine.specs.Played.{Exceeds, Overlaps}
 
+-- what a body that waits set aside
+abbrev pub kept_of : Option (Box Aside Global) → List ℤ
+kept_of None = []
+kept_of (Some a) = reverse a.value.kept.items
+
+abbrev pub rounds_of : Option (Box Aside Global) → List Round
+rounds_of None = []
+rounds_of (Some a) = reverse a.value.rounds.items
+
+abbrev pub IsEmpty : Aside → Type 0
+IsEmpty a = (a.kept.items ≡ []) × (a.rounds.items ≡ [])
+
+-- memory for them, or there is nothing to set aside
+abbrev pub IsRoomFor : Option (Box Aside Global) → List ℤ → List Round → Type 0
+IsRoomFor None kept rounds = (kept ≡ []) × (rounds ≡ [])
+IsRoomFor (Some a) kept rounds = IsEmpty a.value
+
 abbrev pub frame_of : Waiting → Frame
-frame_of w = record { at = w.at; to = w.to; floor = w.floor; base = w.base; nest = w.nest; kept = reverse w.kept.items; rounds = reverse w.rounds.items; top = w.top }
+frame_of w = record { at = w.at; to = w.to; floor = w.floor; base = w.base; nest = w.nest; kept = kept_of w.aside; rounds = rounds_of w.aside; top = w.top }
 
 abbrev pub frames_of : List Waiting → List Frame
 frames_of ws = map frame_of (reverse ws)

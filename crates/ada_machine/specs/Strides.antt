@@ -2,7 +2,7 @@
 use Rattle.std.specs.Prelude.{ℕ, ◌<◌, ◌≤◌, List, Option, Some, None}
 use Rattle.stack_code.specs.declared.code.Code.{Code}
 use Rattle.stack_code.specs.declared.instr.Instr.{Instr}
-use Rattle.stack_code.specs.declared.instr.Instr.TheVariants.{Turn}
+use Rattle.stack_code.specs.declared.instr.Instr.TheVariants.{Turn, CallAt, Ret, RetV}
 use Rattle.stack_code.specs.Machine.{State, Comes}
 use Rattle.stack_code.specs.Stands.{rank}
 use Rattle.ada_base.specs.Cells.{Cell}
@@ -15,6 +15,13 @@ use Rattle.ada_machine.specs.States.{state_of, ReadyThen, StopsAt}
 abbrev pub IsHandedOn : Instr → Type 0
 IsHandedOn Turn = ⊥
 IsHandedOn i = AsksMore i
+
+-- those of them that the loop doesn't have in itself
+abbrev pub IsRare : Instr → Type 0
+IsRare (CallAt sub n) = ⊥
+IsRare Ret = ⊥
+IsRare RetV = ⊥
+IsRare i = IsHandedOn i
 
 -- it came to a raise, or it stopped
 abbrev pub StridesTo : (limit : ℕ) → Code → Option Stop → State → State → Type 0

@@ -5,14 +5,14 @@ ghost use Rattle.ada_base.specs.declared.reason.Reason.{Reason};
 ghost use Rattle.stack_code.specs.Machine.{Frame, Goes, cut, entered, entered_at, ending, unwound};
 ghost use Rattle.stack_code.specs.Tops.{IsTopped};
 ghost use Rattle.ada_machine.specs.Places.{Stays};
-ghost use Rattle.ada_machine.specs.States.{state_of, frame_of, frames_of, begins};
+ghost use Rattle.ada_machine.specs.States.{state_of, frame_of, frames_of, begins, IsEmpty, IsRoomFor};
 
 use crate::cells::Cells;
 use crate::effects::leave_frame;
-use crate::machine::{Machine, Waiting};
+use crate::machine::{Aside, Machine, Waiting};
 use crate::operands::{put, take};
 use stack_code::CodeSub;
-use std::alloc::AllocError;
+use std::alloc::{AllocError, Global};
 use std::mem;
 
 const FARTHEST: u64 = 4_611_686_018_427_387_904;
@@ -58,6 +58,46 @@ pub(crate) fn unwind_to<C: Cells>(m: &mut Machine, view: &mut C)
     leave_frame(m, view, caller, to);
 }
 
+// Memory for what the own body keeps and repeats, none where that is nothing.
+#[inline(always)]
+fn room_aside(m: &Machine) -> Result<Option<Box<Aside>>, AllocError>
+    ensures { IfOk result (λ aside. IsRoomFor aside m.now.kept.items m.now.rounds.items) }
+{
+    if m.kept.is_empty() && m.rounds.is_empty() {
+        return Ok(None);
+    }
+    let aside = empty_aside(*m.kept.allocator())?;
+    Ok(Some(aside))
+}
+
+#[inline(never)]
+fn empty_aside(alloc: Global) -> Result<Box<Aside>, AllocError>
+    ensures { IfOk result (λ aside. IsEmpty aside.value) }
+{
+    let aside = Box::new(
+        alloc,
+        Aside {
+            kept: Vec::new(alloc),
+            rounds: Vec::new(alloc),
+        },
+    )?;
+    Ok(aside)
+}
+
+// What the own body keeps and repeats goes there.
+#[inline(never)]
+fn set_aside(m: &mut Machine, mut aside: Box<Aside>) -> Box<Aside>
+    requires { IsEmpty aside.value }
+    ensures kept { result.value.kept ≡ m.old.kept }
+    ensures rounds { result.value.rounds ≡ m.old.rounds }
+    ensures empty { (m.new.kept.items ≡ []) × (m.new.rounds.items ≡ []) }
+    ensures rest { m.new ≡ record m.old { kept = m.new.kept; rounds = m.new.rounds } }
+{
+    mem::swap(&mut m.kept, &mut aside.kept);
+    mem::swap(&mut m.rounds, &mut aside.rounds);
+    aside
+}
+
 // Where a body begins: what waits for it goes on there, its operands stand from that height on, and its frame begins at that
 // address, above so many cells.
 #[derive(Clone, Copy)]
@@ -71,7 +111,8 @@ pub(crate) struct Entry {
 // A body begins, and the own one waits. Its cells are there already.
 #[inline(always)]
 #[tactic(auto, using(crate::proofs::Callers::frames_more))]
-fn begin_body(m: &mut Machine, callee: CodeSub, entry: Entry)
+fn begin_body(m: &mut Machine, callee: CodeSub, entry: Entry, aside: Option<Box<Aside>>)
+    requires aside { IsRoomFor aside m.old.kept.items m.old.rounds.items }
     requires room { vec_len m.old.waiting < vec_capacity m.old.waiting }
     requires turns { m.old.turns < 2 ^ 64 - 1 }
     requires calls { m.old.calls < 1000 }
@@ -81,17 +122,17 @@ fn begin_body(m: &mut Machine, callee: CodeSub, entry: Entry)
     ensures room { vec_capacity m.new.stack ≡ vec_capacity m.old.stack }
     ensures looks { m.new.looks ≡ m.old.looks }
 {
-    let alloc = *m.kept.allocator();
-    let kept = mem::replace(&mut m.kept, Vec::new(alloc));
-    let rounds = mem::replace(&mut m.rounds, Vec::new(alloc));
+    let aside = match aside {
+        Some(aside) => Some(set_aside(m, aside)),
+        None => None,
+    };
     m.waiting.push_reserved(Waiting {
         at: m.pc,
         to: entry.to,
         floor: m.floor,
         base: m.base,
         nest: m.nest,
-        kept,
-        rounds,
+        aside,
         top: entry.top,
     });
     m.pc = callee.entry as usize;
@@ -112,7 +153,7 @@ fn make_room<C: Cells>(
 ) -> Result<u64, AllocError>
     requires whole { C.whole view.old }
     ensures state { (cells : List Cell) → state_of m.new cells ≡ state_of m.old cells }
-    ensures same { (m.new.turns ≡ m.old.turns) × (m.new.calls ≡ m.old.calls) × (m.new.pc ≡ m.old.pc) × (m.new.stack.items ≡ m.old.stack.items) × (m.new.kept ≡ m.old.kept) }
+    ensures same { (m.new.turns ≡ m.old.turns) × (m.new.calls ≡ m.old.calls) × (m.new.pc ≡ m.old.pc) × (m.new.stack.items ≡ m.old.stack.items) × (m.new.kept ≡ m.old.kept) × (m.new.rounds ≡ m.old.rounds) }
     ensures room { vec_capacity m.old.stack ≤ vec_capacity m.new.stack }
     ensures ok { IfOk result (λ top. (top ≡ length (C.cells view.old)) × (C.cells view.new ≡ C.cells view.old ++ zeros count) × (vec_len m.new.stack + height ≤ vec_capacity m.new.stack) × (vec_len m.new.waiting < vec_capacity m.new.waiting)) }
     ensures err { OnErr result (C.cells view.new ≡ C.cells view.old) }
@@ -150,6 +191,7 @@ pub(crate) fn enter<C: Cells>(
     if FARTHEST < base {
         return Err(AllocError);
     }
+    let aside = room_aside(m)?;
     let top = make_room(m, view, callee.stack, callee.frame)?;
     let floor = m.stack.len() - callee.takes as usize;
     begin_body(
@@ -161,6 +203,7 @@ pub(crate) fn enter<C: Cells>(
             base,
             top,
         },
+        aside,
     );
     Ok(())
 }
@@ -194,6 +237,7 @@ pub(crate) fn enter_at<C: Cells>(
         Ok(count) => count,
         Err(_) => return Err(AllocError),
     };
+    let aside = room_aside(m)?;
     let top = make_room(m, view, callee.stack, count)?;
     let floor = m.stack.len();
     begin_body(
@@ -205,6 +249,7 @@ pub(crate) fn enter_at<C: Cells>(
             base,
             top,
         },
+        aside,
     );
     Ok(())
 }

@@ -7,7 +7,7 @@ ghost use Rattle.ada_machine.specs.Places.{Stays};
 ghost use Rattle.stack_code.specs.Looks.{looks_of, kept_looks};
 ghost use Rattle.stack_code.specs.Machine.{failed, on};
 ghost use Rattle.ada_machine.specs.States.{state_of, more, Ready, Steps, LooksBy, HeedsBy};
-ghost use Rattle.ada_machine.specs.Strides.{IsHandedOn};
+ghost use Rattle.ada_machine.specs.Strides.{IsHandedOn, IsRare};
 
 use crate::calls::{enter, enter_at, return_to};
 use crate::cells::Cells;
@@ -575,7 +575,7 @@ fn combine<C: Cells, H: Halt>(
     }
 }
 
-pub(crate) fn effect<C: Cells, H: Halt>(
+fn rare_effect<C: Cells, H: Halt>(
     code: &Code,
     m: &mut Machine,
     view: &mut C,
@@ -586,11 +586,10 @@ pub(crate) fn effect<C: Cells, H: Halt>(
     requires ready { Ready code.now m.old (C.cells view.old) }
     requires calm { m.old.raising ≡ None }
     requires at { slice_get code.now.instrs m.old.pc ≡ Some instr }
-    requires more { IsHandedOn instr }
+    requires more { IsRare instr }
     requires within { m.old.turns ≤ limit }
     requires next { m.old.pc < usize.MAX }
     requires whole { C.whole view.old }
-    requires tops { IsTopped (C.floor view.old) (state_of m.old (C.cells view.old)) }
     ensures steps { Steps limit code.now result m.old (C.cells view.old) m.new (C.cells view.new) }
     ensures paused { result ≡ Went.Stopped Stop.Paused → H.told halt.new }
     ensures halts { (H.kept halt.new ≡ H.kept halt.old) × (H.told halt.old → H.told halt.new) }
@@ -600,21 +599,12 @@ pub(crate) fn effect<C: Cells, H: Halt>(
 {
     match instr {
         Instr::Call(number) => call(code, m, view, limit, halt, number),
-        Instr::CallAt(sub, cell) => call_at(code, m, view, limit, halt, Window { sub, cell }),
         Instr::CallTo(sub, cell, to) => {
             call_to(code, m, view, limit, halt, Return { sub, cell, to })
         }
         Instr::Part => draw(code, m, limit),
         Instr::Repeat(count) => repeat(code, m, limit, count),
         Instr::Again(to) => again(code, m, limit, to),
-        Instr::Ret => {
-            return_plain(code, m, view, limit);
-            Went::On
-        }
-        Instr::RetV => {
-            return_value(code, m, view, limit);
-            Went::On
-        }
         Instr::Exit(number) => Went::Stopped(Stop::Left(Leave::Exit(number))),
         Instr::Leave => Went::Stopped(Stop::Left(Leave::Return(None))),
         Instr::LeaveV => leave_with(code, m, limit),
@@ -633,5 +623,44 @@ pub(crate) fn effect<C: Cells, H: Halt>(
         Instr::Halt => Went::Stopped(Stop::Done(None)),
         Instr::Combine(number) => combine(code, m, view, limit, halt, number),
         _ => Went::Stopped(Stop::NoMemory),
+    }
+}
+
+// Does an instruction that asks for more than operands, cells and turns. The loop has those in itself that are met often.
+#[inline(always)]
+pub(crate) fn effect<C: Cells, H: Halt>(
+    code: &Code,
+    m: &mut Machine,
+    view: &mut C,
+    limit: u64,
+    halt: &mut H,
+    instr: &Instr,
+) -> Went
+    requires ready { Ready code.now m.old (C.cells view.old) }
+    requires calm { m.old.raising ≡ None }
+    requires at { slice_get code.now.instrs m.old.pc ≡ Some instr.now }
+    requires more { IsHandedOn instr.now }
+    requires within { m.old.turns ≤ limit }
+    requires next { m.old.pc < usize.MAX }
+    requires whole { C.whole view.old }
+    requires tops { IsTopped (C.floor view.old) (state_of m.old (C.cells view.old)) }
+    ensures steps { Steps limit code.now result m.old (C.cells view.old) m.new (C.cells view.new) }
+    ensures paused { result ≡ Went.Stopped Stop.Paused → H.told halt.new }
+    ensures halts { (H.kept halt.new ≡ H.kept halt.old) × (H.told halt.old → H.told halt.new) }
+    ensures heeds { HeedsBy result (H.told halt.old) (H.told halt.new) m.old.looks m.new.looks }
+    ensures stays { Stays C.floor C.whole C.place view.old view.new }
+    ensures looks { LooksBy result m.old.looks m.new.looks (looks_of code.now (state_of m.old (C.cells view.old))) }
+{
+    match *instr {
+        Instr::CallAt(sub, cell) => call_at(code, m, view, limit, halt, Window { sub, cell }),
+        Instr::Ret => {
+            return_plain(code, m, view, limit);
+            Went::On
+        }
+        Instr::RetV => {
+            return_value(code, m, view, limit);
+            Went::On
+        }
+        _ => rare_effect(code, m, view, limit, halt, *instr),
     }
 }

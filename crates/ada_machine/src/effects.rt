@@ -7,7 +7,7 @@ ghost use Rattle.ada_machine.specs.Places.{Stays};
 ghost use Rattle.ada_machine.specs.States.{state_of, frame_of, frames_of};
 
 use crate::cells::Cells;
-use crate::machine::{Machine, Waiting};
+use crate::machine::{Aside, Machine, Waiting};
 use crate::operands::put;
 use ada_base::Reason;
 use stack_code::path::Round;
@@ -134,6 +134,16 @@ pub(crate) fn handle(m: &mut Machine, entry: Unwind, reason: Reason)
     m.raising = None;
 }
 
+// What a body that waited had set aside is back.
+#[inline(never)]
+fn take_back(m: &mut Machine, aside: Box<Aside>)
+    ensures { m.new ≡ record m.old { kept = aside.value.kept; rounds = aside.value.rounds } }
+{
+    let Aside { kept, rounds } = Box::into_inner(aside);
+    m.kept = kept;
+    m.rounds = rounds;
+}
+
 // A body that was called has ended, and the caller, which was taken off, goes on there.
 #[inline(always)]
 #[tactic(auto, using(crate::proofs::Changes::ended_by))]
@@ -155,8 +165,7 @@ pub(crate) fn leave_frame<C: Cells>(m: &mut Machine, view: &mut C, caller: Waiti
         floor,
         base,
         nest,
-        kept,
-        rounds,
+        aside,
         top,
     } = caller;
     let height = m.floor;
@@ -166,8 +175,13 @@ pub(crate) fn leave_frame<C: Cells>(m: &mut Machine, view: &mut C, caller: Waiti
     m.floor = floor;
     m.nested -= m.nest;
     m.nest = nest;
-    m.kept = kept;
-    m.rounds = rounds;
+    match aside {
+        Some(aside) => take_back(m, aside),
+        None => {
+            m.kept.clear();
+            m.rounds.clear();
+        }
+    }
     m.base = base;
     m.calls = m.calls.saturating_sub(1);
 }

@@ -123,11 +123,10 @@ pub(crate) fn give_line(m: &mut Machine, feed: bool) -> Result<Items<u8>, AllocE
 fn many(first: i64, last: i64) -> u128
     ensures { result ≡ many first last }
 {
-    let count = i128::from(last) + 1 - i128::from(first);
-    if count < 0 {
+    if last < first {
         return 0;
     }
-    count.unsigned_abs()
+    u128::from(last.abs_diff(first)) + 1
 }
 
 fn can_fork(count: u128, most: u128) -> bool

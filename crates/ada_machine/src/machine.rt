@@ -33,9 +33,18 @@ pub enum Went {
     Stopped(Stop),
 }
 
+/// What a body that waits for its call has set aside: what its last fork kept, of which the first is last, and the parts that it
+/// repeats.
+#[derive(Drop)]
+pub struct Aside {
+    /// The accumulators that are still to be combined, the first last.
+    pub kept: Vec<i64>,
+    /// The parts that are being repeated in it, the innermost last.
+    pub rounds: Vec<Round>,
+}
+
 /// A body that waits for its call: where the call stands and where it goes on, where its operands and its frame begin,
-/// the constructs begun in it, what its last fork kept, of which the first is last, the parts that it repeats, and where the
-/// cells ended.
+/// the constructs begun in it, what it has set aside, and where the cells ended.
 #[derive(Drop)]
 pub struct Waiting {
     /// The call.
@@ -48,10 +57,8 @@ pub struct Waiting {
     pub base: u64,
     /// The constructs begun in it.
     pub nest: u32,
-    /// The accumulators that are still to be combined, the first last.
-    pub kept: Vec<i64>,
-    /// The parts that are being repeated in it, the innermost last.
-    pub rounds: Vec<Round>,
+    /// What its last fork kept and the parts that it repeats, none where there is neither.
+    pub aside: Option<Box<Aside>>,
     /// Where the cells ended before the call.
     pub top: u64,
 }

@@ -117,19 +117,26 @@ fn cells_of(steps: u32, size: u32) -> u64
 // From an address below 2^30, fewer than 2^30 components of fewer than 2^32 cells lead to one below 2^63.
 const SMALL: u64 = 1_073_741_824;
 
-// An address moved to a component, where 64 bits hold it. Addresses of cells and numbers of components are small.
+// An address so many components further, where 64 bits hold it. Addresses of cells and numbers of components are small.
 #[inline(always)]
 #[tactic(auto, using(crate::proofs::Memories::within_62, crate::proofs::Narrows::from_zero, crate::proofs::Narrows::below_30))]
-fn component(address: i64, low: i64, index: i64, size: u32) -> Option<i64>
-    requires { low ≤ℤ index }
-    ensures { SomeIff result (FitsSigned w64 (address +ℤ ((index -ℤ low) *ℤ pos size))) (address +ℤ ((index -ℤ low) *ℤ pos size)) }
+fn moved(address: i64, steps: u64, size: u32) -> Option<i64>
+    ensures { SomeIff result (FitsSigned w64 (address +ℤ pos (steps * size))) (address +ℤ pos (steps * size)) }
 {
-    let steps = index.abs_diff(low);
     if steps < SMALL && cell_of(address) < SMALL {
         return Some(address + cells_of(steps as u32, size) as i64);
     }
     let cells = steps.checked_mul(u64::from(size))?;
     address.checked_add_unsigned(cells)
+}
+
+// An address moved to a component.
+#[inline(always)]
+fn component(address: i64, low: i64, index: i64, size: u32) -> Option<i64>
+    requires { low ≤ℤ index }
+    ensures { SomeIff result (FitsSigned w64 (address +ℤ ((index -ℤ low) *ℤ pos size))) (address +ℤ ((index -ℤ low) *ℤ pos size)) }
+{
+    moved(address, index.abs_diff(low), size)
 }
 
 /// A dimension of an array: its least index, its greatest, and the cells of one component (4.1.1).
@@ -170,7 +177,6 @@ fn place(address: i64, low: i64, high: i64, index: i64, size: u32) -> Placed
 }
 
 #[inline(always)]
-#[tactic(auto, using(crate::proofs::Memories::index_at, crate::proofs::Memories::index_far, crate::proofs::Memories::index_out))]
 pub(crate) fn index(stack: &mut Vec<i64>, pc: usize, low: i64, high: i64, size: u32) -> Computed
     requires two { 2 ≤ vec_len stack.old }
     requires next { pc < usize.MAX }
@@ -194,7 +200,7 @@ pub(crate) fn index(stack: &mut Vec<i64>, pc: usize, low: i64, high: i64, size: 
 }
 
 #[inline(always)]
-#[tactic(auto, using(crate::proofs::Memories::cell_clear, crate::proofs::Memories::index_cell_at, crate::proofs::Memories::index_cell_far, crate::proofs::Memories::index_cell_out))]
+#[tactic(auto, using(crate::proofs::Memories::cell_clear))]
 pub(crate) fn index_cell<C: Cells, H: Halt>(
     stack: &mut Vec<i64>,
     pc: usize,
@@ -230,7 +236,6 @@ pub(crate) fn index_cell<C: Cells, H: Halt>(
 }
 
 #[inline(always)]
-#[tactic(auto, using(crate::proofs::Memories::item_clear, crate::proofs::Memories::item_at_cell, crate::proofs::Memories::item_far, crate::proofs::Memories::item_out))]
 pub(crate) fn item<C: Cells, H: Halt>(
     stack: &mut Vec<i64>,
     pc: usize,

@@ -148,10 +148,13 @@ fn product(base: Base, x: i64, y: i64) -> Option<i64>
     if is_narrow(x) && is_narrow(y) {
         let near = x * y;
         if is_narrow(near) {
-            return Some(near);
+            Some(near)
+        } else {
+            within(base, Some(near))
         }
+    } else {
+        within(base, x.checked_mul(y))
     }
-    within(base, x.checked_mul(y))
 }
 
 fn result_of(op: Op, base: Base, x: i64, y: i64) -> Option<i64>

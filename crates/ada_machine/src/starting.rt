@@ -46,7 +46,7 @@ fn begin_of(code: &Code, body: Around) -> Begin
 }
 
 /// What a path has begun already: turns, active calls, and active constructs.
-#[derive(Clone, Copy, Debug)]
+#[derive(Clone, Copy)]
 pub struct Counts {
     /// The turns that were begun.
     pub turns: u64,

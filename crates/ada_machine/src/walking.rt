@@ -167,44 +167,38 @@ fn stride<C: Cells, H: Halt>(
     loop {
         let instr = instr_at(instrs, pc);
         let _height = m.stack.len();
-        match *instr {
-            Instr::Turn => {
-                if halt.asked() {
-                    keep(m, pc, turns, looks);
-                    return Some(Stop::Paused);
-                }
-                looks = looks.saturating_add(1);
-                if turns == limit {
-                    keep(m, pc, turns, looks);
-                    return Some(Stop::Spent);
-                }
-                turns += 1;
-                pc += 1;
+        let frames = Frames {
+            base,
+            outward: m.outward.as_slice(),
+        };
+        match compute::<C, H>(code, instr, pc, &mut m.stack, frames, view) {
+            Computed::To(to) => pc = to,
+            Computed::Failed(reason) => {
+                keep(m, pc, turns, looks);
+                m.raising = Some(reason);
+                return None;
             }
-            _ => match compute::<C, H>(
-                code,
-                instr,
-                pc,
-                &mut m.stack,
-                Frames {
-                    base,
-                    outward: m.outward.as_slice(),
-                },
-                view,
-            ) {
-                Computed::To(to) => pc = to,
-                Computed::Failed(reason) => {
-                    keep(m, pc, turns, looks);
-                    m.raising = Some(reason);
-                    return None;
+            Computed::Beyond => {
+                keep(m, pc, turns, looks);
+                return Some(Stop::NoMemory);
+            }
+            Computed::Other => match *instr {
+                Instr::Turn => {
+                    if halt.asked() {
+                        keep(m, pc, turns, looks);
+                        return Some(Stop::Paused);
+                    }
+                    looks = looks.saturating_add(1);
+                    if turns == limit {
+                        keep(m, pc, turns, looks);
+                        return Some(Stop::Spent);
+                    }
+                    turns += 1;
+                    pc += 1;
                 }
-                Computed::Beyond => {
+                _ => {
                     keep(m, pc, turns, looks);
-                    return Some(Stop::NoMemory);
-                }
-                Computed::Other => {
-                    keep(m, pc, turns, looks);
-                    match effect(code, m, view, limit, halt, *instr) {
+                    match effect(code, m, view, limit, halt, instr) {
                         Went::On => {
                             base = m.base;
                             pc = m.pc;

@@ -1,4 +1,4 @@
-use Rattle.std.proofs.Common.{◌≡◌, ◌≤◌, ◌<◌, ◌+◌, ◌-◌, ℤ, pos, suc, Some, refl, sym, ap, ◌∙◌, subst, arith, inl, inr, ⊎_elim, w64, to_z, of_z, rules, SFits}
+use Rattle.std.proofs.Common.{◌≡◌, ◌≤◌, ◌<◌, ◌+◌, ◌-◌, ℤ, pos, suc, Some, refl, sym, ap, ◌∙◌, subst, arith, inl, inr, ⊎_elim, w64, to_z, of_z, SFits}
 use Rattle.std.specs.Prelude.{◌⊎◌, IsSome}
 use Rattle.std.proofs.lemmas.Int.{to_z-of_z}
 use Rattle.ada_base.specs.Cells.{written}
@@ -29,14 +29,14 @@ get-value-requires g c = copy_reads (g.C.Cells.cells c.loop-done.view) (c.args.c
 
 pub set-requires : goal.set-requires
 set-requires g c =
-    let fits : SFits w64 c.get-value.result = search rules in
+    let fits : SFits w64 c.get-value.result = record { sfits = c.get-value.type_inv } in
     let z : to_z w64 (of_z w64 c.get-value.result) ≡ c.get-value.result = to_z-of_z w64 c.get-value.result fits in
     subst (λ (v : ℤ). IsSome (written (g.C.Cells.cells c.loop-done.view) (pos (c.args.target + c.loop-done.done)) v)) (sym z)
     (copy_writes (g.C.Cells.cells c.loop-done.view) (c.args.count - c.loop-done.done) (c.args.count - (c.loop-done.done + 1)) (c.args.source + c.loop-done.done) (c.args.target + c.loop-done.done) (omega arith) c.get-value.result c.loop-done.invariant.clear c.get-value.ensures)
 
 pub loop-done-preserved : goal.loop-done-preserved
 loop-done-preserved g c =
-    let fits : SFits w64 c.get-value.result = search rules in
+    let fits : SFits w64 c.get-value.result = record { sfits = c.get-value.type_inv } in
     let z : to_z w64 (of_z w64 c.get-value.result) ≡ c.get-value.result = to_z-of_z w64 c.get-value.result fits in
     let i = c.loop-done.invariant in
     let n : c.args.count - c.loop-done.done ≡ suc (c.args.count - (c.loop-done.done + 1)) = omega arith in

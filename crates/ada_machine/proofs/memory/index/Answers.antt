@@ -5,8 +5,8 @@ use Rattle.ada_machine.proofs.memory.index.Goals as goal
 
 pub returns-in-At-clause-deed : goal.returns-in-At-clause-deed
 returns-in-At-clause-deed c =
-    let fa : SFits w64 c.take-address.result = search rules in
-    let fn : SFits w64 c.take-number.result = search rules in
+    let fa : SFits w64 c.take-address.result = record { sfits = c.take-address.type_inv } in
+    let fn : SFits w64 c.take-number.result = record { sfits = c.take-number.type_inv } in
     let ft : SFits w64 c.in-At.to = search rules in
     let a = to_z-of_z w64 c.take-address.result fa in
     let n = to_z-of_z w64 c.take-number.result fn in
@@ -17,8 +17,8 @@ returns-in-At-clause-deed c =
 
 pub returns-in-Outside-clause-deed : goal.returns-in-Outside-clause-deed
 returns-in-Outside-clause-deed c =
-    let fa : SFits w64 c.take-address.result = search rules in
-    let fn : SFits w64 c.take-number.result = search rules in
+    let fa : SFits w64 c.take-address.result = record { sfits = c.take-address.type_inv } in
+    let fn : SFits w64 c.take-number.result = record { sfits = c.take-number.type_inv } in
     let a = to_z-of_z w64 c.take-address.result fa in
     let n = to_z-of_z w64 c.take-number.result fn in
     let l = to_z-of_z w64 c.args.low c.ranges.low in
@@ -27,8 +27,8 @@ returns-in-Outside-clause-deed c =
 
 pub returns-in-Beyond-clause-deed : goal.returns-in-Beyond-clause-deed
 returns-in-Beyond-clause-deed c =
-    let fa : SFits w64 c.take-address.result = search rules in
-    let fn : SFits w64 c.take-number.result = search rules in
+    let fa : SFits w64 c.take-address.result = record { sfits = c.take-address.type_inv } in
+    let fn : SFits w64 c.take-number.result = record { sfits = c.take-number.type_inv } in
     let a = to_z-of_z w64 c.take-address.result fa in
     let n = to_z-of_z w64 c.take-number.result fn in
     let l = to_z-of_z w64 c.args.low c.ranges.low in

@@ -5,8 +5,8 @@ use Rattle.ada_machine.proofs.memory.item_cell.Goals as goal
 
 pub returns-in-Beyond-clause-deed : goal.returns-in-Beyond-clause-deed
 returns-in-Beyond-clause-deed g c =
-    let fa : SFits w64 c.top-address.result = search rules in
-    let fn : SFits w64 c.get-number.result = search rules in
+    let fa : SFits w64 c.top-address.result = record { sfits = c.top-address.type_inv } in
+    let fn : SFits w64 c.get-number.result = record { sfits = c.get-number.type_inv } in
     let fl : SFits w64 c.args.dimension.low = search rules in
     let fh : SFits w64 c.args.dimension.high = search rules in
     let a = to_z-of_z w64 c.top-address.result fa in
@@ -21,12 +21,12 @@ returns-in-Beyond-clause-deed g c =
 
 pub returns-in-At-clause-deed : goal.returns-in-At-clause-deed
 returns-in-At-clause-deed g c =
-    let fa : SFits w64 c.top-address.result = search rules in
-    let fn : SFits w64 c.get-number.result = search rules in
+    let fa : SFits w64 c.top-address.result = record { sfits = c.top-address.type_inv } in
+    let fn : SFits w64 c.get-number.result = record { sfits = c.get-number.type_inv } in
     let fl : SFits w64 c.args.dimension.low = search rules in
     let fh : SFits w64 c.args.dimension.high = search rules in
     let ft : SFits w64 c.in-At.to = search rules in
-    let fv : SFits w64 c.read_at-value.result = search rules in
+    let fv : SFits w64 c.read_at-value.result = record { sfits = c.read_at-value.type_inv } in
     let a = to_z-of_z w64 c.top-address.result fa in
     let n = to_z-of_z w64 c.get-number.result fn in
     let l = to_z-of_z w64 c.args.dimension.low fl in

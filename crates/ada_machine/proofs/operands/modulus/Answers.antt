@@ -6,8 +6,8 @@ use Rattle.ada_machine.proofs.operands.modulus.Goals as goal
 pub returns-in-Some : goal.returns-in-Some
 returns-in-Some c =
     let fr : SFits w64 c.in-Some.r = search rules in
-    let fv : SFits w64 c.aligned.result = search rules in
-    let fw : SFits w64 c.value_or_zero.result = search rules in
+    let fv : SFits w64 c.aligned.result = record { sfits = c.aligned.type_inv } in
+    let fw : SFits w64 c.value_or_zero.result = record { sfits = c.value_or_zero.type_inv } in
     let x = to_z-of_z w64 c.args.x c.ranges.x in
     let y = to_z-of_z w64 c.args.y c.ranges.y in
     let r = to_z-of_z w64 c.in-Some.r fr in

@@ -28,94 +28,116 @@ kept_at m q pc turns looks base e f = e ∙ ap (λ b. record m { pc = pc; turns 
 heeds_kept : (told told' : Type 0) (a b b' : ℕ) → b' ≡ b → Heeds told told' a b → Heeds told told' a b'
 heeds_kept told told' a b b' e h = subst (λ n. Heeds told told' a n) (sym e) h
 
-pub loop-halt-init : goal.loop-halt-init
-loop-halt-init g c = record { came = comes_none c.args.limit c.args.code.now (state_of c.args.m.now (g.C.Cells.cells c.args.view.now)); ready = c.requires.ready; base = refl; calm = c.requires.calm; clear = c.requires.clear; within = c.requires.within; looks = looked_none c.args.limit c.args.code.now (state_of c.args.m.now (g.C.Cells.cells c.args.view.now)) c.args.m.now.looks; stays = (refl, λ w. w, refl); tops = c.requires.tops; halts = (refl, λ t. t); heeds = λ t. (t, refl); falls = omega arith }
+pub loop-to-init : goal.loop-to-init
+loop-to-init g c = record { came = comes_none c.args.limit c.args.code.now (state_of c.args.m.now (g.C.Cells.cells c.args.view.now)); ready = c.requires.ready; base = refl; calm = c.requires.calm; clear = c.requires.clear; within = c.requires.within; looks = looked_none c.args.limit c.args.code.now (state_of c.args.m.now (g.C.Cells.cells c.args.view.now)) c.args.m.now.looks; stays = (refl, λ w. w, refl); tops = c.requires.tops; halts = (refl, λ t. t); heeds = λ t. (t, refl); falls = omega arith }
 
 pub instr_at-instr-requires : goal.instr_at-instr-requires
-instr_at-instr-requires g c = subst (λ l. c.loop-halt.pc < length l) (sym c.as_slice-instrs.ensures) (machine_here c.args.code.now (record c.loop-halt.m { pc = c.loop-halt.pc; turns = c.loop-halt.turns; looks = c.loop-halt.looks; base = c.loop-halt.base }) (g.C.Cells.cells c.loop-halt.view) c.loop-halt.invariant.ready)
+instr_at-instr-requires g c = subst (λ l. c.loop-to.pc < length l) (sym c.as_slice-instrs.ensures) (machine_here c.args.code.now (record c.loop-to.m { pc = c.loop-to.pc; turns = c.loop-to.turns; looks = c.loop-to.looks; base = c.loop-to.base }) (g.C.Cells.cells c.loop-to.view) c.loop-to.invariant.ready)
 
 pub returns-then-asked : goal.returns-then-asked
 returns-then-asked g c =
-    let i = c.loop-halt.invariant in
-    let cells = g.C.Cells.cells c.loop-halt.view in
-    let m = record c.loop-halt.m { pc = c.loop-halt.pc; turns = c.loop-halt.turns; looks = c.loop-halt.looks; base = c.loop-halt.base } in
-    let at = ap (λ l. slice_get l c.loop-halt.pc) (sym c.as_slice-instrs.ensures) ∙ c.instr_at-instr.ensures.instr ∙ ap Some c.in-Turn.is in
-    let a : Came c.args.limit c.args.code.now c.args.m.now (g.C.Cells.cells c.args.view.now) (g.C.Cells.floor c.loop-halt.view) instr.Turn m cells = record { came = i.came; ready = i.ready; calm = i.calm; clear = i.clear; within = i.within; at = at; tops = i.tops; looks = i.looks; falls = i.falls } in
-    let last = c.keep.new.m in
-    let e : last ≡ record m { looks = c.loop-halt.looks } = kept_at c.loop-halt.m last c.loop-halt.pc c.loop-halt.turns c.loop-halt.looks c.loop-halt.base c.keep.ensures i.base in
-    let looks : last.looks ≡ c.loop-halt.looks = ap (λ (q : Machine). q.looks) e in
-    let s : Steps c.args.limit c.args.code.now (went.Stopped stop.Paused) m cells last cells = subst (λ q. Steps c.args.limit c.args.code.now (went.Stopped stop.Paused) m cells q cells) (sym e) (steps_stopped c.args.limit c.args.code.now m cells i.ready i.within m cells stop.Paused (refl, turn_looks c.args.limit c.args.code.now m cells i.calm at) i.ready i.within) in
+    let i = c.loop-to.invariant in
+    let cells = g.C.Cells.cells c.loop-to.view in
+    let cells' = g.C.Cells.cells c.compute.new.view in
+    let was = record c.loop-to.m { pc = c.loop-to.pc; turns = c.loop-to.turns; looks = c.loop-to.looks; base = c.loop-to.base } in
+    let m = record was { stack = c.compute.new.stack } in
+    let at = ap (λ l. slice_get l c.loop-to.pc) (sym c.as_slice-instrs.ensures) ∙ c.instr_at-instr.ensures.instr ∙ ap Some c.in-Turn.is in
+    let d = c.in-Other.ensures.deed in
+    let same : state_of m cells' ≡ state_of was cells = ap (λ st. record (state_of was cells') { stack = reverse st }) d.1 ∙ ap (λ w. state_of was w) d.2 in
+    let b : Came c.args.limit c.args.code.now c.args.m.now (g.C.Cells.cells c.args.view.now) (g.C.Cells.floor c.compute.new.view) instr.Turn m cells' = came_still c.args.limit c.args.code.now was m cells cells' same _ _ _ _ _ c.compute.ensures.room c.compute.ensures.stays.0 refl
+    (record { came = i.came; ready = i.ready; calm = i.calm; clear = i.clear; within = i.within; at = at; tops = i.tops; looks = i.looks; falls = i.falls }) in
+    let last = c.keep-then-asked.new.m in
+    let e : last ≡ m = kept_at (record c.loop-to.m { stack = c.compute.new.stack }) last c.loop-to.pc c.loop-to.turns c.loop-to.looks c.loop-to.base c.keep-then-asked.ensures i.base in
+    let looks : last.looks ≡ c.loop-to.looks = ap (λ (q : Machine). q.looks) e in
+    let s : Steps c.args.limit c.args.code.now (went.Stopped stop.Paused) m cells' last cells' = subst (λ q. Steps c.args.limit c.args.code.now (went.Stopped stop.Paused) m cells' q cells') (sym e) (steps_stopped c.args.limit c.args.code.now m cells' b.ready b.within m cells' stop.Paused (refl, turn_looks c.args.limit c.args.code.now m cells' b.calm b.at) b.ready b.within) in
     record {
-      strides = stops_there c.args.limit c.args.code.now _ _ _ _ m cells a last cells stop.Paused s;
+      strides = stops_there c.args.limit c.args.code.now _ _ _ _ m cells' b last cells' stop.Paused s;
       paused = λ e. c.asked.ensures.told c.if-asked.true;
       halts = (c.asked.ensures.kept ∙ i.halts.0, λ t. c.asked.ensures.stays (i.halts.1 t));
       heeds = tt;
-      stays = i.stays;
-      looks = looks_stopped c.args.limit c.args.code.now _ _ _ _ m cells a last cells stop.Paused s looks;
+      stays = stays_on (g.C.Cells.floor) (g.C.Cells.whole) (g.C.Cells.place) i.stays c.compute.ensures.stays;
+      looks = looks_stopped c.args.limit c.args.code.now _ _ _ _ m cells' b last cells' stop.Paused s looks;
     }
 
 pub returns-then-turns-limit : goal.returns-then-turns-limit
 returns-then-turns-limit g c =
-    let i = c.loop-halt.invariant in
-    let cells = g.C.Cells.cells c.loop-halt.view in
-    let m = record c.loop-halt.m { pc = c.loop-halt.pc; turns = c.loop-halt.turns; looks = c.loop-halt.looks; base = c.loop-halt.base } in
-    let at = ap (λ l. slice_get l c.loop-halt.pc) (sym c.as_slice-instrs.ensures) ∙ c.instr_at-instr.ensures.instr ∙ ap Some c.in-Turn.is in
-    let a : Came c.args.limit c.args.code.now c.args.m.now (g.C.Cells.cells c.args.view.now) (g.C.Cells.floor c.loop-halt.view) instr.Turn m cells = record { came = i.came; ready = i.ready; calm = i.calm; clear = i.clear; within = i.within; at = at; tops = i.tops; looks = i.looks; falls = i.falls } in
+    let i = c.loop-to.invariant in
+    let cells = g.C.Cells.cells c.loop-to.view in
+    let cells' = g.C.Cells.cells c.compute.new.view in
+    let was = record c.loop-to.m { pc = c.loop-to.pc; turns = c.loop-to.turns; looks = c.loop-to.looks; base = c.loop-to.base } in
+    let m = record was { stack = c.compute.new.stack } in
+    let at = ap (λ l. slice_get l c.loop-to.pc) (sym c.as_slice-instrs.ensures) ∙ c.instr_at-instr.ensures.instr ∙ ap Some c.in-Turn.is in
+    let d = c.in-Other.ensures.deed in
+    let same : state_of m cells' ≡ state_of was cells = ap (λ st. record (state_of was cells') { stack = reverse st }) d.1 ∙ ap (λ w. state_of was w) d.2 in
+    let b : Came c.args.limit c.args.code.now c.args.m.now (g.C.Cells.cells c.args.view.now) (g.C.Cells.floor c.compute.new.view) instr.Turn m cells' = came_still c.args.limit c.args.code.now was m cells cells' same _ _ _ _ _ c.compute.ensures.room c.compute.ensures.stays.0 refl
+    (record { came = i.came; ready = i.ready; calm = i.calm; clear = i.clear; within = i.within; at = at; tops = i.tops; looks = i.looks; falls = i.falls }) in
     let last = c.keep-then-turns-limit.new.m in
-    let e : last ≡ record m { looks = c.saturating_add-looks.result } = kept_at c.loop-halt.m last c.loop-halt.pc c.loop-halt.turns c.saturating_add-looks.result c.loop-halt.base c.keep-then-turns-limit.ensures i.base in
+    let e : last ≡ record m { looks = c.saturating_add-looks.result } = kept_at (record c.loop-to.m { stack = c.compute.new.stack }) last c.loop-to.pc c.loop-to.turns c.saturating_add-looks.result c.loop-to.base c.keep-then-turns-limit.ensures i.base in
     let looks : last.looks ≡ c.saturating_add-looks.result = ap (λ (q : Machine). q.looks) e in
-    let s : Steps c.args.limit c.args.code.now (went.Stopped stop.Spent) m cells last cells = subst (λ q. Steps c.args.limit c.args.code.now (went.Stopped stop.Spent) m cells q cells) (sym e) (steps_stopped c.args.limit c.args.code.now m cells i.ready i.within (record m { looks = c.saturating_add-looks.result }) cells stop.Spent (turn_spent c.args.limit c.args.code.now m m cells cells i.ready i.calm at (omega arith)) tt i.within) in
+    let s : Steps c.args.limit c.args.code.now (went.Stopped stop.Spent) m cells' last cells' = subst (λ q. Steps c.args.limit c.args.code.now (went.Stopped stop.Spent) m cells' q cells') (sym e) (steps_stopped c.args.limit c.args.code.now m cells' b.ready b.within (record m { looks = c.saturating_add-looks.result }) cells' stop.Spent (turn_spent c.args.limit c.args.code.now m m cells' cells' b.ready b.calm b.at (omega arith)) tt b.within) in
     record {
-      strides = stops_there c.args.limit c.args.code.now _ _ _ _ m cells a last cells stop.Spent s;
+      strides = stops_there c.args.limit c.args.code.now _ _ _ _ m cells' b last cells' stop.Spent s;
       paused = λ e. cc;
       halts = (c.asked.ensures.kept ∙ i.halts.0, λ t. c.asked.ensures.stays (i.halts.1 t));
       heeds = unheard _ _ _ _ c.asked.result c.if-asked.false c.asked.ensures.heard;
-      stays = i.stays;
-      looks = looks_stopped c.args.limit c.args.code.now _ _ _ _ m cells a last cells stop.Spent s (same_looks c.args.code.now (state_of m cells) instr.Turn (went.Stopped stop.Spent) m.looks last.looks 1 i.calm at refl (looks ∙ c.saturating_add-looks.ensures));
+      stays = stays_on (g.C.Cells.floor) (g.C.Cells.whole) (g.C.Cells.place) i.stays c.compute.ensures.stays;
+      looks = looks_stopped c.args.limit c.args.code.now _ _ _ _ m cells' b last cells' stop.Spent s (same_looks c.args.code.now (state_of m cells') instr.Turn (went.Stopped stop.Spent) m.looks last.looks 1 b.calm b.at refl (looks ∙ c.saturating_add-looks.ensures));
     }
 
-pub loop-halt-preserved-in-Turn : goal.loop-halt-preserved-in-Turn
-loop-halt-preserved-in-Turn g c =
-    let i = c.loop-halt.invariant in
-    let cells = g.C.Cells.cells c.loop-halt.view in
-    let m = record c.loop-halt.m { pc = c.loop-halt.pc; turns = c.loop-halt.turns; looks = c.loop-halt.looks; base = c.loop-halt.base } in
-    let m' = record m { pc = c.loop-halt.pc + 1; turns = c.loop-halt.turns + 1; looks = c.saturating_add-looks.result } in
-    let at = ap (λ l. slice_get l c.loop-halt.pc) (sym c.as_slice-instrs.ensures) ∙ c.instr_at-instr.ensures.instr ∙ ap Some c.in-Turn.is in
+pub loop-to-preserved-in-Turn : goal.loop-to-preserved-in-Turn
+loop-to-preserved-in-Turn g c =
+    let i = c.loop-to.invariant in
+    let cells = g.C.Cells.cells c.loop-to.view in
+    let cells' = g.C.Cells.cells c.compute.new.view in
+    let was = record c.loop-to.m { pc = c.loop-to.pc; turns = c.loop-to.turns; looks = c.loop-to.looks; base = c.loop-to.base } in
+    let m = record was { stack = c.compute.new.stack } in
+    let at = ap (λ l. slice_get l c.loop-to.pc) (sym c.as_slice-instrs.ensures) ∙ c.instr_at-instr.ensures.instr ∙ ap Some c.in-Turn.is in
+    let d = c.in-Other.ensures.deed in
+    let same : state_of m cells' ≡ state_of was cells = ap (λ st. record (state_of was cells') { stack = reverse st }) d.1 ∙ ap (λ w. state_of was w) d.2 in
+    let b : Came c.args.limit c.args.code.now c.args.m.now (g.C.Cells.cells c.args.view.now) (g.C.Cells.floor c.compute.new.view) instr.Turn m cells' = came_still c.args.limit c.args.code.now was m cells cells' same _ _ _ _ _ c.compute.ensures.room c.compute.ensures.stays.0 refl
+    (record { came = i.came; ready = i.ready; calm = i.calm; clear = i.clear; within = i.within; at = at; tops = i.tops; looks = i.looks; falls = i.falls }) in
+    let m' = record m { pc = c.loop-to.pc + 1; turns = c.loop-to.turns + 1; looks = c.saturating_add-looks.result } in
     let l : m.turns < c.args.limit = omega (arith, i.within) in
-    let s : Steps c.args.limit c.args.code.now went.On m cells m' cells = goes_same c.args.limit c.args.code.now m m' cells cells i.ready (state_of m' cells) i.within (turn_on c.args.limit c.args.code.now m m' cells cells i.ready i.calm at l) refl refl refl refl refl i.calm in
+    let s : Steps c.args.limit c.args.code.now went.On m cells' m' cells' = goes_same c.args.limit c.args.code.now m m' cells' cells' b.ready (state_of m' cells') b.within (turn_on c.args.limit c.args.code.now m m' cells' cells' b.ready b.calm b.at l) refl refl refl refl refl b.calm in
     let one = comes_one c.args.limit c.args.code.now _ _ s.goes.0 in
     record {
-      came = comes_on c.args.limit c.args.code.now _ _ _ i.came one;
+      came = comes_on c.args.limit c.args.code.now _ _ _ b.came one;
       ready = s.ready;
       base = i.base;
-      calm = i.calm;
-      clear = never_on c.args.limit c.args.code.now _ _ one i.clear;
+      calm = b.calm;
+      clear = never_on c.args.limit c.args.code.now _ _ one b.clear;
       within = s.within;
-      looks = looked_step c.args.limit c.args.code.now (state_of c.args.m.now (g.C.Cells.cells c.args.view.now)) (state_of m cells) (state_of m' cells) c.args.m.now.looks m.looks m'.looks i.looks refl s.goes.0 (same_looks c.args.code.now (state_of m cells) instr.Turn went.On m.looks m'.looks 1 i.calm at refl c.saturating_add-looks.ensures);
-      stays = i.stays;
-      tops = topped_one c.args.limit c.args.code.now _ _ refl _ _ s.goes.0 i.tops;
+      looks = looked_step c.args.limit c.args.code.now (state_of c.args.m.now (g.C.Cells.cells c.args.view.now)) (state_of m cells') (state_of m' cells') c.args.m.now.looks m.looks m'.looks b.looks refl s.goes.0 (same_looks c.args.code.now (state_of m cells') instr.Turn went.On m.looks m'.looks 1 b.calm b.at refl c.saturating_add-looks.ensures);
+      stays = stays_on (g.C.Cells.floor) (g.C.Cells.whole) (g.C.Cells.place) i.stays c.compute.ensures.stays;
+      tops = topped_one c.args.limit c.args.code.now _ _ refl _ _ s.goes.0 b.tops;
       halts = (c.asked.ensures.kept ∙ i.halts.0, λ t. c.asked.ensures.stays (i.halts.1 t));
       heeds = unheard _ _ _ _ c.asked.result c.if-asked.false c.asked.ensures.heard;
-      falls = omega (arith, i.falls, s.falls);
+      falls = omega (arith, b.falls, s.falls);
     }
 
-pub loop-halt-smaller-in-Turn : goal.loop-halt-smaller-in-Turn
-loop-halt-smaller-in-Turn g c =
-    let i = c.loop-halt.invariant in
-    let cells = g.C.Cells.cells c.loop-halt.view in
-    let m = record c.loop-halt.m { pc = c.loop-halt.pc; turns = c.loop-halt.turns; looks = c.loop-halt.looks; base = c.loop-halt.base } in
-    let m' = record m { pc = c.loop-halt.pc + 1; turns = c.loop-halt.turns + 1; looks = c.saturating_add-looks.result } in
-    let at = ap (λ l. slice_get l c.loop-halt.pc) (sym c.as_slice-instrs.ensures) ∙ c.instr_at-instr.ensures.instr ∙ ap Some c.in-Turn.is in
+pub loop-to-smaller-in-Turn : goal.loop-to-smaller-in-Turn
+loop-to-smaller-in-Turn g c =
+    let i = c.loop-to.invariant in
+    let cells = g.C.Cells.cells c.loop-to.view in
+    let cells' = g.C.Cells.cells c.compute.new.view in
+    let was = record c.loop-to.m { pc = c.loop-to.pc; turns = c.loop-to.turns; looks = c.loop-to.looks; base = c.loop-to.base } in
+    let m = record was { stack = c.compute.new.stack } in
+    let at = ap (λ l. slice_get l c.loop-to.pc) (sym c.as_slice-instrs.ensures) ∙ c.instr_at-instr.ensures.instr ∙ ap Some c.in-Turn.is in
+    let d = c.in-Other.ensures.deed in
+    let same : state_of m cells' ≡ state_of was cells = ap (λ st. record (state_of was cells') { stack = reverse st }) d.1 ∙ ap (λ w. state_of was w) d.2 in
+    let b : Came c.args.limit c.args.code.now c.args.m.now (g.C.Cells.cells c.args.view.now) (g.C.Cells.floor c.compute.new.view) instr.Turn m cells' = came_still c.args.limit c.args.code.now was m cells cells' same _ _ _ _ _ c.compute.ensures.room c.compute.ensures.stays.0 refl
+    (record { came = i.came; ready = i.ready; calm = i.calm; clear = i.clear; within = i.within; at = at; tops = i.tops; looks = i.looks; falls = i.falls }) in
+    let m' = record m { pc = c.loop-to.pc + 1; turns = c.loop-to.turns + 1; looks = c.saturating_add-looks.result } in
     let l : m.turns < c.args.limit = omega (arith, i.within) in
-    let s : Steps c.args.limit c.args.code.now went.On m cells m' cells = goes_same c.args.limit c.args.code.now m m' cells cells i.ready (state_of m' cells) i.within (turn_on c.args.limit c.args.code.now m m' cells cells i.ready i.calm at l) refl refl refl refl refl i.calm in
-    s.falls
+    let s : Steps c.args.limit c.args.code.now went.On m cells' m' cells' = goes_same c.args.limit c.args.code.now m m' cells' cells' b.ready (state_of m' cells') b.within (turn_on c.args.limit c.args.code.now m m' cells' cells' b.ready b.calm b.at l) refl refl refl refl refl b.calm in
+    subst (λ q. rank c.args.code.now c.args.limit (state_of m' cells') < rank c.args.code.now c.args.limit q) same s.falls
 
 pub compute-requires : goal.compute-requires
 compute-requires g c =
-    let i = c.loop-halt.invariant in
-    let cells = g.C.Cells.cells c.loop-halt.view in
-    let m = record c.loop-halt.m { pc = c.loop-halt.pc; turns = c.loop-halt.turns; looks = c.loop-halt.looks; base = c.loop-halt.base } in
-    let at = ap (λ l. slice_get l c.loop-halt.pc) (sym c.as_slice-instrs.ensures) ∙ c.instr_at-instr.ensures.instr in
+    let i = c.loop-to.invariant in
+    let cells = g.C.Cells.cells c.loop-to.view in
+    let m = record c.loop-to.m { pc = c.loop-to.pc; turns = c.loop-to.turns; looks = c.loop-to.looks; base = c.loop-to.base } in
+    let at = ap (λ l. slice_get l c.loop-to.pc) (sym c.as_slice-instrs.ensures) ∙ c.instr_at-instr.ensures.instr in
     let f = fine_here c.args.code.now i.ready.low i.ready.valid m cells c.instr_at-instr.result.now i.ready.stands i.ready.roomy i.calm at in
     record {
       operands = omega (arith, f.operands);
@@ -128,13 +150,13 @@ compute-requires g c =
           (clear_here c.args.limit c.args.code.now (state_of m cells) c.instr_at-instr.result.now i.calm at i.clear);
     }
 
-pub loop-halt-preserved-in-To : goal.loop-halt-preserved-in-To
-loop-halt-preserved-in-To g c =
-    let i = c.loop-halt.invariant in
-    let cells = g.C.Cells.cells c.loop-halt.view in
-    let m = record c.loop-halt.m { pc = c.loop-halt.pc; turns = c.loop-halt.turns; looks = c.loop-halt.looks; base = c.loop-halt.base } in
+pub loop-to-preserved-in-To : goal.loop-to-preserved-in-To
+loop-to-preserved-in-To g c =
+    let i = c.loop-to.invariant in
+    let cells = g.C.Cells.cells c.loop-to.view in
+    let m = record c.loop-to.m { pc = c.loop-to.pc; turns = c.loop-to.turns; looks = c.loop-to.looks; base = c.loop-to.base } in
     let cells' = g.C.Cells.cells c.compute.new.view in
-    let at = ap (λ l. slice_get l c.loop-halt.pc) (sym c.as_slice-instrs.ensures) ∙ c.instr_at-instr.ensures.instr in
+    let at = ap (λ l. slice_get l c.loop-to.pc) (sym c.as_slice-instrs.ensures) ∙ c.instr_at-instr.ensures.instr in
     let m' = record m { pc = c.in-To.to; stack = c.compute.new.stack } in
     let deed : plays (deed_of c.args.code.now m.pc (reverse m.stack.items) m.base m.outward.items c.instr_at-instr.result.now) cells ≡ Onward c.in-To.to (reverse c.compute.new.stack.items) cells' =
     subst (λ fs. plays (deed_of c.args.code.now m.pc (reverse m.stack.items) m.base fs c.instr_at-instr.result.now) cells ≡ Onward c.in-To.to (reverse c.compute.new.stack.items) cells') c.as_slice.ensures.value c.in-To.ensures.deed in
@@ -155,13 +177,13 @@ loop-halt-preserved-in-To g c =
       falls = omega (arith, i.falls, s.falls);
     }
 
-pub loop-halt-smaller-in-To : goal.loop-halt-smaller-in-To
-loop-halt-smaller-in-To g c =
-    let i = c.loop-halt.invariant in
-    let cells = g.C.Cells.cells c.loop-halt.view in
-    let m = record c.loop-halt.m { pc = c.loop-halt.pc; turns = c.loop-halt.turns; looks = c.loop-halt.looks; base = c.loop-halt.base } in
+pub loop-to-smaller-in-To : goal.loop-to-smaller-in-To
+loop-to-smaller-in-To g c =
+    let i = c.loop-to.invariant in
+    let cells = g.C.Cells.cells c.loop-to.view in
+    let m = record c.loop-to.m { pc = c.loop-to.pc; turns = c.loop-to.turns; looks = c.loop-to.looks; base = c.loop-to.base } in
     let cells' = g.C.Cells.cells c.compute.new.view in
-    let at = ap (λ l. slice_get l c.loop-halt.pc) (sym c.as_slice-instrs.ensures) ∙ c.instr_at-instr.ensures.instr in
+    let at = ap (λ l. slice_get l c.loop-to.pc) (sym c.as_slice-instrs.ensures) ∙ c.instr_at-instr.ensures.instr in
     let m' = record m { pc = c.in-To.to; stack = c.compute.new.stack } in
     let deed : plays (deed_of c.args.code.now m.pc (reverse m.stack.items) m.base m.outward.items c.instr_at-instr.result.now) cells ≡ Onward c.in-To.to (reverse c.compute.new.stack.items) cells' =
     subst (λ fs. plays (deed_of c.args.code.now m.pc (reverse m.stack.items) m.base fs c.instr_at-instr.result.now) cells ≡ Onward c.in-To.to (reverse c.compute.new.stack.items) cells') c.as_slice.ensures.value c.in-To.ensures.deed in
@@ -170,17 +192,17 @@ loop-halt-smaller-in-To g c =
 
 pub returns-in-Failed : goal.returns-in-Failed
 returns-in-Failed g c =
-    let i = c.loop-halt.invariant in
-    let cells = g.C.Cells.cells c.loop-halt.view in
-    let m = record c.loop-halt.m { pc = c.loop-halt.pc; turns = c.loop-halt.turns; looks = c.loop-halt.looks; base = c.loop-halt.base } in
+    let i = c.loop-to.invariant in
+    let cells = g.C.Cells.cells c.loop-to.view in
+    let m = record c.loop-to.m { pc = c.loop-to.pc; turns = c.loop-to.turns; looks = c.loop-to.looks; base = c.loop-to.base } in
     let cells' = g.C.Cells.cells c.compute.new.view in
-    let at = ap (λ l. slice_get l c.loop-halt.pc) (sym c.as_slice-instrs.ensures) ∙ c.instr_at-instr.ensures.instr in
-    let a : Came c.args.limit c.args.code.now c.args.m.now (g.C.Cells.cells c.args.view.now) (g.C.Cells.floor c.loop-halt.view) c.instr_at-instr.result.now m cells = record { came = i.came; ready = i.ready; calm = i.calm; clear = i.clear; within = i.within; at = at; tops = i.tops; looks = i.looks; falls = i.falls } in
+    let at = ap (λ l. slice_get l c.loop-to.pc) (sym c.as_slice-instrs.ensures) ∙ c.instr_at-instr.ensures.instr in
+    let a : Came c.args.limit c.args.code.now c.args.m.now (g.C.Cells.cells c.args.view.now) (g.C.Cells.floor c.loop-to.view) c.instr_at-instr.result.now m cells = record { came = i.came; ready = i.ready; calm = i.calm; clear = i.clear; within = i.within; at = at; tops = i.tops; looks = i.looks; falls = i.falls } in
     let m' = record m { stack = c.compute.new.stack; raising = Some c.in-Failed.reason } in
     let deed : plays (deed_of c.args.code.now m.pc (reverse m.stack.items) m.base m.outward.items c.instr_at-instr.result.now) cells ≡ Raised c.in-Failed.reason (reverse c.compute.new.stack.items) cells' =
     subst (λ fs. plays (deed_of c.args.code.now m.pc (reverse m.stack.items) m.base fs c.instr_at-instr.result.now) cells ≡ Raised c.in-Failed.reason (reverse c.compute.new.stack.items) cells') c.as_slice.ensures.value c.in-Failed.ensures.deed in
-    let last = record c.keep-in-Failed.new.m { raising = Some c.in-Failed.reason } in
-    let e : last ≡ m' = ap (λ (q : Machine). record q { raising = Some c.in-Failed.reason }) (kept_at (record c.loop-halt.m { stack = c.compute.new.stack }) c.keep-in-Failed.new.m c.loop-halt.pc c.loop-halt.turns c.loop-halt.looks c.loop-halt.base c.keep-in-Failed.ensures i.base) in
+    let last = record c.keep.new.m { raising = Some c.in-Failed.reason } in
+    let e : last ≡ m' = ap (λ (q : Machine). record q { raising = Some c.in-Failed.reason }) (kept_at (record c.loop-to.m { stack = c.compute.new.stack }) c.keep.new.m c.loop-to.pc c.loop-to.turns c.loop-to.looks c.loop-to.base c.keep.ensures i.base) in
     let looks : last.looks ≡ m.looks = ap (λ (q : Machine). q.looks) e in
     let s : Steps c.args.limit c.args.code.now went.Raising m cells last cells' = raises_same c.args.limit c.args.code.now m last cells cells' i.ready (state_of m' cells') i.within (step_raises c.args.limit c.args.code.now (state_of m cells) c.instr_at-instr.result.now i.calm at c.in-Failed.reason (reverse c.compute.new.stack.items) cells' deed) (ap (λ (q : Machine). state_of q cells') e) (ap (λ (q : Machine). vec_capacity q.stack) e ∙ c.compute.ensures.room) refl refl refl in
     record {
@@ -194,14 +216,14 @@ returns-in-Failed g c =
 
 pub returns-in-Beyond : goal.returns-in-Beyond
 returns-in-Beyond g c =
-    let i = c.loop-halt.invariant in
-    let cells = g.C.Cells.cells c.loop-halt.view in
-    let m = record c.loop-halt.m { pc = c.loop-halt.pc; turns = c.loop-halt.turns; looks = c.loop-halt.looks; base = c.loop-halt.base } in
+    let i = c.loop-to.invariant in
+    let cells = g.C.Cells.cells c.loop-to.view in
+    let m = record c.loop-to.m { pc = c.loop-to.pc; turns = c.loop-to.turns; looks = c.loop-to.looks; base = c.loop-to.base } in
     let cells' = g.C.Cells.cells c.compute.new.view in
-    let at = ap (λ l. slice_get l c.loop-halt.pc) (sym c.as_slice-instrs.ensures) ∙ c.instr_at-instr.ensures.instr in
-    let a : Came c.args.limit c.args.code.now c.args.m.now (g.C.Cells.cells c.args.view.now) (g.C.Cells.floor c.loop-halt.view) c.instr_at-instr.result.now m cells = record { came = i.came; ready = i.ready; calm = i.calm; clear = i.clear; within = i.within; at = at; tops = i.tops; looks = i.looks; falls = i.falls } in
+    let at = ap (λ l. slice_get l c.loop-to.pc) (sym c.as_slice-instrs.ensures) ∙ c.instr_at-instr.ensures.instr in
+    let a : Came c.args.limit c.args.code.now c.args.m.now (g.C.Cells.cells c.args.view.now) (g.C.Cells.floor c.loop-to.view) c.instr_at-instr.result.now m cells = record { came = i.came; ready = i.ready; calm = i.calm; clear = i.clear; within = i.within; at = at; tops = i.tops; looks = i.looks; falls = i.falls } in
     let last = c.keep-in-Beyond.new.m in
-    let e : last ≡ record m { stack = c.compute.new.stack } = kept_at (record c.loop-halt.m { stack = c.compute.new.stack }) last c.loop-halt.pc c.loop-halt.turns c.loop-halt.looks c.loop-halt.base c.keep-in-Beyond.ensures i.base in
+    let e : last ≡ record m { stack = c.compute.new.stack } = kept_at (record c.loop-to.m { stack = c.compute.new.stack }) last c.loop-to.pc c.loop-to.turns c.loop-to.looks c.loop-to.base c.keep-in-Beyond.ensures i.base in
     let looks : last.looks ≡ m.looks = ap (λ (q : Machine). q.looks) e in
     let d = c.in-Beyond.ensures.deed in
     let same : state_of last cells' ≡ state_of m cells = ap (λ (q : Machine). state_of q cells') e ∙ ap (λ st. record (state_of m cells') { stack = st }) d.1 ∙ ap (λ w. state_of m w) d.2 in
@@ -219,14 +241,14 @@ returns-in-Beyond g c =
 
 pub effect-requires : goal.effect-requires
 effect-requires g c =
-    let i = c.loop-halt.invariant in
-    let cells = g.C.Cells.cells c.loop-halt.view in
-    let m = record c.loop-halt.m { pc = c.loop-halt.pc; turns = c.loop-halt.turns; looks = c.loop-halt.looks; base = c.loop-halt.base } in
+    let i = c.loop-to.invariant in
+    let cells = g.C.Cells.cells c.loop-to.view in
+    let m = record c.loop-to.m { pc = c.loop-to.pc; turns = c.loop-to.turns; looks = c.loop-to.looks; base = c.loop-to.base } in
     let cells' = g.C.Cells.cells c.compute.new.view in
-    let at = ap (λ l. slice_get l c.loop-halt.pc) (sym c.as_slice-instrs.ensures) ∙ c.instr_at-instr.ensures.instr in
-    let a : Came c.args.limit c.args.code.now c.args.m.now (g.C.Cells.cells c.args.view.now) (g.C.Cells.floor c.loop-halt.view) c.instr_at-instr.result.now m cells = record { came = i.came; ready = i.ready; calm = i.calm; clear = i.clear; within = i.within; at = at; tops = i.tops; looks = i.looks; falls = i.falls } in
-    let last = c.keep-in-Other.new.m in
-    let e : last ≡ record m { stack = c.compute.new.stack } = kept_at (record c.loop-halt.m { stack = c.compute.new.stack }) last c.loop-halt.pc c.loop-halt.turns c.loop-halt.looks c.loop-halt.base c.keep-in-Other.ensures i.base in
+    let at = ap (λ l. slice_get l c.loop-to.pc) (sym c.as_slice-instrs.ensures) ∙ c.instr_at-instr.ensures.instr in
+    let a : Came c.args.limit c.args.code.now c.args.m.now (g.C.Cells.cells c.args.view.now) (g.C.Cells.floor c.loop-to.view) c.instr_at-instr.result.now m cells = record { came = i.came; ready = i.ready; calm = i.calm; clear = i.clear; within = i.within; at = at; tops = i.tops; looks = i.looks; falls = i.falls } in
+    let last = c.keep-in_default.new.m in
+    let e : last ≡ record m { stack = c.compute.new.stack } = kept_at (record c.loop-to.m { stack = c.compute.new.stack }) last c.loop-to.pc c.loop-to.turns c.loop-to.looks c.loop-to.base c.keep-in_default.ensures i.base in
     let looks : last.looks ≡ m.looks = ap (λ (q : Machine). q.looks) e in
     let d = c.in-Other.ensures.deed in
     let same : state_of last cells' ≡ state_of m cells = ap (λ (q : Machine). state_of q cells') e ∙ ap (λ st. record (state_of m cells') { stack = reverse st }) d.1 ∙ ap (λ w. state_of m w) d.2 in
@@ -242,16 +264,16 @@ effect-requires g c =
       tops = b.tops;
     }
 
-pub loop-halt-preserved : goal.loop-halt-preserved
-loop-halt-preserved g c =
-    let i = c.loop-halt.invariant in
-    let cells = g.C.Cells.cells c.loop-halt.view in
-    let m = record c.loop-halt.m { pc = c.loop-halt.pc; turns = c.loop-halt.turns; looks = c.loop-halt.looks; base = c.loop-halt.base } in
+pub loop-to-preserved : goal.loop-to-preserved
+loop-to-preserved g c =
+    let i = c.loop-to.invariant in
+    let cells = g.C.Cells.cells c.loop-to.view in
+    let m = record c.loop-to.m { pc = c.loop-to.pc; turns = c.loop-to.turns; looks = c.loop-to.looks; base = c.loop-to.base } in
     let cells' = g.C.Cells.cells c.compute.new.view in
-    let at = ap (λ l. slice_get l c.loop-halt.pc) (sym c.as_slice-instrs.ensures) ∙ c.instr_at-instr.ensures.instr in
-    let a : Came c.args.limit c.args.code.now c.args.m.now (g.C.Cells.cells c.args.view.now) (g.C.Cells.floor c.loop-halt.view) c.instr_at-instr.result.now m cells = record { came = i.came; ready = i.ready; calm = i.calm; clear = i.clear; within = i.within; at = at; tops = i.tops; looks = i.looks; falls = i.falls } in
-    let last = c.keep-in-Other.new.m in
-    let e : last ≡ record m { stack = c.compute.new.stack } = kept_at (record c.loop-halt.m { stack = c.compute.new.stack }) last c.loop-halt.pc c.loop-halt.turns c.loop-halt.looks c.loop-halt.base c.keep-in-Other.ensures i.base in
+    let at = ap (λ l. slice_get l c.loop-to.pc) (sym c.as_slice-instrs.ensures) ∙ c.instr_at-instr.ensures.instr in
+    let a : Came c.args.limit c.args.code.now c.args.m.now (g.C.Cells.cells c.args.view.now) (g.C.Cells.floor c.loop-to.view) c.instr_at-instr.result.now m cells = record { came = i.came; ready = i.ready; calm = i.calm; clear = i.clear; within = i.within; at = at; tops = i.tops; looks = i.looks; falls = i.falls } in
+    let last = c.keep-in_default.new.m in
+    let e : last ≡ record m { stack = c.compute.new.stack } = kept_at (record c.loop-to.m { stack = c.compute.new.stack }) last c.loop-to.pc c.loop-to.turns c.loop-to.looks c.loop-to.base c.keep-in_default.ensures i.base in
     let looks : last.looks ≡ m.looks = ap (λ (q : Machine). q.looks) e in
     let d = c.in-Other.ensures.deed in
     let same : state_of last cells' ≡ state_of m cells = ap (λ (q : Machine). state_of q cells') e ∙ ap (λ st. record (state_of m cells') { stack = reverse st }) d.1 ∙ ap (λ w. state_of m w) d.2 in
@@ -273,16 +295,16 @@ loop-halt-preserved g c =
       falls = omega (arith, b.falls, s.falls);
     }
 
-pub loop-halt-smaller : goal.loop-halt-smaller
-loop-halt-smaller g c =
-    let i = c.loop-halt.invariant in
-    let cells = g.C.Cells.cells c.loop-halt.view in
-    let m = record c.loop-halt.m { pc = c.loop-halt.pc; turns = c.loop-halt.turns; looks = c.loop-halt.looks; base = c.loop-halt.base } in
+pub loop-to-smaller : goal.loop-to-smaller
+loop-to-smaller g c =
+    let i = c.loop-to.invariant in
+    let cells = g.C.Cells.cells c.loop-to.view in
+    let m = record c.loop-to.m { pc = c.loop-to.pc; turns = c.loop-to.turns; looks = c.loop-to.looks; base = c.loop-to.base } in
     let cells' = g.C.Cells.cells c.compute.new.view in
-    let at = ap (λ l. slice_get l c.loop-halt.pc) (sym c.as_slice-instrs.ensures) ∙ c.instr_at-instr.ensures.instr in
-    let a : Came c.args.limit c.args.code.now c.args.m.now (g.C.Cells.cells c.args.view.now) (g.C.Cells.floor c.loop-halt.view) c.instr_at-instr.result.now m cells = record { came = i.came; ready = i.ready; calm = i.calm; clear = i.clear; within = i.within; at = at; tops = i.tops; looks = i.looks; falls = i.falls } in
-    let last = c.keep-in-Other.new.m in
-    let e : last ≡ record m { stack = c.compute.new.stack } = kept_at (record c.loop-halt.m { stack = c.compute.new.stack }) last c.loop-halt.pc c.loop-halt.turns c.loop-halt.looks c.loop-halt.base c.keep-in-Other.ensures i.base in
+    let at = ap (λ l. slice_get l c.loop-to.pc) (sym c.as_slice-instrs.ensures) ∙ c.instr_at-instr.ensures.instr in
+    let a : Came c.args.limit c.args.code.now c.args.m.now (g.C.Cells.cells c.args.view.now) (g.C.Cells.floor c.loop-to.view) c.instr_at-instr.result.now m cells = record { came = i.came; ready = i.ready; calm = i.calm; clear = i.clear; within = i.within; at = at; tops = i.tops; looks = i.looks; falls = i.falls } in
+    let last = c.keep-in_default.new.m in
+    let e : last ≡ record m { stack = c.compute.new.stack } = kept_at (record c.loop-to.m { stack = c.compute.new.stack }) last c.loop-to.pc c.loop-to.turns c.loop-to.looks c.loop-to.base c.keep-in_default.ensures i.base in
     let looks : last.looks ≡ m.looks = ap (λ (q : Machine). q.looks) e in
     let d = c.in-Other.ensures.deed in
     let same : state_of last cells' ≡ state_of m cells = ap (λ (q : Machine). state_of q cells') e ∙ ap (λ st. record (state_of m cells') { stack = reverse st }) d.1 ∙ ap (λ w. state_of m w) d.2 in
@@ -291,14 +313,14 @@ loop-halt-smaller g c =
 
 pub returns-in-Raising : goal.returns-in-Raising
 returns-in-Raising g c =
-    let i = c.loop-halt.invariant in
-    let cells = g.C.Cells.cells c.loop-halt.view in
-    let m = record c.loop-halt.m { pc = c.loop-halt.pc; turns = c.loop-halt.turns; looks = c.loop-halt.looks; base = c.loop-halt.base } in
+    let i = c.loop-to.invariant in
+    let cells = g.C.Cells.cells c.loop-to.view in
+    let m = record c.loop-to.m { pc = c.loop-to.pc; turns = c.loop-to.turns; looks = c.loop-to.looks; base = c.loop-to.base } in
     let cells' = g.C.Cells.cells c.compute.new.view in
-    let at = ap (λ l. slice_get l c.loop-halt.pc) (sym c.as_slice-instrs.ensures) ∙ c.instr_at-instr.ensures.instr in
-    let a : Came c.args.limit c.args.code.now c.args.m.now (g.C.Cells.cells c.args.view.now) (g.C.Cells.floor c.loop-halt.view) c.instr_at-instr.result.now m cells = record { came = i.came; ready = i.ready; calm = i.calm; clear = i.clear; within = i.within; at = at; tops = i.tops; looks = i.looks; falls = i.falls } in
-    let last = c.keep-in-Other.new.m in
-    let e : last ≡ record m { stack = c.compute.new.stack } = kept_at (record c.loop-halt.m { stack = c.compute.new.stack }) last c.loop-halt.pc c.loop-halt.turns c.loop-halt.looks c.loop-halt.base c.keep-in-Other.ensures i.base in
+    let at = ap (λ l. slice_get l c.loop-to.pc) (sym c.as_slice-instrs.ensures) ∙ c.instr_at-instr.ensures.instr in
+    let a : Came c.args.limit c.args.code.now c.args.m.now (g.C.Cells.cells c.args.view.now) (g.C.Cells.floor c.loop-to.view) c.instr_at-instr.result.now m cells = record { came = i.came; ready = i.ready; calm = i.calm; clear = i.clear; within = i.within; at = at; tops = i.tops; looks = i.looks; falls = i.falls } in
+    let last = c.keep-in_default.new.m in
+    let e : last ≡ record m { stack = c.compute.new.stack } = kept_at (record c.loop-to.m { stack = c.compute.new.stack }) last c.loop-to.pc c.loop-to.turns c.loop-to.looks c.loop-to.base c.keep-in_default.ensures i.base in
     let looks : last.looks ≡ m.looks = ap (λ (q : Machine). q.looks) e in
     let d = c.in-Other.ensures.deed in
     let same : state_of last cells' ≡ state_of m cells = ap (λ (q : Machine). state_of q cells') e ∙ ap (λ st. record (state_of m cells') { stack = reverse st }) d.1 ∙ ap (λ w. state_of m w) d.2 in
@@ -315,14 +337,14 @@ returns-in-Raising g c =
 
 pub returns-in-Stopped : goal.returns-in-Stopped
 returns-in-Stopped g c =
-    let i = c.loop-halt.invariant in
-    let cells = g.C.Cells.cells c.loop-halt.view in
-    let m = record c.loop-halt.m { pc = c.loop-halt.pc; turns = c.loop-halt.turns; looks = c.loop-halt.looks; base = c.loop-halt.base } in
+    let i = c.loop-to.invariant in
+    let cells = g.C.Cells.cells c.loop-to.view in
+    let m = record c.loop-to.m { pc = c.loop-to.pc; turns = c.loop-to.turns; looks = c.loop-to.looks; base = c.loop-to.base } in
     let cells' = g.C.Cells.cells c.compute.new.view in
-    let at = ap (λ l. slice_get l c.loop-halt.pc) (sym c.as_slice-instrs.ensures) ∙ c.instr_at-instr.ensures.instr in
-    let a : Came c.args.limit c.args.code.now c.args.m.now (g.C.Cells.cells c.args.view.now) (g.C.Cells.floor c.loop-halt.view) c.instr_at-instr.result.now m cells = record { came = i.came; ready = i.ready; calm = i.calm; clear = i.clear; within = i.within; at = at; tops = i.tops; looks = i.looks; falls = i.falls } in
-    let last = c.keep-in-Other.new.m in
-    let e : last ≡ record m { stack = c.compute.new.stack } = kept_at (record c.loop-halt.m { stack = c.compute.new.stack }) last c.loop-halt.pc c.loop-halt.turns c.loop-halt.looks c.loop-halt.base c.keep-in-Other.ensures i.base in
+    let at = ap (λ l. slice_get l c.loop-to.pc) (sym c.as_slice-instrs.ensures) ∙ c.instr_at-instr.ensures.instr in
+    let a : Came c.args.limit c.args.code.now c.args.m.now (g.C.Cells.cells c.args.view.now) (g.C.Cells.floor c.loop-to.view) c.instr_at-instr.result.now m cells = record { came = i.came; ready = i.ready; calm = i.calm; clear = i.clear; within = i.within; at = at; tops = i.tops; looks = i.looks; falls = i.falls } in
+    let last = c.keep-in_default.new.m in
+    let e : last ≡ record m { stack = c.compute.new.stack } = kept_at (record c.loop-to.m { stack = c.compute.new.stack }) last c.loop-to.pc c.loop-to.turns c.loop-to.looks c.loop-to.base c.keep-in_default.ensures i.base in
     let looks : last.looks ≡ m.looks = ap (λ (q : Machine). q.looks) e in
     let d = c.in-Other.ensures.deed in
     let same : state_of last cells' ≡ state_of m cells = ap (λ (q : Machine). state_of q cells') e ∙ ap (λ st. record (state_of m cells') { stack = reverse st }) d.1 ∙ ap (λ w. state_of m w) d.2 in

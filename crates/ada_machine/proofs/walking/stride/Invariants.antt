@@ -9,8 +9,8 @@ use Rattle.ada_machine.specs.Places.{Stays}
 use Rattle.ada_machine.specs.States.{state_of, Ready, more}
 use Rattle.ada_machine.proofs.walking.stride.Given as goal
 
-abbrev pub invariant-loop-halt : goal.invariant-loop-halt
-invariant-loop-halt g l = record {
+abbrev pub invariant-loop-to : goal.invariant-loop-to
+invariant-loop-to g l = record {
   came : Comes l.limit l.code (state_of l.fn.m (g.C.Cells.cells l.fn.view)) (state_of (record l.m { pc = l.pc; turns = l.turns; looks = l.looks; base = l.base }) (g.C.Cells.cells l.view));
   ready : Ready l.code (record l.m { pc = l.pc; turns = l.turns; looks = l.looks; base = l.base }) (g.C.Cells.cells l.view);
   base : l.m.base ≡ l.base;
@@ -25,5 +25,5 @@ invariant-loop-halt g l = record {
   falls : rank l.code l.limit (state_of (record l.m { pc = l.pc; turns = l.turns; looks = l.looks; base = l.base }) (g.C.Cells.cells l.view)) ≤ rank l.code l.limit (state_of l.fn.m (g.C.Cells.cells l.fn.view));
 }
 
-abbrev pub decreases-loop-halt : goal.decreases-loop-halt
-decreases-loop-halt g l = rank l.code l.limit (state_of (record l.m { pc = l.pc; turns = l.turns; looks = l.looks; base = l.base }) (g.C.Cells.cells l.view))
+abbrev pub decreases-loop-to : goal.decreases-loop-to
+decreases-loop-to g l = rank l.code l.limit (state_of (record l.m { pc = l.pc; turns = l.turns; looks = l.looks; base = l.base }) (g.C.Cells.cells l.view))

@@ -1,6 +1,6 @@
 use Rattle.std.proofs.Common.{◌-◌, ap, ◌∙◌}
 use Rattle.cell_memory.specs.Sight.{popped}
-use Rattle.ada_machine.proofs.Viewing.{pop_cells, pop_stays}
+use Rattle.ada_machine.proofs.Viewing.{pop_stays}
 use Rattle.ada_machine.proofs.views.ViewCells.pop_frame.Goals as goal
 
 pub returns-clause-stays : goal.returns-clause-stays

@@ -1,4 +1,4 @@
-use Rattle.ada_machine.proofs.Viewing.{same_cells, push_stays}
+use Rattle.ada_machine.proofs.Viewing.{push_stays}
 use Rattle.ada_machine.proofs.views.ViewCells.push_frame.Goals as goal
 
 pub returns-clause-stays : goal.returns-clause-stays
