@@ -41,6 +41,7 @@ fn put_operands(text: &mut String, operands: Operands) -> Result<(), AllocError>
             put_numbers(text, &[i64::from(a), i64::from(b), i64::from(c)])
         }
         Operands::Both(a, b) => put_numbers(text, &[a, b]),
+        Operands::Bounded(n, lo, hi) => put_numbers(text, &[i64::from(n), lo, hi]),
         Operands::Indexed(lo, hi, size) => put_numbers(text, &[lo, hi, i64::from(size)]),
         Operands::Found(n, lo, hi, size) => {
             put_numbers(text, &[i64::from(n), lo, hi, i64::from(size)])

@@ -124,6 +124,7 @@ fn name_before_more(instr: Instr) -> &'static str
         Instr::CallTo(_, _, _) => "CALLTO",
         Instr::LoadO(_, _) => "LOADO",
         Instr::StoreO(_, _) => "STOREO",
+        Instr::SetL(_, _, _) => "SETL",
         Instr::AddI(_, _) => "ADDI",
         Instr::SubI(_, _) => "SUBI",
         Instr::MulI(_, _) => "MULI",

@@ -21,6 +21,8 @@ pub enum Operands {
     Three(u32, u32, u32),
     /// Any two numbers.
     Both(i64, i64),
+    /// A cell, and the least and the greatest number that may be written to it.
+    Bounded(u32, i64, i64),
     /// The bounds of an index, and the cells of a component.
     Indexed(i64, i64, u32),
     /// A cell, the bounds of an index, and the cells of a component.
@@ -96,6 +98,7 @@ pub(crate) fn operands_of(instr: Instr) -> Operands
         }
         Instr::Fill(n, v) => Operands::Both(i64::from(n), v),
         Instr::Range(lo, hi) => Operands::Both(lo, hi),
+        Instr::SetL(n, lo, hi) => Operands::Bounded(n, lo, hi),
         Instr::AddI(v, base) => Operands::Both(v, i64::from(bits_of(base))),
         Instr::SubI(v, base) => Operands::Both(v, i64::from(bits_of(base))),
         Instr::MulI(v, base) => Operands::Both(v, i64::from(bits_of(base))),

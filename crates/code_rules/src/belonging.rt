@@ -94,6 +94,7 @@ pub fn belongs(code: &Code, at: usize, body: Around, instr: Instr) -> bool
         Instr::Local(cell)
         | Instr::LoadL(cell)
         | Instr::StoreL(cell)
+        | Instr::SetL(cell, _, _)
         | Instr::IndexL(cell, _, _, _)
         | Instr::ItemL(cell, _, _, _) => frame_exceeds(code, body, cell),
         Instr::Outer(steps, cell) | Instr::LoadO(steps, cell) | Instr::StoreO(steps, cell) => {

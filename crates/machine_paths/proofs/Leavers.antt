@@ -6,13 +6,13 @@ use Rattle.ada_base.specs.declared.operation.Op.TheVariants as op
 use Rattle.ada_base.specs.declared.reason.Reason.TheVariants.{StorageError}
 use Rattle.ada_base.specs.Operation.{within}
 use Rattle.stack_code.specs.declared.instr.Instr.{Instr}
-use Rattle.stack_code.specs.declared.instr.Instr.TheVariants.{Push, Pop, Dup, Swap, Local, Outer, Global, Index, Field, Load, Store, Copy, Fill, Add, Sub, Mul, Div, Mod, Rem, Pow, Neg, Abs, Max, Min, Eq, Ne, Lt, Le, Gt, Ge, And, Or, Xor, Not, Range, Jump, JFalse, JTrue, Turn, Call, CallAt, CallTo, Ret, RetV, Raise, Reraise, Exit, Leave as LeaveNow, LeaveV, Fork, Nest, Unnest, Words, Img, Bool as BoolImage, Wide, Send, SendLn, Get, End, EndV, Halt, Combine, Part, Repeat, Again, LoadL, LoadO, LoadG, StoreL, StoreO, StoreG, AddI, SubI, MulI, ModI, IndexL, Item, ItemL, IndexG, ItemG, JfEq, JfNe, JfLt, JfLe, JfGt, JfGe, Next, Prior, Flip, Differ}
+use Rattle.stack_code.specs.declared.instr.Instr.TheVariants.{Push, Pop, Dup, Swap, Local, Outer, Global, Index, Field, Load, Store, Copy, Fill, Add, Sub, Mul, Div, Mod, Rem, Pow, Neg, Abs, Max, Min, Eq, Ne, Lt, Le, Gt, Ge, And, Or, Xor, Not, Range, Jump, JFalse, JTrue, Turn, Call, CallAt, CallTo, Ret, RetV, Raise, Reraise, Exit, Leave as LeaveNow, LeaveV, Fork, Nest, Unnest, Words, Img, Bool as BoolImage, Wide, Send, SendLn, Get, End, EndV, Halt, Combine, Part, Repeat, Again, LoadL, LoadO, LoadG, StoreL, StoreO, StoreG, SetL, AddI, SubI, MulI, ModI, IndexL, Item, ItemL, IndexG, ItemG, JfEq, JfNe, JfLt, JfLe, JfGt, JfGe, Next, Prior, Flip, Differ}
 use Rattle.stack_code.specs.declared.code.Code.{Code}
 use Rattle.stack_code.specs.declared.operators.Relation.TheVariants.{Equal, Unequal, Less, AtMost, Greater, AtLeast}
 use Rattle.stack_code.specs.declared.operators.Digits.TheVariants.{Both, Either, Differ}
 use Rattle.stack_code.specs.declared.code.CodeSub.{CodeSub}
 use Rattle.stack_code.specs.declared.path.Asked.{Asked}
-use Rattle.stack_code.specs.Deeds.{Deed, GoesOn, Fails, Loads, Stores, Leaves, Forks, bit, truth, applied, differ, is_related, digits_of, if_between, indexed, on_one, on_two, pushed, unary, binary, cell_of_frame, load_of_frame, store_to, store_of_frame, item_at, stepped, loads_all, stores_all, called, called_at, combining, can_fork, many, asked, forked, deed_of}
+use Rattle.stack_code.specs.Deeds.{Deed, GoesOn, Fails, Loads, Stores, Leaves, Forks, bit, truth, applied, differ, is_related, digits_of, if_between, indexed, on_one, on_two, pushed, unary, binary, cell_of_frame, load_of_frame, store_to, store_of_frame, item_at, stored, stepped, loads_all, stores_all, called, called_at, combining, can_fork, many, asked, forked, deed_of}
 
 -- nothing is left by it
 abbrev pub Stays : Deed → Type 0
@@ -60,6 +60,10 @@ store_free pc st a = one_free st _ (λ x rest. tt)
 store_outer_free : (pc : ℕ) (st : List ℤ) (o : Option ℕ) (n : ℕ) → Stays (store_of_frame pc st o n)
 store_outer_free pc st (Some b) n = store_free pc st _
 store_outer_free pc st None n = tt
+
+stored_free : (pc : ℕ) (a : ℤ) (v : Option ℤ) (st : List ℤ) → Stays (stored pc a v st)
+stored_free pc a (Some v) st = tt
+stored_free pc a None st = tt
 
 item_free : (pc : ℕ) (o : Option ℤ) (st : List ℤ) → Stays (item_at pc o st)
 item_free pc (Some a) st = λ v. tt
@@ -174,6 +178,7 @@ leaves_by c pc st base outward (LoadG n) = inr (λ v. tt)
 leaves_by c pc st base outward (StoreL n) = inr (store_free pc st _)
 leaves_by c pc st base outward (StoreO k n) = inr (store_outer_free pc st _ n)
 leaves_by c pc st base outward (StoreG n) = inr (store_free pc st _)
+leaves_by c pc st base outward (SetL n lo hi) = inr (one_free st _ (λ x rest. stored_free pc _ (if_between lo hi x) rest))
 leaves_by c pc st base outward (AddI v kind) = inr (unary_free pc st (λ x. applied op.Add kind x v))
 leaves_by c pc st base outward (SubI v kind) = inr (unary_free pc st (λ x. applied op.Sub kind x v))
 leaves_by c pc st base outward (MulI v kind) = inr (unary_free pc st (λ x. applied op.Mul kind x v))

@@ -6,11 +6,11 @@ use Rattle.std.proofs.lemmas.Bool.{false≢true}
 use Rattle.stack_code.specs.declared.code.Code.{Code}
 use Rattle.stack_code.specs.declared.code.CodeSub.{CodeSub}
 use Rattle.stack_code.specs.declared.instr.Instr.{Instr}
-use Rattle.stack_code.specs.declared.instr.Instr.TheVariants.{Push, Pop, Dup, Swap, Local, Outer, Global, Index, Field, Load, Store, Copy, Fill, Add, Sub, Mul, Div, Mod, Rem, Pow, Neg, Abs, Max, Min, Eq, Ne, Lt, Le, Gt, Ge, And, Or, Xor, Not, Range, Jump, JFalse, JTrue, Turn, Call, CallAt, CallTo, Ret, RetV, Raise, Reraise, Exit, Leave as LeaveNow, LeaveV, Fork, Nest, Unnest, Words, Img, Bool as BoolImage, Wide, Send, SendLn, Get, End, EndV, Halt, Combine, Part, Repeat, Again, LoadL, LoadO, LoadG, StoreL, StoreO, StoreG, AddI, SubI, MulI, ModI, IndexL, Item, ItemL, IndexG, ItemG, JfEq, JfNe, JfLt, JfLe, JfGt, JfGe, Next, Prior, Flip, Differ}
+use Rattle.stack_code.specs.declared.instr.Instr.TheVariants.{Push, Pop, Dup, Swap, Local, Outer, Global, Index, Field, Load, Store, Copy, Fill, Add, Sub, Mul, Div, Mod, Rem, Pow, Neg, Abs, Max, Min, Eq, Ne, Lt, Le, Gt, Ge, And, Or, Xor, Not, Range, Jump, JFalse, JTrue, Turn, Call, CallAt, CallTo, Ret, RetV, Raise, Reraise, Exit, Leave as LeaveNow, LeaveV, Fork, Nest, Unnest, Words, Img, Bool as BoolImage, Wide, Send, SendLn, Get, End, EndV, Halt, Combine, Part, Repeat, Again, LoadL, LoadO, LoadG, StoreL, StoreO, StoreG, SetL, AddI, SubI, MulI, ModI, IndexL, Item, ItemL, IndexG, ItemG, JfEq, JfNe, JfLt, JfLe, JfGt, JfGe, Next, Prior, Flip, Differ}
 use Rattle.stack_code.specs.declared.path.Asked.{Asked}
 use Rattle.stack_code.specs.declared.flow.Flow.TheVariants.{On, Branch}
 use Rattle.stack_code.specs.Operands.{takes, pushes, flow_of}
-use Rattle.stack_code.specs.Deeds.{Deed, GoesOn, Fails, Forks, on_one, on_two, pushed, unary, binary, unless, cell_of_frame, load_from, load_of_frame, store_to, store_of_frame, item_at, stepped, loads_all, stores_all, called, called_at, combining, can_fork, many, asked, forked, deed_of, truth, differ, bit, indexed, is_related}
+use Rattle.stack_code.specs.Deeds.{Deed, GoesOn, Fails, Forks, on_one, on_two, pushed, unary, binary, unless, cell_of_frame, load_from, load_of_frame, store_to, store_of_frame, item_at, stored, if_between, stepped, loads_all, stores_all, called, called_at, combining, can_fork, many, asked, forked, deed_of, truth, differ, bit, indexed, is_related}
 use Rattle.stack_code.specs.declared.operators.Relation.{Relation}
 use Rattle.stack_code.specs.declared.operators.Relation.TheVariants.{Equal, Unequal, Less, AtMost, Greater, AtLeast}
 use Rattle.ada_base.specs.declared.reason.Reason.TheVariants.{StorageError}
@@ -55,6 +55,10 @@ module _ (c : Code) (pc : ℕ) (i : Instr) (calm : IsCalm i) where
 
   store_outer_fit : (st : List ℤ) (outward : List ℕ) (k n : ℕ) → (0 < k) × (k ≤ length outward) → 1 ≤ length st → takes c i ≡ 1 → pushes c i ≡ 0 → flow_of i ≡ On → IsFit c pc st i (store_of_frame pc st (slice_get outward (k - 1)) n)
   store_outer_fit st outward k n q l t p f = subst (λ o. IsFit c pc st i (store_of_frame pc st o n)) (sym (slice_get-get_or outward (k - 1) 0 (omega (arith, q.0, q.1)))) (store_fit st _ l t p f)
+
+  stored_fit : (st rest : List ℤ) (a : ℤ) (v : Option ℤ) → takes c i + length rest ≡ length st → pushes c i ≡ 0 → flow_of i ≡ On → IsFit c pc st i (stored pc a v rest)
+  stored_fit st rest a (Some v) l p f = (omega (arith, l, p), next_fit f, calm)
+  stored_fit st rest a None l p f = (omega (arith, l), calm)
 
   item_fit : (st rest : List ℤ) (a : Option ℤ) → takes c i + length rest ≡ length st → pushes c i ≡ 1 → flow_of i ≡ On → IsFit c pc st i (item_at pc a rest)
   item_fit st rest (Some a) l p f = load_fit st rest a l p f
@@ -176,6 +180,7 @@ fits c pc st base outward (LoadG n) l h = load_fit c pc (LoadG n) tt st st (pos 
 fits c pc st base outward (StoreL n) l h = store_fit c pc (StoreL n) tt st _ l refl refl refl
 fits c pc st base outward (StoreO k n) l h = store_outer_fit c pc (StoreO k n) tt st outward k n h l refl refl refl
 fits c pc st base outward (StoreG n) l h = store_fit c pc (StoreG n) tt st _ l refl refl refl
+fits c pc st base outward (SetL n lo hi) l h = one_fit c pc (SetL n lo hi) tt st _ l (λ x rest. stored_fit c pc (SetL n lo hi) tt (x ∷ rest) rest (pos (base + n)) (if_between lo hi x) (omega arith) refl refl)
 fits c pc st base outward (AddI v kind) l h = unary_fit c pc (AddI v kind) tt st _ l refl refl refl
 fits c pc st base outward (SubI v kind) l h = unary_fit c pc (SubI v kind) tt st _ l refl refl refl
 fits c pc st base outward (MulI v kind) l h = unary_fit c pc (MulI v kind) tt st _ l refl refl refl

@@ -10,7 +10,7 @@ use Rattle.ada_base.specs.declared.reason.Reason.TheVariants.{ConstraintError, P
 use Rattle.ada_base.specs.Operation.{within, result_of}
 use Rattle.ada_base.specs.Image.{image, truth_image, padded}
 use Rattle.stack_code.specs.declared.instr.Instr.{Instr}
-use Rattle.stack_code.specs.declared.instr.Instr.TheVariants.{Push, Pop, Dup, Swap, Local, Outer, Global, Index, Field, Load, Store, Copy, Fill, Add, Sub, Mul, Div, Mod, Rem, Pow, Neg, Abs, Max, Min, Eq, Ne, Lt, Le, Gt, Ge, And, Or, Xor, Not, Range, Jump, JFalse, JTrue, Turn, Call, CallAt, CallTo, Ret, RetV, Raise, Reraise, Exit, Leave as LeaveNow, LeaveV, Fork, Nest, Unnest, Words, Img, Bool as BoolImage, Wide, Send, SendLn, Get, End, EndV, Halt, Combine, Part, Repeat, Again, LoadL, LoadO, LoadG, StoreL, StoreO, StoreG, AddI, SubI, MulI, ModI, IndexL, Item, ItemL, IndexG, ItemG, JfEq, JfNe, JfLt, JfLe, JfGt, JfGe, Next, Prior, Flip, Differ}
+use Rattle.stack_code.specs.declared.instr.Instr.TheVariants.{Push, Pop, Dup, Swap, Local, Outer, Global, Index, Field, Load, Store, Copy, Fill, Add, Sub, Mul, Div, Mod, Rem, Pow, Neg, Abs, Max, Min, Eq, Ne, Lt, Le, Gt, Ge, And, Or, Xor, Not, Range, Jump, JFalse, JTrue, Turn, Call, CallAt, CallTo, Ret, RetV, Raise, Reraise, Exit, Leave as LeaveNow, LeaveV, Fork, Nest, Unnest, Words, Img, Bool as BoolImage, Wide, Send, SendLn, Get, End, EndV, Halt, Combine, Part, Repeat, Again, LoadL, LoadO, LoadG, StoreL, StoreO, StoreG, SetL, AddI, SubI, MulI, ModI, IndexL, Item, ItemL, IndexG, ItemG, JfEq, JfNe, JfLt, JfLe, JfGt, JfGe, Next, Prior, Flip, Differ}
 use Rattle.stack_code.specs.declared.code.Code.{Code}
 use Rattle.stack_code.specs.declared.operators.Relation.{Relation}
 use Rattle.stack_code.specs.declared.operators.Relation.TheVariants.{Equal, Unequal, Less, AtMost, Greater, AtLeast}
@@ -156,6 +156,11 @@ abbrev pub store_of_frame : ℕ → List ℤ → Option ℕ → ℕ → Deed
 store_of_frame pc st (Some base) n = store_to pc st (pos (base + n))
 store_of_frame pc st None n = Lacks
 
+-- writes a cell, or raises Constraint_Error
+abbrev pub stored : ℕ → ℤ → Option ℤ → List ℤ → Deed
+stored pc address (Some v) st = Stores address v (GoesOn (pc + 1) st)
+stored pc address None st = Fails ConstraintError st
+
 -- reads the cell at the address, or raises Constraint_Error
 abbrev pub item_at : ℕ → Option ℤ → List ℤ → Deed
 item_at pc (Some a) st = load_from pc st a
@@ -288,6 +293,7 @@ deed_of c pc st base outward (LoadG n) = load_from pc st (pos n)
 deed_of c pc st base outward (StoreL n) = store_to pc st (pos (base + n))
 deed_of c pc st base outward (StoreO k n) = store_of_frame pc st (slice_get outward (k - 1)) n
 deed_of c pc st base outward (StoreG n) = store_to pc st (pos n)
+deed_of c pc st base outward (SetL n lo hi) = on_one st (λ v st. stored pc (pos (base + n)) (if_between lo hi v) st)
 deed_of c pc st base outward (AddI v kind) = unary pc st (λ x. applied op.Add kind x v)
 deed_of c pc st base outward (SubI v kind) = unary pc st (λ x. applied op.Sub kind x v)
 deed_of c pc st base outward (MulI v kind) = unary pc st (λ x. applied op.Mul kind x v)

@@ -1,7 +1,7 @@
 -- Code that fits together: each rule is of one instruction, or of one entry of a table.
 use Rattle.std.specs.Prelude.{◌≡◌, ℕ, zero, suc, ◌+◌, ◌-◌, ◌<◌, ◌≤◌, List, length, Option, Some, None, IsSome, IsSomeAnd, slice_get, Bool, true, false}
 use Rattle.stack_code.specs.declared.instr.Instr.{Instr}
-use Rattle.stack_code.specs.declared.instr.Instr.TheVariants.{Local, Outer, Global, Call, CallAt, CallTo, Ret, RetV, Exit, Leave, LeaveV, Fork, Unnest, Words, End, EndV, Halt, Combine, LoadL, LoadO, LoadG, StoreL, StoreO, StoreG, IndexL, ItemL, IndexG, ItemG, Next, Prior}
+use Rattle.stack_code.specs.declared.instr.Instr.TheVariants.{Local, Outer, Global, Call, CallAt, CallTo, Ret, RetV, Exit, Leave, LeaveV, Fork, Unnest, Words, End, EndV, Halt, Combine, LoadL, LoadO, LoadG, StoreL, StoreO, StoreG, SetL, IndexL, ItemL, IndexG, ItemG, Next, Prior}
 use Rattle.stack_code.specs.declared.code.Around.{Around}
 use Rattle.stack_code.specs.declared.code.Around.TheVariants.{Sub, Site}
 use Rattle.stack_code.specs.declared.code.Code.{Code}
@@ -110,6 +110,7 @@ Belongs c at body (LoadG n) = HasFrame c (Sub 0) (λ cells. n < cells)
 Belongs c at body (StoreL n) = HasFrame c body (λ cells. n < cells)
 Belongs c at body (StoreO k n) = (0 < k) × IsSomeAnd (outward c (Some body) k) (λ b. HasFrame c b (λ cells. n < cells))
 Belongs c at body (StoreG n) = HasFrame c (Sub 0) (λ cells. n < cells)
+Belongs c at body (SetL n lo hi) = HasFrame c body (λ cells. n < cells)
 Belongs c at body (IndexL n lo hi size) = HasFrame c body (λ cells. n < cells)
 Belongs c at body (ItemL n lo hi size) = HasFrame c body (λ cells. n < cells)
 Belongs c at body (IndexG g lo hi size n) = HasFrame c (Sub 0) (λ cells. g < cells) × HasFrame c body (λ cells. n < cells)

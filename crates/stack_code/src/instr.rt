@@ -152,6 +152,9 @@ pub enum Instr {
     StoreO(u32, u32),
     /// Writes it to a cell of the main frame: `Global`, `Swap`, `Store`.
     StoreG(u32),
+    /// Writes the top to a cell of the own frame where it lies from the least to the greatest, and else raises: `Range`, `StoreL`. The
+    /// cell, the least and the greatest.
+    SetL(u32, i64, i64),
     /// Adds a constant: `Push`, `Add`.
     AddI(i64, Base),
     /// Takes a constant off: `Push`, `Sub`.

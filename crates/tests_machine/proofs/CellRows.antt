@@ -61,6 +61,12 @@ writes =
     row (i.StoreL 1) (pos 7 ∷ []) (Onward 8 [] (last_two (pos 13) (pos 7))) ∷
     row (i.StoreO 1 2) (pos 7 ∷ []) (Onward 8 [] (last_two (pos 7) (pos 14))) ∷
     row (i.StoreG 4) (pos 7 ∷ []) (Onward 8 [] (last_two (pos 13) (pos 7))) ∷
+    row (i.SetL 1 (pos 7) (pos 9)) (pos 7 ∷ pos 99 ∷ []) (Onward 8 (pos 99 ∷ []) (last_two (pos 13) (pos 7))) ∷
+    row (i.SetL 1 (pos 5) (pos 7)) (pos 7 ∷ []) (Onward 8 [] (last_two (pos 13) (pos 7))) ∷
+    row (i.SetL 1 (pos 8) (pos 9)) (pos 7 ∷ pos 99 ∷ []) (Raised ConstraintError (pos 99 ∷ []) five) ∷
+    row (i.SetL 1 (negsuc 8) (pos 6)) (pos 7 ∷ []) (Raised ConstraintError [] five) ∷
+    row (i.SetL 2 (pos 7) (pos 9)) (pos 7 ∷ []) Neither ∷
+    row (i.SetL 2 (pos 8) (pos 9)) (pos 7 ∷ []) (Raised ConstraintError [] five) ∷
     row (i.Fill 2 (negsuc 0)) (pos 3 ∷ []) (Onward 8 [] (last_two (negsuc 0) (negsuc 0))) ∷
     row (i.Fill 3 (negsuc 0)) (pos 3 ∷ []) Neither ∷
     row (i.Fill 0 (pos 5)) (pos 77 ∷ []) (Onward 8 [] five) ∷
