@@ -21,7 +21,7 @@ use Rattle.stack_code.specs.declared.code.SiteKind.TheVariants as kind
 use Rattle.stack_code.specs.declared.instr.Instr.{Instr}
 use Rattle.stack_code.specs.declared.instr.Instr.TheVariants as i
 use Rattle.stack_code.specs.Machine.{Done}
-use Rattle.lower_leased.specs.Homes.{main_variables}
+use Rattle.ada_lower.specs.Homes.{main_variables}
 use Rattle.ada_lower.specs.Driven.{on, off}
 use Rattle.ada_lower.specs.Sights.{Named, Own, Main, Placed, Sight, listed}
 use Rattle.ada_lower.specs.FittedForks.{FittedForks, FittedReductions, Within, unleased}

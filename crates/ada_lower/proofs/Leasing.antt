@@ -19,7 +19,7 @@ use Rattle.stack_code.specs.declared.code.Step as code_step
 use Rattle.stack_code.specs.declared.code.Lease as code
 use Rattle.stack_code.specs.declared.path.Asked.{Asked}
 use Rattle.stack_code.specs.Machine.{outward_of}
-use Rattle.lower_leased.specs.Leases.{frame_of}
+use Rattle.ada_lower.specs.Leases.{frame_of}
 use Rattle.ada_lower.specs.Driven.{Dyn, Fixed}
 use Rattle.ada_lower.specs.Sights.{Around, Level, Main, Named, Own, Sight}
 use Rattle.ada_lower.specs.Fits.{What, Keeps, Shows, Access as Right, Ghost, Fit, Knows, IsAt, Refers, place_in, Stands as StandsFor}

@@ -107,3 +107,9 @@ mod LeaseFinds
 mod LeasesLent
 mod WholeSafe
 mod AllFine
+-- the worked leases
+pub mod Computed
+-- one home for each variable
+mod Times
+mod Housed
+mod Local

@@ -32,7 +32,7 @@ use Rattle.ada_lower.specs.Bodies.{main_object, main_scope, main_declared, Fitte
 use Rattle.ada_lower.proofs.Framework.{any, To, comes_as, leads_on, sound_split}
 use Rattle.ada_lower.proofs.Standing.{stands_seq}
 use Rattle.ada_lower.proofs.Parts.{Runs}
-use Rattle.lower_leased.specs.Homes.{main_variables}
+use Rattle.ada_lower.specs.Homes.{main_variables}
 use Rattle.ada_lower.specs.Law.{AreFinals}
 use Rattle.ada_lower.proofs.Mains.{holding, knows_holding, fresh_kept_of, Final, AllThere, variable_at, final_on, final_variable, final_constant, AllFull, allows_all, full_holding, Ending, elaborates_main, ending_from, values_main}
 use Rattle.ada_lower.proofs.EvalLeaves.{Closed, Raised, c_cells}

@@ -26,7 +26,7 @@ use Rattle.ada_lower.proofs.FoldDoes.{folds_do}
 use Rattle.ada_lower.proofs.Rounds.{with_rounds}
 use Rattle.ada_lower.proofs.ForkLaws.{ForksDo}
 use Rattle.ada_lower.proofs.ProgramStands.{main_to, main_there, all_stand}
-use Rattle.lower_leased.specs.Homes.{main_variables}
+use Rattle.ada_lower.specs.Homes.{main_variables}
 use Rattle.ada_lower.specs.Law.{AreFinals}
 use Rattle.ada_lower.proofs.Main.{outermost, first_dyn, main_ends, program_does, program_gives}
 use Rattle.ada_lower.proofs.Lent.{Lending}

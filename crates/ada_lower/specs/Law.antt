@@ -19,7 +19,7 @@ use Rattle.stack_code.specs.Stands.{IsForward}
 use Rattle.ada_lower.specs.Sights.{Named}
 use Rattle.stack_code.specs.Valid.{IsValid}
 use Rattle.lower_emission.specs.Programs.{text_in, code_of}
-use Rattle.lower_leased.specs.Homes.{main_variables}
+use Rattle.ada_lower.specs.Homes.{main_variables}
 use Rattle.ada_lower.specs.Driven.{Dyn, Finally, On, Safe, on, off}
 use Rattle.ada_lower.specs.Fits.{Ghost, Lands}
 use Rattle.ada_lower.specs.FittedForks.{FittedForks, FittedReductions, Within, unleased}

@@ -10,7 +10,7 @@ use Rattle.check_effects.specs.Covered.{arm_of, site_of, has_items}
 use Rattle.stack_code.specs.declared.code.CodeSite.{CodeSite}
 use Rattle.stack_code.specs.declared.code.Lease as code
 use Rattle.lower_emission.specs.declared.types.Named.{Named}
-use Rattle.lower_leased.specs.Leases.{frame_of}
+use Rattle.ada_lower.specs.Leases.{frame_of}
 use Rattle.ada_lower.specs.Sights.{Sight}
 use Rattle.ada_lower.specs.Lending.{Among, IsOfArm, StepsTo}
 

@@ -1,3 +1,8 @@
+pub mod Places
+pub mod Homes
+pub mod Standings
+pub mod Leases
+pub mod LeaseRows
 pub mod Asking
 pub mod Views
 pub mod Lending
@@ -19,3 +24,4 @@ pub mod HasTables
 pub mod Sited
 pub mod Outset
 pub mod Law
+pub mod HomesLaw

@@ -9,7 +9,7 @@ use Rattle.check_conflicts.specs.Answer.{AreGrants}
 use Rattle.stack_code.specs.declared.code.Code.{Code}
 use Rattle.stack_code.specs.declared.code.Lease as code
 use Rattle.lower_emission.specs.Programs.{code_of}
-use Rattle.lower_leased.specs.Places.{all_leases}
+use Rattle.ada_lower.specs.Places.{all_leases}
 use Rattle.lower_values.specs.Words.{program_of}
 use Rattle.lower_leases.specs.Grants.{granted_by}
 use Rattle.lower_leases.specs.Law.{TableLaw}

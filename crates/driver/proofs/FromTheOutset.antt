@@ -10,7 +10,7 @@ use Rattle.ada_meaning.specs.Stored.{Fails, MemoryFault, finals_of, outset, outc
 use Rattle.ada_meaning.specs.declared.slots.Variable.{Variable}
 use Rattle.ada_meaning.proofs.StoredProof.{stored_law}
 use Rattle.ada_port.specs.Ports.{Stream, bytes_of}
-use Rattle.lower_leased.specs.Homes.{main_variables}
+use Rattle.ada_lower.specs.Homes.{main_variables}
 use Rattle.stack_code.specs.declared.code.Code.{Code}
 use Rattle.typed_tree.specs.Syntax.{Program}
 use Rattle.run_machine_laws.specs.Programs.{IsLoaded}

@@ -8,7 +8,7 @@ use Rattle.check_effects.specs.Accepted.{IsAccepted}
 use Rattle.check_effects.specs.Conflicts.{EffectPath}
 use Rattle.check_inference.specs.Exact.{effect_path}
 use Rattle.lower_emission.specs.Programs.{code_of}
-use Rattle.lower_leased.specs.Places.{leases_at}
+use Rattle.ada_lower.specs.Places.{leases_at}
 use Rattle.lower_leases.specs.Grants.{granted_by}
 use Rattle.lower_lent.specs.Granted.{paths_at}
 use Rattle.name_scopes.specs.Law.{NamedProgramsLaw}

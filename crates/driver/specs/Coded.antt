@@ -10,8 +10,8 @@ use Rattle.check_conflicts.specs.Answer.{AreGrants}
 use Rattle.check_effects.specs.Accepted.{IsAccepted}
 use Rattle.stack_code.specs.declared.code.Code.{Code}
 use Rattle.lower_emission.specs.Programs.{code_of}
-use Rattle.lower_leased.specs.Homes.{main_variables}
-use Rattle.lower_leased.specs.Places.{leases_at}
+use Rattle.ada_lower.specs.Homes.{main_variables}
+use Rattle.ada_lower.specs.Places.{leases_at}
 use Rattle.lower_leases.specs.Grants.{granted_by}
 use Rattle.driver.specs.declared.unit.Unit.{Unit}
 

@@ -7,12 +7,12 @@ use Rattle.check_clashes.specs.declared.granted.Grant.{Grant}
 use Rattle.check_inference.specs.Exact.{effect_path}
 use Rattle.stack_code.specs.declared.code.Lease as code
 use Rattle.lower_emission.specs.declared.types.Named.{Named}
-use Rattle.lower_leased.specs.declared.types.Home.{Home}
-use Rattle.lower_leased.specs.declared.types.Standing.{Standing}
-use Rattle.lower_leased.specs.Homes.{homes_of}
-use Rattle.lower_leased.specs.Leases.{Way, all_leased, leased}
-use Rattle.lower_leased.specs.Standings.{standings_of}
-use Rattle.lower_leased.specs.Places.{all_leases, home_in, leases_at, leases_from, names_from, ranges_in, seen_from, standing_in}
+use Rattle.ada_lower.specs.declared.types.Home.{Home}
+use Rattle.ada_lower.specs.declared.types.Standing.{Standing}
+use Rattle.ada_lower.specs.Homes.{homes_of}
+use Rattle.ada_lower.specs.Leases.{Way, all_leased, leased}
+use Rattle.ada_lower.specs.Standings.{standings_of}
+use Rattle.ada_lower.specs.Places.{all_leases, home_in, leases_at, leases_from, names_from, ranges_in, seen_from, standing_in}
 use Rattle.lower_leases.specs.Grants.{granted_by}
 use Rattle.lower_leases.specs.Lent.{lease_by, lent_at, lent_by, path_of, way_to, site_leases}
 use Rattle.lower_leases.specs.Paths.{path_by}

@@ -7,7 +7,7 @@ use Rattle.stack_code.specs.declared.code.CodeSite.{CodeSite}
 use Rattle.stack_code.specs.declared.code.Lease as code
 use Rattle.lower_emission.specs.declared.types.Placed.{Placed}
 use Rattle.lower_emission.specs.Programs.{code_of, code_site, code_sites, placed_code}
-use Rattle.lower_leased.specs.Places.{all_leases, leases_at, leases_from}
+use Rattle.ada_lower.specs.Places.{all_leases, leases_at, leases_from}
 use Rattle.lower_leases.specs.Law.{TableLaw}
 
 row : (leases : ℕ → List code.Lease) (n : ℕ) (xs : List Site) (k : ℕ) → k < length xs → get_or (leases_from leases n xs) k [] ≡ leases (n + k)

@@ -6,7 +6,7 @@ use Rattle.check_effects.specs.Effects.{Selector, At, Fixed, LoopIndex, ChunkInd
 use Rattle.check_inference.specs.Exact.{plain}
 use Rattle.stack_code.specs.declared.code.Step.{Step}
 use Rattle.stack_code.specs.declared.code.Step.TheVariants as step
-use Rattle.lower_leased.specs.Leases.{Place, All, Loop, ByChunk, Way, also, at_item, in_field, step_of, steps_of, way_of}
+use Rattle.ada_lower.specs.Leases.{Place, All, Loop, ByChunk, Way, also, at_item, in_field, step_of, steps_of, way_of}
 use Rattle.ada_meaning.specs.Values.{count, to_nat}
 use Rattle.typed_tree.specs.declared.typed.Typed.{Typed}
 use Rattle.lower_leases.specs.Paths.{dimension_shape, here, item_steps, part_shape, path_by}

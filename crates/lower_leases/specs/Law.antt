@@ -3,7 +3,7 @@ use Rattle.std.specs.Prelude.{◌≡◌, ℕ, List, [], get_or}
 use Rattle.typed_tree.specs.Syntax.{Program}
 use Rattle.check_effects.specs.Conflicts.{EffectPath}
 use Rattle.lower_emission.specs.Programs.{code_of}
-use Rattle.lower_leased.specs.Places.{all_leases, leases_at}
+use Rattle.ada_lower.specs.Places.{all_leases, leases_at}
 
 -- The table of all leases gives each construct its own.
 abbrev pub TableLaw : Type 0

@@ -5,10 +5,10 @@ use Rattle.typed_tree.specs.Syntax.{Program}
 use Rattle.stack_code.specs.declared.code.Lease as code
 use Rattle.check_clashes.specs.declared.granted.Grant.{Grant}
 use Rattle.check_inference.specs.Exact.{plain}
-use Rattle.lower_leased.specs.Leases.{Way, all_leased, frame_of, leased, way_of}
-use Rattle.lower_leased.specs.Places.{home_in, level_from, names_from, ranges_in, seen_from, standing_in}
-use Rattle.lower_leased.specs.declared.types.Home.{Home}
-use Rattle.lower_leased.specs.declared.types.Standing.{Standing}
+use Rattle.ada_lower.specs.Leases.{Way, all_leased, frame_of, leased, way_of}
+use Rattle.ada_lower.specs.Places.{home_in, level_from, names_from, ranges_in, seen_from, standing_in}
+use Rattle.ada_lower.specs.declared.types.Home.{Home}
+use Rattle.ada_lower.specs.declared.types.Standing.{Standing}
 use Rattle.lower_leases.specs.Grants.{granted_by}
 use Rattle.lower_leases.specs.Paths.{path_by}
 use Rattle.lower_leases.specs.declared.paths.Path.{Path}

@@ -5,7 +5,7 @@ use Rattle.typed_tree.specs.Programs.{program, bounds_at, fields_at}
 use Rattle.ada_meaning.specs.Shapes.{Shape, size, Single, Record, Dimension, NoShape, array_of, fields_of, shape_within}
 use Rattle.stack_code.specs.declared.code.Step.{Step}
 use Rattle.stack_code.specs.declared.code.Step.TheVariants as step
-use Rattle.lower_leased.specs.Leases.{Way, steps_of}
+use Rattle.ada_lower.specs.Leases.{Way, steps_of}
 use Rattle.lower_leases.specs.declared.shapes.Form.{Form}
 use Rattle.lower_leases.specs.declared.shapes.Form.TheVariants as form
 use Rattle.lower_leases.specs.declared.shapes.Head.{Head}

@@ -3,10 +3,10 @@ use Rattle.std.specs.Prelude.{◌≡◌, ◌<◌, ◌≤◌, ℕ, suc, List, Opt
 use Rattle.typed_tree.specs.declared.node.Node.{Node}
 use Rattle.typed_tree.specs.Decoded.{chunk_at, composite_at, expr_at, iteration_at, stmt_at}
 use Rattle.typed_tree.specs.Syntax.{Program}
-use Rattle.lower_leased.specs.declared.types.Home.{Home}
-use Rattle.lower_leased.specs.declared.types.Standing.{Standing}
-use Rattle.lower_leased.specs.Homes.{stmt_homes}
-use Rattle.lower_leased.specs.Standings.{chunk_standings, composite_standings, depth_in, expr_standings, goes_through_range, iteration_standings, stmt_standings, with_site}
+use Rattle.ada_lower.specs.declared.types.Home.{Home}
+use Rattle.ada_lower.specs.declared.types.Standing.{Standing}
+use Rattle.ada_lower.specs.Homes.{stmt_homes}
+use Rattle.ada_lower.specs.Standings.{chunk_standings, composite_standings, depth_in, expr_standings, goes_through_range, iteration_standings, stmt_standings, with_site}
 use Rattle.lower_leases.specs.declared.exprs.Reduced.{Reduced}
 use Rattle.lower_leases.specs.declared.homes.Housing.{Housing}
 use Rattle.lower_leases.specs.declared.standings.Finding.{Finding}

@@ -4,7 +4,7 @@ ghost use Rattle.std.specs.Prelude.{◌≡◌, cond, IsTrue};
 ghost use Rattle.lower_emission.specs.Repeats.{some_run};
 ghost use Rattle.typed_tree.specs.Decoded.{actuals_at, as_actual, as_association, as_selection, associations_at, chunk_at, composite_at, expr_at, iteration_at, leaves_at, optional_at, part_at, runs_in, selections_at, value_at};
 ghost use Rattle.typed_tree.specs.Syntax.{Actuals, Associations, Selections};
-ghost use Rattle.lower_leased.specs.Standings as spec;
+ghost use Rattle.ada_lower.specs.Standings as spec;
 ghost use Rattle.lower_leases.specs.Words.{expr_left, composite_left, reduced, Finds, IsBelow, Learns};
 
 use crate::standings::{Finding, deeper, stands};
@@ -44,7 +44,7 @@ pub fn expr(nodes: &Nodes, depth: u32, id: u32, out: &mut Finding)
 /// All of an expression but one part that may be left.
 #[cycle(text)]
 #[inline(never)]
-#[tactic(auto, unfolding(lower_leased::specs::Standings::expr_standings))]
+#[tactic(auto, unfolding(ada_lower::specs::Standings::expr_standings))]
 fn expr_step(nodes: &Nodes, depth: u32, id: u32, out: &mut Finding) -> Option<u32>
     ensures { (IsTrue out.new.whole → IsTrue out.old.whole × (expr_left nodes.now depth out.new.found result ≡ spec.expr_standings depth (expr_at nodes.now id) out.old.found)) × IsBelow id result }
 {
@@ -135,7 +135,7 @@ fn both(nodes: &Nodes, depth: u32, one: u32, two: u32, out: &mut Finding)
 
 /// An expression that may be left out.
 #[cycle(text)]
-#[tactic(auto, using(crate::proofs::Reading::present_is), unfolding(lower_leased::specs::Standings::optional_standings))]
+#[tactic(auto, using(crate::proofs::Reading::present_is), unfolding(ada_lower::specs::Standings::optional_standings))]
 pub fn optional(nodes: &Nodes, depth: u32, id: u32, out: &mut Finding)
     ensures { Finds (spec.optional_standings depth (optional_at nodes.now id) out.old.found) out.old out.new }
 {
@@ -147,7 +147,7 @@ pub fn optional(nodes: &Nodes, depth: u32, id: u32, out: &mut Finding)
 
 /// What a name goes on with (4.1.1, 4.1.3).
 #[cycle(text)]
-#[tactic(auto, unfolding(lower_leased::specs::Standings::selections_standings))]
+#[tactic(auto, unfolding(ada_lower::specs::Standings::selections_standings))]
 pub fn selections(nodes: &Nodes, depth: u32, id: u32, out: &mut Finding)
     ensures { Finds (spec.selections_standings depth (selections_at nodes.now id) out.old.found) out.old out.new }
 {
@@ -159,7 +159,7 @@ pub fn selections(nodes: &Nodes, depth: u32, id: u32, out: &mut Finding)
 }
 
 #[cycle(text)]
-#[tactic(auto, unfolding(lower_leased::specs::Standings::selections_standings))]
+#[tactic(auto, unfolding(ada_lower::specs::Standings::selections_standings))]
 fn selection(nodes: &Nodes, depth: u32, id: u32, out: &mut Finding)
     ensures { IsTrue out.new.whole → IsTrue out.old.whole × ((rest : Selections) → spec.selections_standings depth rest out.new.found ≡ spec.selections_standings depth (as_selection (part_at nodes.now id) rest) out.old.found) }
 {
@@ -171,7 +171,7 @@ fn selection(nodes: &Nodes, depth: u32, id: u32, out: &mut Finding)
 
 /// Actual parameters (6.4.1).
 #[cycle(text)]
-#[tactic(auto, unfolding(lower_leased::specs::Standings::actuals_standings))]
+#[tactic(auto, unfolding(ada_lower::specs::Standings::actuals_standings))]
 pub fn actuals(nodes: &Nodes, depth: u32, id: u32, out: &mut Finding)
     ensures { Finds (spec.actuals_standings depth (actuals_at nodes.now id) out.old.found) out.old out.new }
 {
@@ -183,7 +183,7 @@ pub fn actuals(nodes: &Nodes, depth: u32, id: u32, out: &mut Finding)
 }
 
 #[cycle(text)]
-#[tactic(auto, unfolding(lower_leased::specs::Standings::actuals_standings))]
+#[tactic(auto, unfolding(ada_lower::specs::Standings::actuals_standings))]
 fn actual(nodes: &Nodes, depth: u32, id: u32, out: &mut Finding)
     ensures { IsTrue out.new.whole → IsTrue out.old.whole × ((rest : Actuals) → spec.actuals_standings depth rest out.new.found ≡ spec.actuals_standings depth (as_actual (part_at nodes.now id) rest) out.old.found) }
 {
@@ -213,7 +213,7 @@ fn actual(nodes: &Nodes, depth: u32, id: u32, out: &mut Finding)
 
 /// What is stored somewhere.
 #[cycle(text)]
-#[tactic(auto, unfolding(lower_leased::specs::Standings::value_standings, lower_leased::specs::Standings::composite_standings, lower_leased::specs::Standings::associations_standings))]
+#[tactic(auto, unfolding(ada_lower::specs::Standings::value_standings, ada_lower::specs::Standings::composite_standings, ada_lower::specs::Standings::associations_standings))]
 pub fn value(nodes: &Nodes, depth: u32, id: u32, out: &mut Finding)
     ensures { Finds (spec.value_standings depth (value_at nodes.now id) out.old.found) out.old out.new }
 {
@@ -237,7 +237,7 @@ fn composite(nodes: &Nodes, depth: u32, id: u32, out: &mut Finding)
 
 #[cycle(text)]
 #[inline(never)]
-#[tactic(auto, unfolding(lower_leased::specs::Standings::composite_standings))]
+#[tactic(auto, unfolding(ada_lower::specs::Standings::composite_standings))]
 fn composite_step(nodes: &Nodes, depth: u32, id: u32, out: &mut Finding) -> Option<u32>
     ensures { (IsTrue out.new.whole → IsTrue out.old.whole × (composite_left nodes.now depth out.new.found result ≡ spec.composite_standings depth (composite_at nodes.now id) out.old.found)) × IsBelow id result }
 {
@@ -284,7 +284,7 @@ fn chosen(nodes: &Nodes, depth: u32, condition: u32, part: u32, out: &mut Findin
 
 /// Associations of an aggregate (4.3.1, 4.3.3).
 #[cycle(text)]
-#[tactic(auto, unfolding(lower_leased::specs::Standings::associations_standings))]
+#[tactic(auto, unfolding(ada_lower::specs::Standings::associations_standings))]
 fn associations(nodes: &Nodes, depth: u32, id: u32, out: &mut Finding)
     ensures { Finds (spec.associations_standings depth (associations_at nodes.now id) out.old.found) out.old out.new }
 {
@@ -296,7 +296,7 @@ fn associations(nodes: &Nodes, depth: u32, id: u32, out: &mut Finding)
 }
 
 #[cycle(text)]
-#[tactic(auto, unfolding(lower_leased::specs::Standings::associations_standings))]
+#[tactic(auto, unfolding(ada_lower::specs::Standings::associations_standings))]
 fn association(nodes: &Nodes, depth: u32, id: u32, out: &mut Finding)
     ensures { IsTrue out.new.whole → IsTrue out.old.whole × ((rest : Associations) → spec.associations_standings depth rest out.new.found ≡ spec.associations_standings depth (as_association (part_at nodes.now id) rest) out.old.found) }
 {
@@ -336,7 +336,7 @@ fn gives_some(nodes: &Nodes, runs: u32) -> bool
 
 /// An iteration (5.5, 5.5.2). What is evaluated once stands around its turns, and its filter within.
 #[cycle(text)]
-#[tactic(auto, unfolding(lower_leased::specs::Standings::iteration_standings, lower_leased::specs::Standings::selections_standings, lower_leased::specs::Standings::optional_standings))]
+#[tactic(auto, unfolding(ada_lower::specs::Standings::iteration_standings, ada_lower::specs::Standings::selections_standings, ada_lower::specs::Standings::optional_standings))]
 pub fn iteration(nodes: &Nodes, depth: u32, within: u32, id: u32, out: &mut Finding)
     ensures { Finds (spec.iteration_standings depth within (iteration_at nodes.now id) out.old.found) out.old out.new }
 {
@@ -368,7 +368,7 @@ pub fn iteration(nodes: &Nodes, depth: u32, within: u32, id: u32, out: &mut Find
 
 /// A chunk specification (5.5).
 #[cycle(text)]
-#[tactic(auto, unfolding(lower_leased::specs::Standings::chunk_standings))]
+#[tactic(auto, unfolding(ada_lower::specs::Standings::chunk_standings))]
 pub fn chunk(nodes: &Nodes, depth: u32, id: u32, out: &mut Finding)
     ensures { Finds (spec.chunk_standings depth (chunk_at nodes.now id) out.old.found) out.old out.new }
 {

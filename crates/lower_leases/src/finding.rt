@@ -5,8 +5,8 @@ ghost use Rattle.typed_tree.specs.Decoded.{body_at};
 ghost use Rattle.typed_tree.specs.Programs.{formals_at, program, sub_of};
 ghost use Rattle.typed_tree.specs.Syntax.{Program};
 ghost use Rattle.lower_emission.specs.Emission as emission;
-ghost use Rattle.lower_leased.specs.Homes as homes;
-ghost use Rattle.lower_leased.specs.Standings as standings;
+ghost use Rattle.ada_lower.specs.Homes as homes;
+ghost use Rattle.ada_lower.specs.Standings as standings;
 ghost use Rattle.lower_leases.specs.Words.{Finds, Houses};
 
 use crate::homes::{Housing, Stand, add, block, decls, given, held, lies, object_cells};
@@ -14,7 +14,7 @@ use crate::shapes::sum;
 use crate::standings::Finding;
 use crate::stmts;
 use ada_base::Items;
-use lower_leased::types::{Home, Standing};
+use ada_lower::types::{Home, Standing};
 use std::alloc::{AllocError, Global};
 use typed_tree::{Formal, Leaf, Mode, Sub, Typed};
 
@@ -96,7 +96,7 @@ fn sub_homes(typed: &Typed, sub: Sub, out: &mut Housing)
 }
 
 /// The variables of a subprogram's body.
-#[tactic(auto, unfolding(lower_leased::specs::Homes::stmts_homes, lower_leased::specs::Homes::handler_homes))]
+#[tactic(auto, unfolding(ada_lower::specs::Homes::stmts_homes, ada_lower::specs::Homes::handler_homes))]
 fn body_homes(typed: &Typed, at: Stand, body: u32, out: &mut Housing)
     ensures { Houses (homes.body_homes (program typed.now) at.depth at.free (body_at typed.now.nodes body) out.old.found) out.old out.new }
 {
@@ -107,7 +107,7 @@ fn body_homes(typed: &Typed, at: Stand, body: u32, out: &mut Housing)
 }
 
 /// The variables of the main procedure.
-#[tactic(auto, unfolding(lower_leased::specs::Homes::stmts_homes, lower_leased::specs::Homes::handler_homes))]
+#[tactic(auto, unfolding(ada_lower::specs::Homes::stmts_homes, ada_lower::specs::Homes::handler_homes))]
 fn main_homes(typed: &Typed, out: &mut Housing)
     ensures { Houses (homes.main_homes (program typed.now) out.old.found) out.old out.new }
 {
@@ -156,7 +156,7 @@ pub fn homes_of(typed: &Typed, alloc: Global) -> Result<Items<Home>, AllocError>
 }
 
 /// The parallel constructs of a body.
-#[tactic(auto, unfolding(lower_leased::specs::Standings::stmts_standings, lower_leased::specs::Standings::handler_standings, lower_leased::specs::Standings::decls_standings))]
+#[tactic(auto, unfolding(ada_lower::specs::Standings::stmts_standings, ada_lower::specs::Standings::handler_standings, ada_lower::specs::Standings::decls_standings))]
 fn body_standings(typed: &Typed, body: u32, out: &mut Finding)
     ensures { Finds (standings.body_standings (body_at typed.now.nodes body) out.old.found) out.old out.new }
 {

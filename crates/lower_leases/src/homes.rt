@@ -6,13 +6,13 @@ ghost use Rattle.typed_tree.specs.Decoded.{alternatives_at, arms_at, as_alternat
 ghost use Rattle.typed_tree.specs.Programs.{program};
 ghost use Rattle.typed_tree.specs.Syntax.{Alternatives, Decls, Handlers};
 ghost use Rattle.lower_emission.specs.Emission as emission;
-ghost use Rattle.lower_leased.specs.Homes as spec;
+ghost use Rattle.ada_lower.specs.Homes as spec;
 ghost use Rattle.lower_leases.specs.Words.{homes_left, Counts, Houses, IsBelow};
 
 use crate::shapes::{opened, part_size};
 use crate::stmts::alone;
 use ada_base::Items;
-use lower_leased::types::Home;
+use ada_lower::types::Home;
 use std::alloc::AllocError;
 use typed_tree::{Composite, Decl, Handler, Iteration, Stmt, Typed, Value};
 
@@ -131,7 +131,7 @@ fn stmt(typed: &Typed, at: Stand, id: u32, out: &mut Housing)
 /// All of a statement but one statement that may be left.
 #[cycle(body)]
 #[inline(never)]
-#[tactic(auto, unfolding(lower_leased::specs::Homes::stmt_homes))]
+#[tactic(auto, unfolding(ada_lower::specs::Homes::stmt_homes))]
 fn stmt_step(typed: &Typed, at: Stand, id: u32, out: &mut Housing) -> Option<u32>
     ensures { (IsTrue out.new.whole → IsTrue out.old.whole × (homes_left (program typed.now) typed.now.nodes at.depth at.free out.new.found result ≡ spec.stmt_homes (program typed.now) at.depth at.free (stmt_at typed.now.nodes id) out.old.found)) × IsBelow id result }
 {
@@ -193,7 +193,7 @@ fn stmt_step(typed: &Typed, at: Stand, id: u32, out: &mut Housing) -> Option<u32
 /// What is done where a condition holds, and what is done where it doesn't, but for a statement that stands alone there.
 #[cycle(body)]
 #[inline(never)]
-#[tactic(auto, unfolding(lower_leased::specs::Homes::stmts_homes))]
+#[tactic(auto, unfolding(ada_lower::specs::Homes::stmts_homes))]
 fn branch(typed: &Typed, at: Stand, then: u32, otherwise: u32, out: &mut Housing) -> Option<u32>
     ensures { (IsTrue out.new.whole → IsTrue out.old.whole × (homes_left (program typed.now) typed.now.nodes at.depth at.free out.new.found result ≡ spec.stmts_homes (program typed.now) at.depth at.free (stmts_at typed.now.nodes otherwise) (spec.stmts_homes (program typed.now) at.depth at.free (stmts_at typed.now.nodes then) out.old.found))) × IsBelow otherwise result }
 {
@@ -279,7 +279,7 @@ pub fn held(typed: &Typed, at: Stand, statements: u32, handled: u32, out: &mut H
 /// Statements one after the other.
 #[cycle(body)]
 #[inline(never)]
-#[tactic(auto, unfolding(lower_leased::specs::Homes::stmts_homes))]
+#[tactic(auto, unfolding(ada_lower::specs::Homes::stmts_homes))]
 fn stmts(typed: &Typed, at: Stand, id: u32, out: &mut Housing)
     ensures { Houses (spec.stmts_homes (program typed.now) at.depth at.free (stmts_at typed.now.nodes id) out.old.found) out.old out.new }
 {
@@ -293,7 +293,7 @@ fn stmts(typed: &Typed, at: Stand, id: u32, out: &mut Housing)
 /// Alternatives of a case statement (5.4).
 #[cycle(body)]
 #[inline(never)]
-#[tactic(auto, unfolding(lower_leased::specs::Homes::case_homes))]
+#[tactic(auto, unfolding(ada_lower::specs::Homes::case_homes))]
 fn alternatives(typed: &Typed, at: Stand, id: u32, out: &mut Housing)
     ensures { Houses (spec.case_homes (program typed.now) at.depth at.free (alternatives_at typed.now.nodes id) out.old.found) out.old out.new }
 {
@@ -305,7 +305,7 @@ fn alternatives(typed: &Typed, at: Stand, id: u32, out: &mut Housing)
 }
 
 #[cycle(body)]
-#[tactic(auto, unfolding(lower_leased::specs::Homes::case_homes))]
+#[tactic(auto, unfolding(ada_lower::specs::Homes::case_homes))]
 fn alternative(typed: &Typed, at: Stand, id: u32, out: &mut Housing)
     ensures { IsTrue out.new.whole → IsTrue out.old.whole × ((rest : Alternatives) → spec.case_homes (program typed.now) at.depth at.free rest out.new.found ≡ spec.case_homes (program typed.now) at.depth at.free (as_alternative (part_at typed.now.nodes id) rest) out.old.found) }
 {
@@ -318,7 +318,7 @@ fn alternative(typed: &Typed, at: Stand, id: u32, out: &mut Housing)
 /// The arms of a parallel block (5.6.1).
 #[cycle(body)]
 #[inline(never)]
-#[tactic(auto, unfolding(lower_leased::specs::Homes::arm_homes))]
+#[tactic(auto, unfolding(ada_lower::specs::Homes::arm_homes))]
 fn arms(typed: &Typed, at: Stand, id: u32, out: &mut Housing)
     ensures { Houses (spec.arm_homes (program typed.now) at.depth at.free (arms_at typed.now.nodes id) out.old.found) out.old out.new }
 {
@@ -332,7 +332,7 @@ fn arms(typed: &Typed, at: Stand, id: u32, out: &mut Housing)
 /// Handlers (11.2).
 #[cycle(body)]
 #[inline(never)]
-#[tactic(auto, unfolding(lower_leased::specs::Homes::handler_homes))]
+#[tactic(auto, unfolding(ada_lower::specs::Homes::handler_homes))]
 fn handlers(typed: &Typed, at: Stand, id: u32, out: &mut Housing)
     ensures { Houses (spec.handler_homes (program typed.now) at.depth at.free (handlers_at typed.now.nodes id) out.old.found) out.old out.new }
 {
@@ -344,7 +344,7 @@ fn handlers(typed: &Typed, at: Stand, id: u32, out: &mut Housing)
 }
 
 #[cycle(body)]
-#[tactic(auto, unfolding(lower_leased::specs::Homes::handler_homes))]
+#[tactic(auto, unfolding(ada_lower::specs::Homes::handler_homes))]
 fn handler(typed: &Typed, at: Stand, id: u32, out: &mut Housing)
     ensures { IsTrue out.new.whole → IsTrue out.old.whole × ((rest : Handlers) → spec.handler_homes (program typed.now) at.depth at.free rest out.new.found ≡ spec.handler_homes (program typed.now) at.depth at.free (as_handler (part_at typed.now.nodes id) rest) out.old.found) }
 {

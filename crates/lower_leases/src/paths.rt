@@ -6,7 +6,7 @@ ghost use Rattle.ada_meaning.specs.Values as values;
 ghost use Rattle.typed_tree.specs.Programs.{fields_at};
 ghost use Rattle.check_inference.specs.Exact.{plain};
 ghost use Rattle.check_effects.specs.Effects.{At, Fixed, LoopIndex, ChunkIndex, Any};
-ghost use Rattle.lower_leased.specs.Leases.{Loop, also, at_item, field_from, times, way_of};
+ghost use Rattle.ada_lower.specs.Leases.{Loop, also, at_item, field_from, times, way_of};
 ghost use Rattle.lower_leases.specs.Paths as spec;
 
 use crate::shapes::{Form, Head, Part, Placed, count, field_at, front, part_size, product, sum};

@@ -5,7 +5,7 @@ ghost use Rattle.typed_tree.specs.declared.typed.Typed.{Typed as Table};
 ghost use Rattle.typed_tree.specs.Programs.{bounds_at, fields_at, subtype_of};
 ghost use Rattle.ada_meaning.specs.Shapes.{array_of, fields_of, shape_of, size, sizes};
 ghost use Rattle.ada_meaning.specs.Values as values;
-ghost use Rattle.lower_leased.specs.Leases.{field_from};
+ghost use Rattle.ada_lower.specs.Leases.{field_from};
 ghost use Rattle.lower_leases.specs.Paths as spec;
 
 use std::alloc::AllocError;

@@ -1,11 +1,11 @@
 //! The parallel constructs that are found.
 
 ghost use Rattle.std.specs.Prelude.{◌≡◌, ◌∷◌, ◌++◌, [], ◌+◌};
-ghost use Rattle.lower_leased.specs.Standings.{with_standing};
+ghost use Rattle.ada_lower.specs.Standings.{with_standing};
 ghost use Rattle.lower_leases.specs.Words.{Finds, Learns};
 
 use ada_base::Items;
-use lower_leased::types::Standing;
+use ada_lower::types::Standing;
 
 /// The constructs that were found, if all of them had room.
 #[derive(Drop)]

@@ -3,7 +3,7 @@
 ghost use Rattle.std.specs.Prelude.{◌≡◌, ◌<◌, ◌+◌, true, IsTrue, MatchOption};
 ghost use Rattle.typed_tree.specs.Decoded.{alternatives_at, arms_at, as_alternative, as_handler, chunk_at, decls_at, expr_at, handlers_at, iteration_at, optional_at, part_at, selections_at, stmt_at, stmts_at, value_at};
 ghost use Rattle.typed_tree.specs.Syntax.{Alternatives, End, Handlers, Then};
-ghost use Rattle.lower_leased.specs.Standings as spec;
+ghost use Rattle.ada_lower.specs.Standings as spec;
 ghost use Rattle.lower_leases.specs.Words.{stmt_left, Finds, IsBelow};
 
 use crate::exprs::{
@@ -37,7 +37,7 @@ fn stmt(nodes: &Nodes, depth: u32, id: u32, out: &mut Finding)
 /// All of a statement but one statement that may be left.
 #[cycle(body)]
 #[inline(never)]
-#[tactic(auto, unfolding(lower_leased::specs::Standings::stmt_standings))]
+#[tactic(auto, unfolding(ada_lower::specs::Standings::stmt_standings))]
 fn stmt_step(nodes: &Nodes, depth: u32, id: u32, out: &mut Finding) -> Option<u32>
     ensures { (IsTrue out.new.whole → IsTrue out.old.whole × (stmt_left nodes.now depth out.new.found result ≡ spec.stmt_standings depth (stmt_at nodes.now id) out.old.found)) × IsBelow id result }
 {
@@ -145,7 +145,7 @@ fn assignment(nodes: &Nodes, depth: u32, parts: u32, part: u32, out: &mut Findin
 /// A condition, what is done where it holds, and what is done where it doesn't, but for a statement that stands alone there.
 #[cycle(body)]
 #[inline(never)]
-#[tactic(auto, unfolding(lower_leased::specs::Standings::stmts_standings))]
+#[tactic(auto, unfolding(ada_lower::specs::Standings::stmts_standings))]
 fn branch(
     nodes: &Nodes,
     depth: u32,
@@ -257,7 +257,7 @@ pub fn block(
 /// Statements one after the other.
 #[cycle(body)]
 #[inline(never)]
-#[tactic(auto, unfolding(lower_leased::specs::Standings::stmts_standings))]
+#[tactic(auto, unfolding(ada_lower::specs::Standings::stmts_standings))]
 fn stmts(nodes: &Nodes, depth: u32, id: u32, out: &mut Finding)
     ensures { Finds (spec.stmts_standings depth (stmts_at nodes.now id) out.old.found) out.old out.new }
 {
@@ -271,7 +271,7 @@ fn stmts(nodes: &Nodes, depth: u32, id: u32, out: &mut Finding)
 /// Alternatives of a case statement (5.4).
 #[cycle(body)]
 #[inline(never)]
-#[tactic(auto, unfolding(lower_leased::specs::Standings::case_standings))]
+#[tactic(auto, unfolding(ada_lower::specs::Standings::case_standings))]
 fn alternatives(nodes: &Nodes, depth: u32, id: u32, out: &mut Finding)
     ensures { Finds (spec.case_standings depth (alternatives_at nodes.now id) out.old.found) out.old out.new }
 {
@@ -283,7 +283,7 @@ fn alternatives(nodes: &Nodes, depth: u32, id: u32, out: &mut Finding)
 }
 
 #[cycle(body)]
-#[tactic(auto, unfolding(lower_leased::specs::Standings::case_standings))]
+#[tactic(auto, unfolding(ada_lower::specs::Standings::case_standings))]
 fn alternative(nodes: &Nodes, depth: u32, id: u32, out: &mut Finding)
     ensures { IsTrue out.new.whole → IsTrue out.old.whole × ((rest : Alternatives) → spec.case_standings depth rest out.new.found ≡ spec.case_standings depth (as_alternative (part_at nodes.now id) rest) out.old.found) }
 {
@@ -296,7 +296,7 @@ fn alternative(nodes: &Nodes, depth: u32, id: u32, out: &mut Finding)
 /// The arms of a parallel block (5.6.1).
 #[cycle(body)]
 #[inline(never)]
-#[tactic(auto, unfolding(lower_leased::specs::Standings::arm_standings))]
+#[tactic(auto, unfolding(ada_lower::specs::Standings::arm_standings))]
 fn arms(nodes: &Nodes, depth: u32, id: u32, out: &mut Finding)
     ensures { Finds (spec.arm_standings depth (arms_at nodes.now id) out.old.found) out.old out.new }
 {
@@ -310,7 +310,7 @@ fn arms(nodes: &Nodes, depth: u32, id: u32, out: &mut Finding)
 /// Handlers (11.2).
 #[cycle(body)]
 #[inline(never)]
-#[tactic(auto, unfolding(lower_leased::specs::Standings::handler_standings))]
+#[tactic(auto, unfolding(ada_lower::specs::Standings::handler_standings))]
 fn handlers(nodes: &Nodes, depth: u32, id: u32, out: &mut Finding)
     ensures { Finds (spec.handler_standings depth (handlers_at nodes.now id) out.old.found) out.old out.new }
 {
@@ -322,7 +322,7 @@ fn handlers(nodes: &Nodes, depth: u32, id: u32, out: &mut Finding)
 }
 
 #[cycle(body)]
-#[tactic(auto, unfolding(lower_leased::specs::Standings::handler_standings))]
+#[tactic(auto, unfolding(ada_lower::specs::Standings::handler_standings))]
 fn handler(nodes: &Nodes, depth: u32, id: u32, out: &mut Finding)
     ensures { IsTrue out.new.whole → IsTrue out.old.whole × ((rest : Handlers) → spec.handler_standings depth rest out.new.found ≡ spec.handler_standings depth (as_handler (part_at nodes.now id) rest) out.old.found) }
 {

@@ -4,7 +4,7 @@ ghost use Rattle.std.specs.Prelude.{◌≡◌, ◌+◌, ◌∷◌, ◌++◌, [],
 ghost use Rattle.typed_tree.specs.Decoded.{as_decl, decls_at, part_at};
 ghost use Rattle.typed_tree.specs.Programs.{program};
 ghost use Rattle.typed_tree.specs.Syntax.{Decls};
-ghost use Rattle.lower_leased.specs.Homes as spec;
+ghost use Rattle.ada_lower.specs.Homes as spec;
 
 use crate::homes::{object_cells, width};
 use crate::shapes::sum;

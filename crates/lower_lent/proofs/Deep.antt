@@ -15,14 +15,14 @@ use Rattle.stack_code.specs.declared.code.Code.{Code}
 use Rattle.stack_code.specs.declared.code.CodeSite.{CodeSite}
 use Rattle.stack_code.specs.declared.code.Lease as code
 use Rattle.stack_code.specs.Valid.{LeaseFits, around_of, outward}
-use Rattle.lower_leased.specs.declared.types.Home.{Home}
-use Rattle.lower_leased.specs.declared.types.Standing.{Standing}
+use Rattle.ada_lower.specs.declared.types.Home.{Home}
+use Rattle.ada_lower.specs.declared.types.Standing.{Standing}
 use Rattle.lower_emission.specs.Programs.{behind_main, code_of, text_in}
-use Rattle.lower_leased.specs.Homes.{homes_of}
-use Rattle.lower_leased.specs.Leases.{all_leased, frame_of}
-use Rattle.lower_leased.specs.Places.{home_in, leases_at, level_from, named_from, names_of, ranges_of, seen_from, standing_in}
-use Rattle.lower_leased.specs.Standings.{body_standings, standings_of, subs_standings}
-use Rattle.lower_leased.specs.Standings.{actuals_standings, arm_standings, associations_standings, case_standings, chunk_standings, composite_standings, decls_standings, expr_standings, handler_standings, optional_standings, pieces_standings, selections_standings, stmt_standings, stmts_standings, value_standings}
+use Rattle.ada_lower.specs.Homes.{homes_of}
+use Rattle.ada_lower.specs.Leases.{all_leased, frame_of}
+use Rattle.ada_lower.specs.Places.{home_in, leases_at, level_from, named_from, names_of, ranges_of, seen_from, standing_in}
+use Rattle.ada_lower.specs.Standings.{body_standings, standings_of, subs_standings}
+use Rattle.ada_lower.specs.Standings.{actuals_standings, arm_standings, associations_standings, case_standings, chunk_standings, composite_standings, decls_standings, expr_standings, handler_standings, optional_standings, pieces_standings, selections_standings, stmt_standings, stmts_standings, value_standings}
 use Rattle.ada_lower.specs.Lending.{Among}
 use Rattle.ada_lower.specs.Sights.{Named, Sight, item_sight, iterated_sight, nested_sight, object_here, own, passing, range_sight, taking, thread_sight, turn_sight, with_entry, with_exit, with_handled, with_outside, with_target}
 use Rattle.ada_lower.specs.Emission.{composite_width, is_whole, width}

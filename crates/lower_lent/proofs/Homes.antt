@@ -6,8 +6,8 @@ use Rattle.behaviours.specs.Paths.{Entity, VariableOf, entity_eq}
 use Rattle.typed_tree.specs.Syntax.{Chunk, NoChunk, Count, Each, Iteration, Range, Components}
 use Rattle.ada_meaning.proofs.Cells.{entity_same, some_same}
 use Rattle.lower_emission.specs.Scope.{outer_level, outer_named, moved_named}
-use Rattle.lower_leased.specs.declared.types.Home.{Home}
-use Rattle.lower_leased.specs.Places.{level_from, named_from}
+use Rattle.ada_lower.specs.declared.types.Home.{Home}
+use Rattle.ada_lower.specs.Places.{level_from, named_from}
 use Rattle.ada_lower.specs.Lending.{Among}
 use Rattle.ada_lower.specs.Sights.{Own, Around, Main, Named, Sight, turn_sight}
 

@@ -4,12 +4,12 @@ use Rattle.behaviours.specs.Paths.{Entity, VariableOf, ConstantOf}
 use Rattle.typed_tree.specs.Syntax.{Expr, Static, Variable, Constant, Parameter, Target, Group, Unary, Binary, AndThen, OrElse, Relation, Membership, If, Call, Convert, Reduction, Optional, Absent, Present, Selections, Whole, Field, Index, Actuals, NoActual, In, InOut, Out, CompositeInOut, CompositeOut, Value, Number, Cells, Composite, WholeVariable, WholeConstant, WholeTarget, CompositeIf, Aggregate, Associations, NoAssociation, Association, Iteration, Range, Components, Chunk, NoChunk, Count, Each, Pieces, NoPiece, Text, Image, Padded, Decls, NoDecl, DeclareDefault, DeclareVariable, DeclareConstant, Mentions, Stmt, Null, Assign, CallProcedure, Exit, Return, ReturnValue, Raise, Reraise, IfThen, Case, Loop, For, ParallelFor, Parallel, Block, Put, Get, Stmts, End, Then, Alternatives, NoAlternative, Alternative, Arms, NoArm, Arm, Handlers, NoHandler, Handler, Sub, Program}
 use Rattle.ada_meaning.specs.Meaning.{object_layout}
 use Rattle.lower_emission.specs.Emission.{Shape, lead, shapes, width}
-use Rattle.lower_leased.specs.declared.types.Home.{Home}
-use Rattle.lower_leased.specs.declared.types.Standing.{Standing}
-use Rattle.lower_leased.specs.Homes.{behind, decl_homes, formal_home, formal_homes, subs_homes, turn_cells}
-use Rattle.lower_leased.specs.Homes.{arm_homes, case_homes, handler_homes, stmt_homes, stmts_homes}
-use Rattle.lower_leased.specs.Standings.{depth_in, subs_standings, with_site}
-use Rattle.lower_leased.specs.Standings.{actuals_standings, arm_standings, associations_standings, case_standings, chunk_standings, composite_standings, decls_standings, expr_standings, handler_standings, iteration_standings, optional_standings, pieces_standings, selections_standings, stmt_standings, stmts_standings, value_standings}
+use Rattle.ada_lower.specs.declared.types.Home.{Home}
+use Rattle.ada_lower.specs.declared.types.Standing.{Standing}
+use Rattle.ada_lower.specs.Homes.{behind, decl_homes, formal_home, formal_homes, subs_homes, turn_cells}
+use Rattle.ada_lower.specs.Homes.{arm_homes, case_homes, handler_homes, stmt_homes, stmts_homes}
+use Rattle.ada_lower.specs.Standings.{depth_in, subs_standings, with_site}
+use Rattle.ada_lower.specs.Standings.{actuals_standings, arm_standings, associations_standings, case_standings, chunk_standings, composite_standings, decls_standings, expr_standings, handler_standings, iteration_standings, optional_standings, pieces_standings, selections_standings, stmt_standings, stmts_standings, value_standings}
 use Rattle.ada_lower.specs.Lending.{Among}
 
 pub among_left : {A : Type 0} (x : A) (xs ys : List A) → Among x xs → Among x (xs ++ ys)

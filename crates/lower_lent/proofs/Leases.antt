@@ -20,7 +20,7 @@ use Rattle.stack_code.specs.declared.code.Lease as code
 use Rattle.lower_emission.specs.declared.types.Named.{Named}
 use Rattle.lower_emission.specs.declared.types.Placed.{Placed}
 use Rattle.lower_emission.specs.Programs.{code_of, code_site, code_sites, placed_code}
-use Rattle.lower_leased.specs.Leases.{Way, all_leased, frame_of, leased, leases_of, steps_of, way_of}
+use Rattle.ada_lower.specs.Leases.{Way, all_leased, frame_of, leased, leases_of, steps_of, way_of}
 use Rattle.ada_lower.specs.Lending.{Among, IsOfArm}
 use Rattle.ada_lower.specs.Leased.{AreLeased, IsLease, LiesUnderPath}
 use Rattle.ada_lower.specs.Sights.{Sight}

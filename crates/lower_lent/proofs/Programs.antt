@@ -19,7 +19,7 @@ use Rattle.lower_emission.specs.Bodies as code
 use Rattle.lower_emission.specs.Programs as programs
 use Rattle.lower_emission.specs.Programs.{behind_main, code_of}
 use Rattle.lower_emission.specs.Scope.{Scope}
-use Rattle.lower_leased.specs.Leases.{leases_of}
+use Rattle.ada_lower.specs.Leases.{leases_of}
 use Rattle.ada_lower.specs.Sights.{Main, Named, Sight, taking, with_object}
 use Rattle.ada_lower.specs.Emission.{Shape, lead, shape_by, shapes, width}
 use Rattle.ada_lower.specs.Bodies.{AreFresh, FittedMain, formal_named, main_object, main_scope, objects, outer_scope, seens, sub_scope}

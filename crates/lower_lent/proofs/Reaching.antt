@@ -21,7 +21,7 @@ use Rattle.ada_lower.specs.Law.{IsLoweredBy}
 use Rattle.ada_lower.specs.Lending.{Among}
 use Rattle.ada_lower.specs.Sights.{Named, Sight}
 use Rattle.lower_formed.specs.Rooms.{seen_names}
-use Rattle.lower_homes.specs.Law.{FormalsAreLocal}
+use Rattle.ada_lower.specs.HomesLaw.{FormalsAreLocal}
 use Rattle.lower_lent.specs.Granted.{seen}
 use Rattle.lower_lent.specs.Law.{SeenLaw}
 use Rattle.lower_lent.proofs.Once.{same_construct}

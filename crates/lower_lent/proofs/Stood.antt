@@ -2,9 +2,9 @@
 use Rattle.std.proofs.Common.{◌≡◌, ℕ, ◌+◌, ◌≤◌, List, [], ◌∷◌, ◌++◌, inl, inr, Option, Some, None, Bool, true, cond, refl, sym, ap, ◌∙◌, arith, eq-eqb}
 use Rattle.typed_tree.specs.Syntax.{Expr, Static, Variable, Constant, Parameter, Target, Group, Unary, Binary, AndThen, OrElse, Relation, Membership, If, Call, Convert, Reduction, Optional, Absent, Present, Selections, Whole, Field, Index, Actuals, NoActual, In, InOut, Out, CompositeInOut, CompositeOut, Value, Number, Cells, Composite, WholeVariable, WholeConstant, WholeTarget, CompositeIf, Aggregate, Associations, NoAssociation, Association, Iteration, Range, Components, Chunk, NoChunk, Count, Each, Pieces, NoPiece, Text, Image, Padded, Decls, NoDecl, DeclareDefault, DeclareVariable, DeclareConstant, Mentions, Stmt, Null, Assign, CallProcedure, Exit, Return, ReturnValue, Raise, Reraise, IfThen, Case, Loop, For, ParallelFor, Parallel, Block, Put, Get, Stmts, End, Then, Alternatives, NoAlternative, Alternative, Arms, NoArm, Arm, Handlers, NoHandler, Handler, Sub, Program}
 use Rattle.typed_sites.specs.Sites.{in_number, in_site, in_expr, in_exprs, in_optional, in_selections, in_actuals, in_value, in_composite, in_associations, in_iteration, in_chunk, in_pieces, in_decls, in_stmt, in_stmts, in_alternatives, in_arms, in_handlers, in_subs, in_program, SitesAreDistinct}
-use Rattle.lower_leased.specs.declared.types.Standing.{Standing}
-use Rattle.lower_leased.specs.Standings.{depth_in, goes_through_range, standings_of, subs_standings, with_site}
-use Rattle.lower_leased.specs.Standings.{actuals_standings, arm_standings, associations_standings, case_standings, chunk_standings, composite_standings, decls_standings, expr_standings, handler_standings, iteration_standings, optional_standings, pieces_standings, selections_standings, stmt_standings, stmts_standings, value_standings}
+use Rattle.ada_lower.specs.declared.types.Standing.{Standing}
+use Rattle.ada_lower.specs.Standings.{depth_in, goes_through_range, standings_of, subs_standings, with_site}
+use Rattle.ada_lower.specs.Standings.{actuals_standings, arm_standings, associations_standings, case_standings, chunk_standings, composite_standings, decls_standings, expr_standings, handler_standings, iteration_standings, optional_standings, pieces_standings, selections_standings, stmt_standings, stmts_standings, value_standings}
 use Rattle.ada_lower.specs.Lending.{Among}
 use Rattle.lower_lent.specs.Granted.{StandingsAreDistinct}
 

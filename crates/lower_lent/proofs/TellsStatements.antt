@@ -8,11 +8,11 @@ use Rattle.typed_scopes.specs.Scopes.{Around, ScopedActuals, ScopedAll, ScopedAl
 use Rattle.ada_meaning.specs.Meaning.{object_layout}
 use Rattle.stack_code.specs.declared.code.Code.{Code}
 use Rattle.stack_code.specs.declared.code.CodeSite.{CodeSite}
-use Rattle.lower_leased.specs.declared.types.Home.{Home}
-use Rattle.lower_leased.specs.declared.types.Standing.{Standing}
-use Rattle.lower_leased.specs.Homes.{behind, decl_homes, turn_cells}
-use Rattle.lower_leased.specs.Homes.{arm_homes, case_homes, handler_homes, stmt_homes, stmts_homes}
-use Rattle.lower_leased.specs.Standings.{actuals_standings, arm_standings, case_standings, decls_standings, expr_standings, handler_standings, optional_standings, pieces_standings, stmt_standings, stmts_standings}
+use Rattle.ada_lower.specs.declared.types.Home.{Home}
+use Rattle.ada_lower.specs.declared.types.Standing.{Standing}
+use Rattle.ada_lower.specs.Homes.{behind, decl_homes, turn_cells}
+use Rattle.ada_lower.specs.Homes.{arm_homes, case_homes, handler_homes, stmt_homes, stmts_homes}
+use Rattle.ada_lower.specs.Standings.{actuals_standings, arm_standings, case_standings, decls_standings, expr_standings, handler_standings, optional_standings, pieces_standings, stmt_standings, stmts_standings}
 use Rattle.ada_lower.specs.Lending.{Among}
 use Rattle.ada_lower.specs.Sights.{Named, Own, Sight, item_sight, nested_sight, object_here, own, passing, range_sight, taking, thread_sight, turn_sight, with_entry, with_exit, with_handled, with_outside, with_target}
 use Rattle.ada_lower.specs.Emission.{composite_width, is_whole, width}

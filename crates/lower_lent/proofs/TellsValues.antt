@@ -7,9 +7,9 @@ use Rattle.typed_scopes.specs.Scopes.{Around, ScopedExpr, ScopedOptional, Scoped
 use Rattle.ada_lower.specs.Emission.{is_repeated}
 use Rattle.stack_code.specs.declared.code.Code.{Code}
 use Rattle.stack_code.specs.declared.code.CodeSite.{CodeSite}
-use Rattle.lower_leased.specs.declared.types.Home.{Home}
-use Rattle.lower_leased.specs.declared.types.Standing.{Standing}
-use Rattle.lower_leased.specs.Standings.{actuals_standings, associations_standings, chunk_standings, composite_standings, expr_standings, optional_standings, selections_standings, value_standings}
+use Rattle.ada_lower.specs.declared.types.Home.{Home}
+use Rattle.ada_lower.specs.declared.types.Standing.{Standing}
+use Rattle.ada_lower.specs.Standings.{actuals_standings, associations_standings, chunk_standings, composite_standings, expr_standings, optional_standings, selections_standings, value_standings}
 use Rattle.ada_lower.specs.Lending.{Among}
 use Rattle.ada_lower.specs.Sights.{Named, Sight, item_sight, iterated_sight, nested_sight, passing, range_sight, taking, thread_sight, turn_sight}
 use Rattle.ada_lower.specs.Emission.{composite_width, width}

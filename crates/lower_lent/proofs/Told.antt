@@ -17,11 +17,11 @@ use Rattle.lower_emission.specs.Bodies as code
 use Rattle.lower_emission.specs.Programs as programs
 use Rattle.lower_emission.specs.Programs.{behind_main, code_of}
 use Rattle.lower_emission.specs.Scope.{Scope}
-use Rattle.lower_leased.specs.declared.types.Home.{Home}
-use Rattle.lower_leased.specs.declared.types.Standing.{Standing}
-use Rattle.lower_leased.specs.Homes.{behind, decl_homes, formal_home, formal_homes, homes_of, stmt_homes, handler_homes, sub_homes, subs_homes}
-use Rattle.lower_leased.specs.Places.{home_in, leases_at, names_of, ranges_in, ranges_of, seen_from, standing_in}
-use Rattle.lower_leased.specs.Standings.{body_standings, decls_standings, standings_of, stmt_standings, handler_standings, subs_standings}
+use Rattle.ada_lower.specs.declared.types.Home.{Home}
+use Rattle.ada_lower.specs.declared.types.Standing.{Standing}
+use Rattle.ada_lower.specs.Homes.{behind, decl_homes, formal_home, formal_homes, homes_of, stmt_homes, handler_homes, sub_homes, subs_homes}
+use Rattle.ada_lower.specs.Places.{home_in, leases_at, names_of, ranges_in, ranges_of, seen_from, standing_in}
+use Rattle.ada_lower.specs.Standings.{body_standings, decls_standings, standings_of, stmt_standings, handler_standings, subs_standings}
 use Rattle.ada_lower.specs.Lending.{Among}
 use Rattle.ada_lower.specs.Sights.{Main, Named, Sight, taking}
 use Rattle.ada_lower.specs.Emission.{Shape, lead, shape_by, shapes, shapes_cells, width}
@@ -29,7 +29,7 @@ use Rattle.ada_lower.specs.Bodies.{FittedMain, formal_named, main_object, main_s
 use Rattle.ada_lower.specs.FittedForks.{FittedReductions}
 use Rattle.ada_lower.specs.Law.{IsLoweredBy}
 use Rattle.lower_formed.specs.Rooms.{seen_names}
-use Rattle.lower_homes.specs.Law.{HomesAreDistinct}
+use Rattle.ada_lower.specs.HomesLaw.{HomesAreDistinct}
 use Rattle.lower_lent.specs.Granted.{seen, told}
 use Rattle.lower_lent.specs.Law.{LeasedLaw, NamesLaw}
 use Rattle.lower_lent.proofs.Homes.{ArePlaced, IsPlaced, Places, main_placed, own_placed, places_object}

@@ -7,7 +7,7 @@ use Rattle.ada_meaning.specs.Shapes.{Shape, Shapes, Single, Record, Dimension, N
 use Rattle.check_effects.specs.Effects.{Selector, At, Fixed, LoopIndex, ChunkIndex, Any}
 use Rattle.check_effects.proofs.Coordinates.{back, near, spot, under_product}
 use Rattle.stack_code.specs.declared.code.Lease as code
-use Rattle.lower_leased.specs.Leases.{Place, All, Loop, ByChunk, InPlaces, Way, also, field_from, in_field, steps_of, way_of}
+use Rattle.ada_lower.specs.Leases.{Place, All, Loop, ByChunk, InPlaces, Way, also, field_from, in_field, steps_of, way_of}
 use Rattle.ada_lower.specs.Lending.{StepsTo}
 use Rattle.ada_lower.specs.Leased.{IndexIs, InLease, LiesBy}
 

@@ -11,8 +11,8 @@ use Rattle.check_clashes.specs.declared.granted.Grants.{Grants}
 use Rattle.check_inference.specs.Exact.{OfThread, effect_path, is_block}
 use Rattle.stack_code.specs.declared.code.CodeSite.{CodeSite}
 use Rattle.lower_emission.specs.declared.types.Named.{Named}
-use Rattle.lower_leased.specs.declared.types.Standing.{Standing}
-use Rattle.lower_leased.specs.Standings.{standings_of}
+use Rattle.ada_lower.specs.declared.types.Standing.{Standing}
+use Rattle.ada_lower.specs.Standings.{standings_of}
 use Rattle.ada_lower.specs.Lending.{Among}
 use Rattle.ada_lower.specs.Sights.{Sight}
 

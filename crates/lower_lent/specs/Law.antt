@@ -10,15 +10,15 @@ use Rattle.check_conflicts.specs.Answer.{AreGrants}
 use Rattle.stack_code.specs.declared.code.Code.{Code}
 use Rattle.lower_emission.specs.declared.types.Named.{Named}
 use Rattle.lower_emission.specs.Programs.{behind_main, code_of}
-use Rattle.lower_leased.specs.Leases.{leases_of}
-use Rattle.lower_leased.specs.Places.{leases_at, names_of, ranges_of}
+use Rattle.ada_lower.specs.Leases.{leases_of}
+use Rattle.ada_lower.specs.Places.{leases_at, names_of, ranges_of}
 use Rattle.ada_lower.specs.FittedForks.{unleased}
 use Rattle.ada_lower.specs.HasTables.{LeasesFit}
 use Rattle.ada_lower.specs.Law.{IsLoweredBy}
 use Rattle.ada_lower.specs.Leased.{leased}
 use Rattle.lower_formed.specs.Law.{OfNames}
 use Rattle.lower_formed.specs.Rooms.{seen_names}
-use Rattle.lower_homes.specs.Law.{FormalsAreLocal, HomesAreDistinct}
+use Rattle.ada_lower.specs.HomesLaw.{FormalsAreLocal, HomesAreDistinct}
 use Rattle.lower_lent.specs.Granted.{AreGranted, granted_by, seen, told}
 
 -- What the rules on conflicts answer of a program are the paths of its sites.

@@ -5,9 +5,9 @@ use Rattle.stack_code.specs.declared.code.Around.TheVariants.{Sub}
 use Rattle.stack_code.specs.declared.code.Code.{Code}
 use Rattle.stack_code.specs.declared.code.CodeSub.{CodeSub}
 use Rattle.stack_code.specs.declared.code.Lease.{Lease}
-use Rattle.lower_leased.specs.Places.{leases_at}
-use Rattle.lower_homes.proofs.Housed.{homes_law}
-use Rattle.lower_homes.proofs.Local.{local_law}
+use Rattle.ada_lower.specs.Places.{leases_at}
+use Rattle.ada_lower.proofs.Housed.{homes_law}
+use Rattle.ada_lower.proofs.Local.{local_law}
 use Rattle.lower_lent.specs.Granted.{granted_by}
 use Rattle.lower_lent.proofs.Deep.{fit_law}
 use Rattle.lower_lent.proofs.Leases.{granted_law}

@@ -10,7 +10,7 @@ use Rattle.check_clashes.specs.declared.granted.Grants.{Grants}
 use Rattle.check_conflicts.specs.Answer.{AreGrants}
 use Rattle.stack_code.specs.declared.code.Around.TheVariants.{Sub}
 use Rattle.lower_emission.specs.Programs.{code_of}
-use Rattle.lower_leased.specs.Places.{leases_at}
+use Rattle.ada_lower.specs.Places.{leases_at}
 use Rattle.lower_formed.specs.Law.{frame_of}
 use Rattle.lower_lent.specs.Granted.{AreGranted, granted_by}
 use Rattle.run_machine_laws.specs.Programs.{IsLoaded}

@@ -10,7 +10,7 @@ use Rattle.ada_meaning.specs.Stored as stored
 use Rattle.ada_meaning.specs.Stored.{After, Cause, Left as LeftBy, OutOfTurns, NoRoom, CutOff, Misnoted, Computes, answered, noted, noted_outset, handled, put_out}
 use Rattle.ada_meaning.proofs.StoredProof.{noted_law}
 use Rattle.stack_code.specs.Machine.{Stop, Done}
-use Rattle.lower_leased.specs.Homes.{main_variables}
+use Rattle.ada_lower.specs.Homes.{main_variables}
 use Rattle.ada_lower.specs.Driven.{Dyn, Final}
 use Rattle.ada_lower.specs.Law.{AreFinals}
 use Rattle.ada_lower.proofs.ForkDeals.{plan_within}

@@ -10,7 +10,7 @@ use Rattle.ada_meaning.specs.Programs.{Setting}
 use Rattle.ada_meaning.specs.Stored as stored
 use Rattle.stack_code.specs.declared.code.Code.{Code}
 use Rattle.ada_base.specs.Cells.{Cell}
-use Rattle.lower_leased.specs.Homes.{main_variables}
+use Rattle.ada_lower.specs.Homes.{main_variables}
 use Rattle.ada_lower.specs.Driven.{Final, Off}
 use Rattle.ada_lower.specs.Law.{AreFinals}
 use Rattle.run_machine_laws.specs.Programs.{IsLoaded}

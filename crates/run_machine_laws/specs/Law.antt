@@ -18,7 +18,7 @@ use Rattle.ada_io.specs.declared.input.Got.{Got}
 use Rattle.ada_io.specs.Gets.{Gets, ReaderState, last_of}
 use Rattle.ada_port.specs.Ports.{Stream}
 use Rattle.ada_lower.specs.Asking.{Reads, got}
-use Rattle.lower_leased.specs.Homes.{main_variables}
+use Rattle.ada_lower.specs.Homes.{main_variables}
 use Rattle.ada_lower.specs.Driven.{World, Path, Final, Step, On, Off, Forks, Forked, answered, fork_ended}
 use Rattle.ada_lower.specs.Law.{AreFinals}
 use Rattle.machine_paths.specs.Constructing.{ForksTo}

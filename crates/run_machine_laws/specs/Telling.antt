@@ -9,7 +9,7 @@ use Rattle.ada_meaning.specs.Sequential.{IsCalm}
 use Rattle.ada_meaning.specs.Stored as stored
 use Rattle.stack_code.specs.declared.code.Code.{Code}
 use Rattle.ada_base.specs.Cells.{Cell, Seen, Mine}
-use Rattle.lower_leased.specs.Homes.{main_variables}
+use Rattle.ada_lower.specs.Homes.{main_variables}
 use Rattle.ada_lower.specs.Driven.{Final, Step, Off}
 use Rattle.run_machine_laws.specs.Standing.{done_by}
 use Rattle.run_machine_laws.specs.Programs.{IsLoaded}

@@ -1,7 +1,7 @@
 use Rattle.std.proofs.Common.{◌≡◌, ◌+◌, ◌*◌, ◌≤◌, max}
 use Rattle.typed_tree.specs.Decoded.{actuals_at, associations_at, composite_at, expr_at, selections_at}
 use Rattle.std.specs.Prelude.{IsTrue}
-use Rattle.lower_leased.specs.Standings.{actuals_standings, associations_standings, composite_standings, expr_standings, selections_standings}
+use Rattle.ada_lower.specs.Standings.{actuals_standings, associations_standings, composite_standings, expr_standings, selections_standings}
 use Rattle.lower_leases.specs.Words.{expr_left, composite_left, IsWithin, rest_size}
 use Rattle.lower_leases.proofs.exprs.+text.Given as goal
 

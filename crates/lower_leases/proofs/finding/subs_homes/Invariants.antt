@@ -1,7 +1,7 @@
 use Rattle.std.proofs.Common.{◌≡◌, map, length}
 use Rattle.typed_tree.specs.Programs.{program, sub_of}
 use Rattle.std.specs.Prelude.{IsTrue}
-use Rattle.lower_leased.specs.Homes as spec
+use Rattle.ada_lower.specs.Homes as spec
 use Rattle.lower_leases.proofs.finding.subs_homes.Given as goal
 
 abbrev pub invariant-loop-sub : goal.invariant-loop-sub

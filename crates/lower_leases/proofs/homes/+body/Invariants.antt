@@ -2,7 +2,7 @@ use Rattle.std.proofs.Common.{◌≡◌, ◌+◌, ◌*◌, ◌≤◌, max}
 use Rattle.std.specs.Prelude.{IsTrue}
 use Rattle.typed_tree.specs.Decoded.{alternatives_at, arms_at, handlers_at, stmt_at, stmts_at}
 use Rattle.typed_tree.specs.Programs.{program}
-use Rattle.lower_leased.specs.Homes.{case_homes, arm_homes, handler_homes, stmt_homes, stmts_homes}
+use Rattle.ada_lower.specs.Homes.{case_homes, arm_homes, handler_homes, stmt_homes, stmts_homes}
 use Rattle.lower_leases.specs.Words.{homes_left, IsWithin, rest_size}
 use Rattle.lower_leases.proofs.homes.+body.Given as goal
 

@@ -2,7 +2,7 @@ use Rattle.std.proofs.Common.{◌≡◌}
 use Rattle.std.specs.Prelude.{IsTrue}
 use Rattle.typed_tree.specs.Decoded.{decls_at}
 use Rattle.typed_tree.specs.Programs.{program}
-use Rattle.lower_leased.specs.Homes.{behind, decl_homes}
+use Rattle.ada_lower.specs.Homes.{behind, decl_homes}
 use Rattle.lower_leases.proofs.homes.decls.Given as goal
 
 abbrev pub invariant-loop-cell : goal.invariant-loop-cell

@@ -1,6 +1,6 @@
 use Rattle.std.proofs.Common.{◌≡◌, ◌++◌, length}
 use Rattle.typed_tree.specs.Programs.{program}
-use Rattle.lower_leased.specs.Places.{leases_from}
+use Rattle.ada_lower.specs.Places.{leases_from}
 use Rattle.lower_leases.specs.Lent.{site_leases}
 use Rattle.lower_leases.proofs.leases.all_leases.Given as goal
 

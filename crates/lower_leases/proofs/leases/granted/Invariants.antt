@@ -1,7 +1,7 @@
 use Rattle.std.proofs.Common.{◌≡◌, ◌++◌, length, Some}
 use Rattle.typed_tree.specs.Programs.{program}
-use Rattle.lower_leased.specs.Leases.{all_leased}
-use Rattle.lower_leased.specs.Places.{names_from}
+use Rattle.ada_lower.specs.Leases.{all_leased}
+use Rattle.ada_lower.specs.Places.{names_from}
 use Rattle.lower_leases.specs.Grants.{granted_by}
 use Rattle.lower_leases.proofs.leases.granted.Given as goal
 

@@ -1,5 +1,5 @@
 use Rattle.std.proofs.Common.{◌≡◌, length}
-use Rattle.lower_leased.specs.Places as places
+use Rattle.ada_lower.specs.Places as places
 use Rattle.lower_leases.proofs.leases.home_in.Given as goal
 
 abbrev pub invariant-loop-first : goal.invariant-loop-first

@@ -1,7 +1,7 @@
 use Rattle.std.proofs.Common.{◌≡◌, ◌+◌, ◌*◌, ◌≤◌, max}
 use Rattle.typed_tree.specs.Decoded.{alternatives_at, arms_at, handlers_at, stmt_at, stmts_at}
 use Rattle.std.specs.Prelude.{IsTrue}
-use Rattle.lower_leased.specs.Standings.{case_standings, arm_standings, handler_standings, stmt_standings, stmts_standings}
+use Rattle.ada_lower.specs.Standings.{case_standings, arm_standings, handler_standings, stmt_standings, stmts_standings}
 use Rattle.lower_leases.specs.Words.{stmt_left, IsWithin, rest_size}
 use Rattle.lower_leases.proofs.stmts.+body.Given as goal
 

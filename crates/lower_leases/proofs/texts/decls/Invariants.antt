@@ -1,7 +1,7 @@
 use Rattle.std.proofs.Common.{◌≡◌}
 use Rattle.typed_tree.specs.Decoded.{decls_at}
 use Rattle.std.specs.Prelude.{IsTrue}
-use Rattle.lower_leased.specs.Standings.{decls_standings}
+use Rattle.ada_lower.specs.Standings.{decls_standings}
 use Rattle.lower_leases.proofs.texts.decls.Given as goal
 
 abbrev pub invariant-loop-cell : goal.invariant-loop-cell

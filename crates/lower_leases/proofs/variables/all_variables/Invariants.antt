@@ -1,7 +1,7 @@
 use Rattle.std.proofs.Common.{◌≡◌, ◌++◌}
 use Rattle.typed_tree.specs.Decoded.{decls_at}
 use Rattle.typed_tree.specs.Programs.{program}
-use Rattle.lower_leased.specs.Homes.{main_variables}
+use Rattle.ada_lower.specs.Homes.{main_variables}
 use Rattle.lower_leases.proofs.variables.all_variables.Given as goal
 
 abbrev pub invariant-loop-cell : goal.invariant-loop-cell

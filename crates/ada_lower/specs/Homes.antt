@@ -7,7 +7,7 @@ use Rattle.typed_tree.specs.Syntax.{Iteration, Range, Components, Decls, NoDecl,
 use Rattle.ada_meaning.specs.Meaning.{object_layout}
 use Rattle.ada_meaning.specs.declared.slots.Variable.{Variable}
 use Rattle.lower_emission.specs.Emission.{Shape, lead, shapes, shapes_cells, width}
-use Rattle.lower_leased.specs.declared.types.Home.{Home}
+use Rattle.ada_lower.specs.declared.types.Home.{Home}
 
 abbrev pub with_home : (main : Bool) → (d n x cells : ℕ) → List Home → List Home
 with_home main d n x cells found = found ++ record { object = x; main = main; depth = d; cell = n; cells = cells } ∷ []

@@ -6,8 +6,8 @@ use Rattle.typed_objects.specs.Objects.{block_objects, decl_objects, formal_obje
 use Rattle.ada_meaning.specs.Meaning.{sub_at}
 use Rattle.check_effects.specs.Effects.{IsDeclared}
 use Rattle.ada_lower.specs.Lending.{Among}
-use Rattle.lower_homes.specs.Law.{LocalLaw}
-use Rattle.lower_homes.proofs.Times.{hit-self, times-join}
+use Rattle.ada_lower.specs.HomesLaw.{LocalLaw}
+use Rattle.ada_lower.proofs.Times.{hit-self, times-join}
 
 module _ (x : ℕ) where
   in_decls : (program : Program) (ds : Decls) → IsDeclared program ds x → 1 ≤ times x (decl_objects ds)

@@ -1,8 +1,8 @@
 -- The rows, computed.
 use Rattle.std.proofs.Common.{refl}
-use Rattle.lower_leased.specs.Homes.{stmt_homes}
-use Rattle.lower_leased.specs.Standings.{expr_standings, decls_standings, stmt_standings}
-use Rattle.lower_leased.specs.LeaseRows.{Shares, Parts, Deals, Marks, Reaches, Nests}
+use Rattle.ada_lower.specs.Homes.{stmt_homes}
+use Rattle.ada_lower.specs.Standings.{expr_standings, decls_standings, stmt_standings}
+use Rattle.ada_lower.specs.LeaseRows.{Shares, Parts, Deals, Marks, Reaches, Nests}
 
 pub shares : Shares
 unfolding stmt_homes stmt_standings decls_standings expr_standings

@@ -8,11 +8,11 @@ use Rattle.stack_code.specs.declared.code.Lease as code
 use Rattle.lower_emission.specs.declared.types.Level.{Level}
 use Rattle.lower_emission.specs.declared.types.Level.TheVariants.{Own, Around, Main}
 use Rattle.lower_emission.specs.declared.types.Named.{Named}
-use Rattle.lower_leased.specs.declared.types.Home.{Home}
-use Rattle.lower_leased.specs.declared.types.Standing.{Standing}
-use Rattle.lower_leased.specs.Homes.{homes_of}
-use Rattle.lower_leased.specs.Leases.{leases_of}
-use Rattle.lower_leased.specs.Standings.{standings_of}
+use Rattle.ada_lower.specs.declared.types.Home.{Home}
+use Rattle.ada_lower.specs.declared.types.Standing.{Standing}
+use Rattle.ada_lower.specs.Homes.{homes_of}
+use Rattle.ada_lower.specs.Leases.{leases_of}
+use Rattle.ada_lower.specs.Standings.{standings_of}
 
 -- the first that has that number
 abbrev pub home_in : ℕ → List Home → Option Home

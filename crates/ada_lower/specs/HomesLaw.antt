@@ -5,8 +5,8 @@ use Rattle.typed_tree.specs.declared.program.Formal.{Formal}
 use Rattle.typed_objects.specs.Objects.{ObjectsAreDistinct}
 use Rattle.ada_meaning.specs.Meaning.{sub_at}
 use Rattle.check_effects.specs.Effects.{IsGlobal}
-use Rattle.lower_leased.specs.declared.types.Home.{Home}
-use Rattle.lower_leased.specs.Homes.{homes_of}
+use Rattle.ada_lower.specs.declared.types.Home.{Home}
+use Rattle.ada_lower.specs.Homes.{homes_of}
 use Rattle.ada_lower.specs.Lending.{Among}
 
 -- a variable is declared once (3.3)

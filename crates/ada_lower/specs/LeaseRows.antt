@@ -7,7 +7,7 @@ use Rattle.check_effects.specs.Conflicts.{EffectPath}
 use Rattle.check_effects.specs.Effects.{LoopIndex, ChunkIndex}
 use Rattle.lower_emission.specs.ConstructRows.{shares, shares_lent, parts, parts_lent}
 use Rattle.lower_emission.specs.ThreadRows.{deals, deals_lent, marks, marks_lent, reaches, reaches_lent, nests, nests_lent}
-use Rattle.lower_leased.specs.Places.{all_leases}
+use Rattle.ada_lower.specs.Places.{all_leases}
 
 -- the paths that are granted to the threads of each construct, each with the arm that writes it
 abbrev Grants : Type 0

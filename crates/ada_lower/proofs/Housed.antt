@@ -8,11 +8,11 @@ use Rattle.typed_tree.specs.Syntax.{Alternatives, NoAlternative, Alternative, Ar
 use Rattle.typed_objects.specs.Objects.{arm_objects, block_objects, case_objects, decl_objects, formal_objects, handler_objects, objects_of, stmt_objects, stmts_objects, sub_objects, subs_objects, times}
 use Rattle.ada_meaning.specs.Meaning.{object_layout}
 use Rattle.lower_emission.specs.Emission.{lead, shape_by, shapes, shapes_cells, width}
-use Rattle.lower_leased.specs.declared.types.Home.{Home}
-use Rattle.lower_leased.specs.Homes.{arm_homes, behind, block_homes, case_homes, decl_homes, formal_home, formal_homes, handler_homes, homes_of, main_homes, stmt_homes, stmts_homes, subs_homes, turn_cells, with_home}
+use Rattle.ada_lower.specs.declared.types.Home.{Home}
+use Rattle.ada_lower.specs.Homes.{arm_homes, behind, block_homes, case_homes, decl_homes, formal_home, formal_homes, handler_homes, homes_of, main_homes, stmt_homes, stmts_homes, subs_homes, turn_cells, with_home}
 use Rattle.ada_lower.specs.Lending.{Among}
-use Rattle.lower_homes.specs.Law.{HomesLaw}
-use Rattle.lower_homes.proofs.Times.{hit, hit-self, times-first, times-join}
+use Rattle.ada_lower.specs.HomesLaw.{HomesLaw}
+use Rattle.ada_lower.proofs.Times.{hit, hit-self, times-first, times-join}
 
 module _ (x : ℕ) where
   -- how many homes are of that object

@@ -1,3 +1,0 @@
-pub mod Times
-pub mod Housed
-pub mod Local

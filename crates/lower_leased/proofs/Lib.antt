@@ -1,2 +1,0 @@
--- The rows.
-pub mod Computed
