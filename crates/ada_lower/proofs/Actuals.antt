@@ -21,12 +21,12 @@ use Rattle.ada_lower.specs.Driven.{Dyn, Fixed, Step, on, state_of, driven, At}
 use Rattle.ada_lower.specs.Sights.{Emit, Named, Sight, Stands, one, own, root_of, ◌⨟◌}
 use Rattle.ada_lower.specs.Emission
 use Rattle.ada_lower.specs.Emission.{selected}
-use Rattle.ada_lower.specs.Fits.{What, Free, Keeps, Access, Ghost, Ends, Spread, Refers, Knows, Stands as StandsFor}
+use Rattle.ada_lower.specs.Fits.{What, Free, Keeps, Access, Ghost, Ends, Spread, Refers, Knows, Stands as StandsFor, Fit}
 use Rattle.ada_lower.specs.Fitted.{Spot, spot, Reached, FittedSelections, FittedActuals}
 use Rattle.ada_lower.proofs.Framework.{any, To, Doing, comes_as, comes_goes, does_ret, does_bind, does_seq, does_before, does_returned, does_assoc}
 use Rattle.ada_lower.proofs.Memory.{does_read, does_write, own_free, Extends, leads_more}
 use Rattle.ada_lower.proofs.Standing.{stands_seq}
-use Rattle.ada_lower.proofs.Parts.{Runs, does_keep, does_check}
+use Rattle.ada_lower.proofs.Parts.{Runs, does_keep, does_check, does_set}
 use Rattle.ada_lower.proofs.Names.{root_refers, does_by, comes_number, comes_loads}
 use Rattle.ada_lower.proofs.Declared.{keeping, laid_what, knows_kept, laid_out, laid_in, kept_what, length_in}
 use Rattle.ada_lower.proofs.Blocks.{fit_unkept}
@@ -82,6 +82,14 @@ module _ (limit : ℕ) (cuts : ℕ → ℕ → List ℕ) (program : Program) (c 
       let there : f.base + w + e ≡ f.base + (w + e) = omega arith in
       does_keep limit c f x at_ (w + e) v st (own_free _ (sym (ap G.what there) ∙ free)) at
       (subst (λ b. Doing limit c f x (keeping b (v ∷ []) G) j q m (λ d. on f (at_ + 1) st d) to) there k)
+
+  -- and it is checked
+  set_in : {A : Type 0} {j : Ghost} {q : A → Type 0} {to : A → Dyn → Step} (m : Unit {0} → Stored A) (G : Ghost) (w e at_ token : ℕ) (k : Scalar) (v : ℤ) (st : List ℤ) → ((s : stored.State) (d : Dyn) → Fit G s d → Fit j s d) → G.what (f.base + w + e) ≡ Free → At c at_ (i.SetL (w + e) k.low k.high) x.entry
+      → Doing limit c f x (keeping (f.base + w + e) (v ∷ []) G) j q (m tt) (λ d. on f (at_ + 1) st d) to → Doing limit c f x G j q (stored.bind (stored.checks RangeCheck token (Values.is_in k v)) m) (λ d. on f at_ (v ∷ st) d) to
+  set_in {A} {j} {q} {to} m G w e at_ token k v st weak free at go =
+      let there : f.base + w + e ≡ f.base + (w + e) = omega arith in
+      does_set limit c f x m RangeCheck token at_ (w + e) k.low k.high v st weak (own_free _ (sym (ap G.what there) ∙ free)) at
+      (subst (λ b. Doing limit c f x (keeping b (v ∷ []) G) j q (m tt) (λ d. on f (at_ + 1) st d) to) there go)
 
   -- a target's name is evaluated, to its address
   part_does : {B : Type 0} {g G : Ghost} {env : Env} {q : B → Type 0} {goal : B → Dyn → Step} {w m : ℕ} {ks : List Spot} (r : Root) (selections : Selections) (from m1 m2 many : ℕ) (s : Sight) (h h1 : ℕ) (st : List ℤ) (then : ObjectPart → Stored B)
@@ -171,10 +179,10 @@ module _ (limit : ℕ) (cuts : ℕ → ℕ → List ℕ) (program : Program) (c 
       (j (sent_in formal n cs ∷ ps) (K, zs, wo, suits_in formal nv n cs clen, suited) (n, cs, ps, refl, targets))))))
   passed_all (InOut formal at r selections inner outer rest) from to {B} {g} {G} {env} {q} {goal} s h sub w m ks st so_far then k p0 en (n, zs, wo, cell, reach, ws, wr) l j =
       let F : ℕ = Emission.formal_of program sub w (VariableOf formal) in
-      let tail : Emit = one s.scope (h + 1) i.Dup ⨟ Emission.keep s.scope (h + 1 + 1) F ⨟ one s.scope (h + 1) i.Load ⨟ Emission.checked s.scope (h + 1) inner ⨟ Emission.keep s.scope (h + 1) (F + 1) in
+      let tail : Emit = one s.scope (h + 1) i.Dup ⨟ Emission.keep s.scope (h + 1 + 1) F ⨟ one s.scope (h + 1) i.Load ⨟ Emission.keep_checked s.scope (h + 1) inner (F + 1) in
       let (m0, lx, lr) = stands_seq c from to (Emission.address s.scope h (root_of s.scope r) ⨟ selected program s.scope (h + 1) selections ⨟ tail) (Emission.passed program s.scope h sub w rest) l in
       let (m1, l1, l2) = stands_seq c from m0 (Emission.address s.scope h (root_of s.scope r)) (selected program s.scope (h + 1) selections ⨟ tail) lx in
-      let (m2, l3, (jd, (jk, (jl, (jc, (jk2, z)))))) = stands_seq c m1 m0 (selected program s.scope (h + 1) selections) tail l2 in
+      let (m2, l3, (jd, (jk, (jl, (jk2, z))))) = stands_seq c m1 m0 (selected program s.scope (h + 1) selections) tail l2 in
       let K : Spot = spot (VariableOf formal) true 1 n in
       let place : Placing limit cuts f env s w m g G K zs = placing K zs wo p0 in
       let cell' : F + 1 ≡ w + (n + 1) = omega (arith, cell) in
@@ -187,13 +195,12 @@ module _ (limit : ℕ) (cuts : ℕ → ℕ → List ℕ) (program : Program) (c 
       (does_assoc limit c f x _ _ then
       (does_seq limit c f x p1.weak (λ ts al. al) (one_read (VariableOf p.object) p.offset a st (spread_more p1.ext target) (at_entry en jl)) (λ v _.
       does_assoc limit c f x _ _ then
-      (does_seq limit c f x p1.weak (λ ts al. al) (does_check limit c f x RangeCheck at inner.low inner.high v (Values.is_in inner v) st refl (at_entry en jc)) (λ _ _.
-      let P : Sent = sent_back formal n p a (v ∷ []) (inner ∷ []) (Some (record { at = at; scalar = outer })) in
-      hold G1 w (n + 1) (m2 + 1 + 1 + 1 + 1) v st (cell_free 1 n a place (omega arith)) (subst (λ p. At c (m2 + 1 + 1 + 1 + 1) (i.StoreL p) x.entry) cell' (at_entry en jk2))
+      (let P : Sent = sent_back formal n p a (v ∷ []) (inner ∷ []) (Some (record { at = at; scalar = outer })) in
+      set_in _ G1 w (n + 1) (m2 + 1 + 1 + 1) at inner v st p1.weak (cell_free 1 n a place (omega arith)) (subst (λ p. At c (m2 + 1 + 1 + 1) (i.SetL p inner.low inner.high) x.entry) cell' (at_entry en jk2))
       (subst (λ t. Doing limit c f x (keeping (f.base + w + (n + 1)) (v ∷ []) G1) g q (stored.bind (Meaning.pass ops limit program calls rest env (so_far ++ (P.passed ∷ []))) then) (λ d. on f t st d) goal) z
       (passed_all rest m0 to s h sub w m zs st (so_far ++ (P.passed ∷ [])) then k (keep_cells 1 n a (v ∷ []) refl place p1) en wr lr (λ ps suited targets.
       closing st then so_far P ps
-      (j (P ∷ ps) (K, zs, wo, suits_back formal 1 n p a (v ∷ []) (inner ∷ []) (Some (record { at = at; scalar = outer })) refl refl, suited) (n, p, a, v, ps, refl, cell, target, targets)))))))))))))
+      (j (P ∷ ps) (K, zs, wo, suits_back formal 1 n p a (v ∷ []) (inner ∷ []) (Some (record { at = at; scalar = outer })) refl refl, suited) (n, p, a, v, ps, refl, cell, target, targets))))))))))))
   passed_all (Out formal at r selections inner outer rest) from to {B} {g} {G} {env} {q} {goal} s h sub w m ks st so_far then k p0 en (n, zs, wo, cell, reach, ws, wr) l j =
       let F : ℕ = Emission.formal_of program sub w (VariableOf formal) in
       let tail : Emit = Emission.keep s.scope (h + 1) F ⨟ one s.scope h (i.Push inner.low) ⨟ Emission.keep s.scope (h + 1) (F + 1) in

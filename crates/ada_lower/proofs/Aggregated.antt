@@ -50,7 +50,7 @@ in_integer = i.Range (negsuc 2147483647) (pos 2147483647)
 
 -- one value is computed, and copied: one component, two, and one
 sevens_code : instrs (Emission.composed program sight.scope 0 0 sevens)
-    ≡ i.Local 0 ∷ i.Fill 5 (pos 0) ∷ i.Push (pos 7) ∷ in_integer ∷ i.StoreL 0
+    ≡ i.Local 0 ∷ i.Fill 5 (pos 0) ∷ i.Push (pos 7) ∷ i.SetL 0 (negsuc 2147483647) (pos 2147483647)
     ∷ i.Local 1 ∷ i.Local 0 ∷ i.Copy 1 ∷ i.Local 2 ∷ i.Local 0 ∷ i.Copy 2 ∷ i.Local 4 ∷ i.Local 0 ∷ i.Copy 1 ∷ []
 unfolding Rattle.ada_lower.specs.Emission.emit
 sevens_code = refl

@@ -56,34 +56,34 @@ scope cells = sub_scope program none_there none_main [] text four_each 0 procedu
 
 abbrev pub code : Code
 code = record {
-  instrs = map (λ p. p.instr) (listed (sub_code program none_there none_main [] text four_each (scope 7).scope procedure) 0) ++ map (λ p. p.instr) (listed (main_code program none_there none_main [] text four_each (main_scope program none_there none_main [] text four_each 11).scope) 7);
+  instrs = map (λ p. p.instr) (listed (sub_code program none_there none_main [] text four_each (scope 7).scope procedure) 0) ++ map (λ p. p.instr) (listed (main_code program none_there none_main [] text four_each (main_scope program none_there none_main [] text four_each 11).scope) 5);
   spots = [];
   unwind = [];
   sites = [];
-  subs = record { entry = 7; frame = 11; stack = 3; takes = 0; gives = false } ∷ record { entry = 0; frame = 7; stack = 1; takes = 0; gives = false } ∷ [];
+  subs = record { entry = 5; frame = 11; stack = 3; takes = 0; gives = false } ∷ record { entry = 0; frame = 7; stack = 1; takes = 0; gives = false } ∷ [];
   texts = [];
 }
 
 here : {q : ℕ} {i : Instr} → slice_get code.instrs q ≡ Some i → At code q i None
 here e = record { is = inl e; held = tt }
 
-stands : (cells : ℕ) → 7 ≤ cells → Stands code (sub_code program none_there none_main [] text four_each (scope cells).scope procedure) 0 7
+stands : (cells : ℕ) → 7 ≤ cells → Stands code (sub_code program none_there none_main [] text four_each (scope cells).scope procedure) 0 5
 unfolding Rattle.ada_lower.specs.Emission.emit Rattle.ada_lower.specs.Emission.stmt Rattle.ada_lower.specs.Emission.back_code Rattle.ada_lower.specs.Emission.piece_values
-stands cells le = (here refl, (here refl, (here refl, (here refl, (here refl, (here refl, (here refl, refl)))))))
+stands cells le = (here refl, (here refl, (here refl, (here refl, (here refl, refl)))))
 
 fitted : (cells : ℕ) → 7 ≤ cells → FittedStmt program none_there none_main no_threads no_fork (scope cells) (Block NoDecl body NoHandler)
 fitted cells le = ((formal_named 3 1, refl, omega arith, tt, ((formal_named 1 1, refl, omega arith), tt)), ((formal_named 1 1, refl, omega arith, tt, tt), tt))
 
 lies : BodyStands program none_there none_main [] text four_each no_threads no_fork code 0 procedure
-lies = record { is = record { entry = 0; frame = 7; stack = 1; takes = 0; gives = false }; here = refl; to = 7; enough = omega arith; fresh = λ cells. (refl, (refl, (refl, tt))); backs = λ cells. (λ e. refl, (λ e. refl, (λ e. refl, tt))); stands = stands; fitted = fitted }
+lies = record { is = record { entry = 0; frame = 7; stack = 1; takes = 0; gives = false }; here = refl; to = 5; enough = omega arith; fresh = λ cells. (refl, (refl, (refl, tt))); backs = λ cells. (λ e. refl, (λ e. refl, (λ e. refl, tt))); stands = stands; fitted = fitted }
 
 all_stand : AllStand program none_there none_main [] text four_each no_threads no_fork code
 all_stand zero unit e = subst (λ u. BodyStands program none_there none_main [] text four_each no_threads no_fork code 0 u) (some_same _ _ e) lies
 all_stand (suc n) unit e = absurd (none-some unit e)
 
-main_stands : Stands code (main_code program none_there none_main [] text four_each (main_scope program none_there none_main [] text four_each 11).scope) 7 48
+main_stands : Stands code (main_code program none_there none_main [] text four_each (main_scope program none_there none_main [] text four_each 11).scope) 5 45
 unfolding Rattle.ada_lower.specs.Emission.emit Rattle.ada_lower.specs.Emission.stmt Rattle.ada_lower.specs.Emission.back_code Rattle.ada_lower.specs.Emission.piece_values
-main_stands = (here refl, (here refl, (here refl, (here refl, (here refl, (here refl, (here refl, (here refl, (here refl, (here refl, (here refl, (here refl, (here refl, (here refl, (here refl, (here refl, (here refl, (here refl, (here refl, (here refl, (here refl, (here refl, (here refl, (here refl, (here refl, (here refl, (here refl, (here refl, (here refl, (here refl, (here refl, (here refl, (here refl, (here refl, (here refl, (here refl, (here refl, (here refl, (here refl, (here refl, (here refl, refl)))))))))))))))))))))))))))))))))))))))))
+main_stands = (here refl, (here refl, (here refl, (here refl, (here refl, (here refl, (here refl, (here refl, (here refl, (here refl, (here refl, (here refl, (here refl, (here refl, (here refl, (here refl, (here refl, (here refl, (here refl, (here refl, (here refl, (here refl, (here refl, (here refl, (here refl, (here refl, (here refl, (here refl, (here refl, (here refl, (here refl, (here refl, (here refl, (here refl, (here refl, (here refl, (here refl, (here refl, (here refl, (here refl, refl))))))))))))))))))))))))))))))))))))))))
 
 main_fitted : FittedStmt program none_there none_main no_threads no_fork (main_scope program none_there none_main [] text four_each 11) (Block NoDecl main NoHandler)
 main_fitted = (
@@ -122,5 +122,5 @@ closed (suc n) sub e = absurd (none-some sub e)
 
 -- and where the stored run of the program gives a value, the machine ends with its output
 pub comes : (limit : ℕ) (cuts : ℕ → ℕ → List ℕ) (slots : ℕ) (input before : List ℕ) (notes : Schedule) → let r = (Meaning.main (stored.noted_operations limit cuts) limit program).does (stored.noted_outset slots input before notes) in r.end ≡ Ok tt
-    → (d : Dyn) × Finally limit code (On (record { state = begun 7 0 [] 0 0 0 None (replicate 11 (Mine (pos 0))); world = (first_dyn notes cuts 11 input before).world })) (record { how = Done None; dyn = d }) × (d.world.output ≡ r.state.output) × (d.turns ≡ r.state.turns)
-comes limit cuts slots input before notes e = let (d, a, b, g, w) = program_gives None limit cuts program code none_there none_main no_threads [] text four_each no_fork slots 11 refl (call_only limit cuts program closed 1000) (λ f fa depth all. record { forked = (λ rs e from to g env x s h st k en w l. absurd w); parallel = (λ t from to g env x s k u w l. absurd w) }) all_stand 7 48 main_stands main_fitted input before notes tt e in (d, a, b, g)
+    → (d : Dyn) × Finally limit code (On (record { state = begun 5 0 [] 0 0 0 None (replicate 11 (Mine (pos 0))); world = (first_dyn notes cuts 11 input before).world })) (record { how = Done None; dyn = d }) × (d.world.output ≡ r.state.output) × (d.turns ≡ r.state.turns)
+comes limit cuts slots input before notes e = let (d, a, b, g, w) = program_gives None limit cuts program code none_there none_main no_threads [] text four_each no_fork slots 11 refl (call_only limit cuts program closed 1000) (λ f fa depth all. record { forked = (λ rs e from to g env x s h st k en w l. absurd w); parallel = (λ t from to g env x s k u w l. absurd w) }) all_stand 5 45 main_stands main_fitted input before notes tt e in (d, a, b, g)

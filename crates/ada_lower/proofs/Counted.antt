@@ -1,5 +1,5 @@
 -- How often a construct's fork stands in code: no more often than its number stands in the text (5.5, 5.6.1, 4.5.10).
-use Rattle.std.proofs.Common.{◌≡◌, ℕ, zero, suc, ◌+◌, ◌<◌, ◌≤◌, ◌-◌, min, ℤ, ◌&&◌, not, List, [], ◌∷◌, ◌++◌, length, nat_eq, nat_lt, Option, Some, None, Bool, true, false, cond, slice_get, pos, ◌⊎◌, ⊎_elim, inl, inr, refl, sym, ap, ◌∙◌, subst, true≢false, arith, ltb-false, eq-eqb, eqb-true}
+use Rattle.std.proofs.Common.{◌≡◌, ℕ, zero, suc, ◌+◌, ◌<◌, ◌≤◌, ◌-◌, min, ℤ, ◌&&◌, not, List, [], ◌∷◌, ◌++◌, length, nat_eq, nat_lt, Option, Some, None, Bool, true, false, cond, slice_get, ◌⊎◌, ⊎_elim, inl, inr, refl, sym, ap, ◌∙◌, subst, true≢false, arith, ltb-false, eq-eqb, eqb-true}
 use Rattle.std.proofs.lemmas.Bool.{and_cases, and_parts, or_parts, not-false, ne_eqb, cases_lt, cases_eq}
 use Rattle.std.proofs.lemmas.Option.{none-some}
 use Rattle.ada_base.specs.declared.operation.Op.{Op}
@@ -16,7 +16,6 @@ use Rattle.typed_tree.specs.declared.scalars.Class.{Class}
 use Rattle.typed_tree.specs.declared.scalars.Class.TheVariants as class
 use Rattle.typed_tree.specs.declared.scalars.Scalar.{Scalar}
 use Rattle.typed_tree.specs.declared.scalars.Check.{Check}
-use Rattle.typed_tree.specs.declared.expressions.Iterated.{Iterated}
 use Rattle.typed_tree.specs.declared.expressions.Run.{Run}
 use Rattle.typed_tree.specs.declared.expressions.Sign.{Sign}
 use Rattle.typed_tree.specs.declared.expressions.Sign.TheVariants as sign
@@ -44,7 +43,7 @@ use Rattle.lower_emission.specs.Scope.{Scope, taking, nested, thread_scope, with
 use Rattle.lower_emission.specs.Emission.{load_by, load_named, load_where, address, is_whole, unary_instr, binary_instr, static_instr, operated_by, compare_instr, negated_code, counting, bounds_code, folding, combined, doubled, filling, fillings, iterated_scope, turning, entering_next, run_steps, run_turnings, turn_height, turnings, components_of, locating, locating_in, repeating, ends_code, passing, composite_width, width, cells_of, own_cell, indexed_by, item_by, main_named, component_address, component_value}
 use Rattle.lower_emission.proofs.Fused.{of_operated, of_component_address, of_component_value}
 unfoldable use Rattle.lower_emission.specs.Emission.{emit, named_value, selected, read, passed, put_into, composed, associated, component, filtered, iterated, chunk_code, course_code, threaded}
-use Rattle.lower_emission.specs.Statements.{no_handler, is_end, assigned, chosen, has_reason, handled_by, returning, returning_value, away, exiting, handled_target, image_instr, send_instr, piece_texts, object_here, exits_of, arm_exits, exit_code, exits_code, is_own, left_code, field_defaults, default_of, defaults_within, subtype_or_none, defaulted, declared, arms_code, chunk_by, arm_scope}
+use Rattle.lower_emission.specs.Statements.{no_handler, is_end, assigned, chosen, has_reason, handled_by, returning, returning_value, away, exiting, handled_target, image_instr, send_instr, piece_texts, object_here, exits_of, arm_exits, exit_code, exits_code, is_own, left_code, field_defaults, default_of, defaults_within, subtype_or_none, defaulted, declared, arms_code, chunk_by, arm_scope, store_checked}
 unfoldable use Rattle.lower_emission.specs.Statements.{back_code, piece_values, stmt, all, cases, handling, arm_codes}
 use Rattle.lower_emission.specs.Bodies as code
 use Rattle.lower_emission.specs.Programs.{is_fork, has_fork, idle_fork, idle_forks, text_in, placed_code}
@@ -494,10 +493,14 @@ module _ (site : ℕ) where
 
     -- ---- statements
 
-    few_assigned : (s : Scope) (n : Option Named) (whole : Bool) {moved : Emit} {value : Scope → ℕ → Emit} {m k : ℕ} → Few moved m → ((t : Scope) (h : ℕ) → Few (value t h) k) → Few (assigned s n whole moved value) (m + k)
-    few_assigned s None whole f g = some (flat (λ q. refl))
-    few_assigned s (Some n) whole {m = m} f g =
-        choice (whole && not n.through) (also m (before (g _ 0) (few_store_at s 1 n.place.level n.place.cell)))
+    few_store_checked : (s : Scope) (x : Scalar) (level : Level) (n : ℕ) → Few (store_checked s x level n) 0
+    few_store_checked s x Own n = flat (λ q. refl)
+    few_store_checked s x level n = after (flat (λ q. refl)) (few_store_at s 1 level n)
+
+    few_assigned : (s : Scope) (n : Option Named) (whole : Bool) (x : Scalar) {moved : Emit} {value : Scope → ℕ → Emit} {m k : ℕ} → Few moved m → ((t : Scope) (h : ℕ) → Few (value t h) k) → Few (assigned s n whole x moved value) (m + k)
+    few_assigned s None whole x f g = some (flat (λ q. refl))
+    few_assigned s (Some n) whole x {m = m} f g =
+        choice (whole && not n.through) (also m (before (g _ 0) (few_store_checked s x n.place.level n.place.cell)))
         (after (few_address_of s 0 n) (join f (after (flat (λ q. refl)) (after (flat (λ q. refl)) (before (g _ 1) (flat (λ q. refl)))))))
 
     few_chosen : (s : Scope) (d : ℕ) (rs : List Span) → Few (chosen s d rs) 0
@@ -610,7 +613,7 @@ module _ (site : ℕ) where
 
       few_stmt : (o : Option ℕ) (s : Scope) (x : Stmt) → SitedStmt program o x → Few (stmt program s x) (in_stmt site x)
       few_stmt _ s Null w = flat (λ q. refl)
-      few_stmt _ s (Assign at r selections (Number check e)) w = few_assigned s (root_of s r) (is_whole selections) (few_selected _ s 1 selections w.0) (λ t h. before (few_emit _ t h e w.1) (flat (λ q. refl)))
+      few_stmt _ s (Assign at r selections (Number check e)) w = few_assigned s (root_of s r) (is_whole selections) check.scalar (few_selected _ s 1 selections w.0) (λ t h. few_emit _ t h e w.1)
       few_stmt _ s (Assign at r selections (Cells c)) w =
           after (few_address s 0 (root_of s r)) (join (few_selected _ s 1 selections w.0) (after (flat (λ q. refl)) (before (few_composed _ _ 0 (s.free + 1) c w.1) (flat (λ q. refl)))))
       few_stmt _ s (CallProcedure at callee sub actuals) w = before (few_passed _ (passing program sub s) 0 sub s.free actuals w) (after (flat (λ q. refl)) (few_back s sub s.free actuals))

@@ -90,20 +90,20 @@ scope cells = sub_scope program none_there none_main [] text four_each 0 functio
 
 abbrev pub code : Code
 code = record {
-  instrs = map (λ p. p.instr) (listed (sub_code program none_there none_main [] text four_each (scope 3).scope function) 0) ++ map (λ p. p.instr) (listed (main_code program none_there none_main [] text four_each (main_scope program none_there none_main [] text four_each 3).scope) 17);
+  instrs = map (λ p. p.instr) (listed (sub_code program none_there none_main [] text four_each (scope 3).scope function) 0) ++ map (λ p. p.instr) (listed (main_code program none_there none_main [] text four_each (main_scope program none_there none_main [] text four_each 3).scope) 16);
   spots = [];
   unwind = [];
   sites = [];
-  subs = record { entry = 17; frame = 3; stack = 2; takes = 0; gives = false } ∷ record { entry = 0; frame = 3; stack = 2; takes = 0; gives = true } ∷ [];
+  subs = record { entry = 16; frame = 3; stack = 2; takes = 0; gives = false } ∷ record { entry = 0; frame = 3; stack = 2; takes = 0; gives = true } ∷ [];
   texts = [];
 }
 
 here : {q : ℕ} {i : Instr} → slice_get code.instrs q ≡ Some i → At code q i None
 here e = record { is = inl e; held = tt }
 
-stands : (cells : ℕ) → 3 ≤ cells → Stands code (sub_code program none_there none_main [] text four_each (scope cells).scope function) 0 17
+stands : (cells : ℕ) → 3 ≤ cells → Stands code (sub_code program none_there none_main [] text four_each (scope cells).scope function) 0 16
 unfolding Rattle.ada_lower.specs.Emission.emit Rattle.ada_lower.specs.Emission.stmt Rattle.ada_lower.specs.Emission.back_code Rattle.ada_lower.specs.Emission.piece_values
-stands cells le = (here refl, (here refl, (here refl, (here refl, (here refl, (here refl, (here refl, (here refl, (here refl, (here refl, (here refl, (here refl, (here refl, (here refl, (here refl, (here refl, (here refl, refl)))))))))))))))))
+stands cells le = (here refl, (here refl, (here refl, (here refl, (here refl, (here refl, (here refl, (here refl, (here refl, (here refl, (here refl, (here refl, (here refl, (here refl, (here refl, (here refl, refl))))))))))))))))
 
 fitted : (cells : ℕ) → 3 ≤ cells → FittedStmt program none_there none_main no_threads no_fork (scope cells) (Block NoDecl body NoHandler)
 fitted cells le = (
@@ -115,7 +115,7 @@ fitted cells le = (
     there = ((formal_named 0 1, refl, omega arith), tt)
 
 lies : BodyStands program none_there none_main [] text four_each no_threads no_fork code 0 function
-lies = record { is = record { entry = 0; frame = 3; stack = 2; takes = 0; gives = true }; here = refl; to = 17; enough = omega arith; fresh = λ cells. (refl, tt); backs = λ cells. (λ e. cc, tt); stands = stands; fitted = fitted }
+lies = record { is = record { entry = 0; frame = 3; stack = 2; takes = 0; gives = true }; here = refl; to = 16; enough = omega arith; fresh = λ cells. (refl, tt); backs = λ cells. (λ e. cc, tt); stands = stands; fitted = fitted }
 
 all_stand : AllStand program none_there none_main [] text four_each no_threads no_fork code
 all_stand zero unit e = subst (λ u. BodyStands program none_there none_main [] text four_each no_threads no_fork code 0 u) (some_same _ _ e) lies
@@ -125,9 +125,9 @@ all_stand (suc n) unit e = absurd (none-some unit e)
 pub calls_do : (limit : ℕ) (cuts : ℕ → ℕ → List ℕ) (depth : ℕ) (f : Fixed) → f.asked ≡ None → f.calls + depth ≡ 1000 → CallsDo limit cuts program none_there none_main code f (Meaning.call (stored.noted_operations limit cuts) limit program depth)
 calls_do limit cuts depth f not_asked many = call_do limit cuts program code none_there none_main no_threads [] text four_each no_fork refl all_stand None (λ f fa depth all. record { forked = (λ rs e from to g env x s h st k en w l. absurd w); parallel = (λ t from to g env x s k u w l. absurd w) }) depth f not_asked many
 
-main_stands : Stands code (main_code program none_there none_main [] text four_each (main_scope program none_there none_main [] text four_each 3).scope) 17 26
+main_stands : Stands code (main_code program none_there none_main [] text four_each (main_scope program none_there none_main [] text four_each 3).scope) 16 24
 unfolding Rattle.ada_lower.specs.Emission.emit Rattle.ada_lower.specs.Emission.stmt Rattle.ada_lower.specs.Emission.back_code Rattle.ada_lower.specs.Emission.piece_values
-main_stands = (here refl, (here refl, (here refl, (here refl, (here refl, (here refl, (here refl, (here refl, (here refl, refl)))))))))
+main_stands = (here refl, (here refl, (here refl, (here refl, (here refl, (here refl, (here refl, (here refl, refl))))))))
 
 main_fitted : FittedStmt program none_there none_main no_threads no_fork (main_scope program none_there none_main [] text four_each 3) (Block NoDecl main NoHandler)
 main_fitted = ((omega arith, ((record { unit = function; is = refl; outer = λ y n e. absurd (none-some n e); main = λ y e. e }, (integer, refl), refl, omega arith, (0, [], inl (refl, refl), refl, tt, refl)), tt)), tt)
@@ -139,5 +139,5 @@ closed (suc n) sub e = absurd (none-some sub e)
 
 -- and where the stored run of the program gives a value, the machine ends with its output
 pub comes : (limit : ℕ) (cuts : ℕ → ℕ → List ℕ) (slots : ℕ) (input before : List ℕ) (notes : Schedule) → let r = (Meaning.main (stored.noted_operations limit cuts) limit program).does (stored.noted_outset slots input before notes) in r.end ≡ Ok tt
-    → (d : Dyn) × Finally limit code (On (record { state = begun 17 0 [] 0 0 0 None (replicate 3 (Mine (pos 0))); world = (first_dyn notes cuts 3 input before).world })) (record { how = Done None; dyn = d }) × (d.world.output ≡ r.state.output) × (d.turns ≡ r.state.turns)
-comes limit cuts slots input before notes e = let (d, a, b, g, w) = program_gives None limit cuts program code none_there none_main no_threads [] text four_each no_fork slots 3 refl (call_only limit cuts program closed 1000) (λ f fa depth all. record { forked = (λ rs e from to g env x s h st k en w l. absurd w); parallel = (λ t from to g env x s k u w l. absurd w) }) all_stand 17 26 main_stands main_fitted input before notes tt e in (d, a, b, g)
+    → (d : Dyn) × Finally limit code (On (record { state = begun 16 0 [] 0 0 0 None (replicate 3 (Mine (pos 0))); world = (first_dyn notes cuts 3 input before).world })) (record { how = Done None; dyn = d }) × (d.world.output ≡ r.state.output) × (d.turns ≡ r.state.turns)
+comes limit cuts slots input before notes e = let (d, a, b, g, w) = program_gives None limit cuts program code none_there none_main no_threads [] text four_each no_fork slots 3 refl (call_only limit cuts program closed 1000) (λ f fa depth all. record { forked = (λ rs e from to g env x s h st k en w l. absurd w); parallel = (λ t from to g env x s k u w l. absurd w) }) all_stand 16 24 main_stands main_fitted input before notes tt e in (d, a, b, g)

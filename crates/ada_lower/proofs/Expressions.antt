@@ -25,7 +25,7 @@ use Rattle.ada_lower.specs.Fitted.{Spot, spot, spots, Reaches, Fitted, FittedFol
 use Rattle.ada_lower.proofs.Framework.{any, To, Doing, comes_here, comes_on, comes_goes, does_ret, does_bind, does_seq, does_assoc, does_before, does_returned}
 use Rattle.ada_lower.proofs.Memory.{number_seen, set_what, own_free, fit_unset, what_same, what_other, fit_alike, IsOwn}
 use Rattle.ada_lower.proofs.Standing.{stands_seq, stands_assoc3, stands_choose, stands_when}
-use Rattle.ada_lower.proofs.Parts.{Runs, allows_fewer, does_first, does_keep, does_operate, does_check}
+use Rattle.ada_lower.proofs.Parts.{Runs, allows_fewer, does_first, does_keep, does_operate, does_check, does_set}
 use Rattle.ada_lower.proofs.Declared.{keeping, knows_kept}
 use Rattle.ada_lower.proofs.Blocks.{fit_unkept}
 use Rattle.ada_lower.proofs.Calls.{called_plainly, given}
@@ -94,8 +94,8 @@ module _ (limit : ℕ) (cuts : ℕ → ℕ → List ℕ) (program : Program) (c 
       (subst (λ ps. Doing limit c f x G g q (then ps) (λ d. on f to st d) goal) (append-nil so_far)
       (j [] e)))
   passed_does (In formal (Number check e) rest) from to done {B} {g} {G} {env} {q} {goal} s h sub w m ks st so_far then p en (o, zs, wo, cell, we, wr) l j =
-      let (m1, l1, l2) = stands_seq c from to (emit program s.scope h e ⨟ Emission.checked s.scope (h + 1) check.scalar ⨟ Emission.keep s.scope (h + 1) (Emission.formal_of program sub w (ConstantOf formal))) (Emission.passed program s.scope h sub w rest) l in
-      let (m2, l3, (j1, (j2, z))) = stands_seq c from m1 (emit program s.scope h e) (Emission.checked s.scope (h + 1) check.scalar ⨟ Emission.keep s.scope (h + 1) (Emission.formal_of program sub w (ConstantOf formal))) l1 in
+      let (m1, l1, l2) = stands_seq c from to (emit program s.scope h e ⨟ Emission.keep_checked s.scope (h + 1) check.scalar (Emission.formal_of program sub w (ConstantOf formal))) (Emission.passed program s.scope h sub w rest) l in
+      let (m2, l3, (jk, z)) = stands_seq c from m1 (emit program s.scope h e) (Emission.keep_checked s.scope (h + 1) check.scalar (Emission.formal_of program sub w (ConstantOf formal))) l1 in
       let place = placing (spot (ConstantOf formal) false 1 o) zs wo p in
       let loose : G.what (f.base + (w + o)) ≡ Free = (let y : f.base + (w + o) ≡ f.base + w + o + 0 = omega arith in ap G.what y) ∙ place.free 0 (omega arith) in
       let there : f.base + w + (o + 0) ≡ f.base + (w + o) = omega arith in
@@ -104,16 +104,15 @@ module _ (limit : ℕ) (cuts : ℕ → ℕ → List ℕ) (program : Program) (c 
       (does_assoc limit c f x _ _ then'
       (does_seq limit c f x p.weak (λ ts al. al) (done.0 (Unit {0}) from m2 _ env s h st p.knows en we l3) (λ v _.
       does_assoc limit c f x _ _ then'
-      (does_seq limit c f x p.weak (λ ts al. al) (does_check limit c f x RangeCheck check.at check.scalar.low check.scalar.high v (Values.is_in check.scalar v) st refl (at_entry en j1)) (λ _ _.
-      let p' : Passing limit cuts f env s w m g (keeping (f.base + w + (o + 0)) (v ∷ []) G) zs =
+      (let p' : Passing limit cuts f env s w m g (keeping (f.base + w + (o + 0)) (v ∷ []) G) zs =
       passing_more (spot (ConstantOf formal) false 1 o) (o + 0) (v ∷ []) (omega arith) (omega arith) place.fits (λ n lt. (let y : f.base + w + (o + 0) + n ≡ f.base + w + o + n = omega arith in ap G.what y) ∙ place.free n (omega (arith, lt))) place.off place.rest in
-      does_returned limit c f x then' (v ∷ [])
-      (does_keep limit c f x (m2 + 1) (w + o) v st (own_free _ loose) (subst (λ p. At c (m2 + 1) (i.StoreL p) x.entry) cell (at_entry en j2))
-      (subst (λ b. Doing limit c f x (keeping b (v ∷ []) G) g q (then' (v ∷ [])) (λ d. on f (m2 + 1 + 1) st d) goal) there
+      does_set limit c f x _ RangeCheck check.at m2 (w + o) check.scalar.low check.scalar.high v st p.weak (own_free _ loose) (subst (λ p. At c m2 (i.SetL p check.scalar.low check.scalar.high) x.entry) cell (at_entry en jk))
+      (does_returned limit c f x then' (v ∷ [])
+      (subst (λ b. Doing limit c f x (keeping b (v ∷ []) G) g q (then' (v ∷ [])) (λ d. on f (m2 + 1) st d) goal) there
       (subst (λ p. Doing limit c f x (keeping (f.base + w + (o + 0)) (v ∷ []) G) g q (then' (v ∷ [])) (λ d. on f p st d) goal) z
       (passed_does rest m1 to done.1 s h sub w m zs st (so_far ++ (record { formal = ConstantOf formal; cells = v ∷ []; back = None } ∷ [])) then p' en wr l2 (λ ps suited.
       subst (λ us. Doing limit c f x (scattering (f.base + w) (pieces (sent_in formal o (v ∷ []) ∷ ps)) G) g q (then us) (λ d. on f to st d) goal) (sym (append_assoc so_far (record { formal = ConstantOf formal; cells = v ∷ []; back = None } ∷ []) (all_passed ps)))
-      (j (sent_in formal o (v ∷ []) ∷ ps) (spot (ConstantOf formal) false 1 o, zs, wo, suits_in formal 1 o (v ∷ []) refl, suited))))))))))))
+      (j (sent_in formal o (v ∷ []) ∷ ps) (spot (ConstantOf formal) false 1 o, zs, wo, suits_in formal 1 o (v ∷ []) refl, suited)))))))))))
   passed_does (In formal (Cells value) rest) from to done {B} {g} {G} {env} {q} {goal} s h sub w m ks st so_far then p en (o, nv, zs, wo, cell, wv, wr) l j =
       let (m1, l1, l2) = stands_seq c from to (Emission.put_into program s.scope h (Emission.formal_of program sub w (ConstantOf formal)) (Cells value)) (Emission.passed program s.scope h sub w rest) l in
       let place = placing (spot (ConstantOf formal) false nv o) zs wo p in
@@ -156,7 +155,7 @@ module _ (limit : ℕ) (cuts : ℕ → ℕ → List ℕ) (program : Program) (c 
       → Runs limit c f x g any (reduce stored.doings stored.checks by token (Meaning.fold_call ops limit program calls by env.nested) a v) (λ d. on f from (v ∷ a ∷ st) d) (λ b d. on f to (b ∷ st) d)
   reduced_here (Operator at op class) token from to {g} s h a v st k en w (j, z) =
       subst (λ q. Runs limit c f x g any (operate stored.doings stored.checks op token class a v) (λ d. on f from (v ∷ a ∷ st) d) (λ b d. on f q (b ∷ st) d)) (sym z) (does_operate limit c f x op token class a v st (at_entry en j))
-  reduced_here (Function at sub accumulator kind) token from to {g} {env} s h a v st k en (u, (result, gives), room, formals) (j1, (j2, (j3, (j4, (j5, (j6, (j7, z0))))))) =
+  reduced_here (Function at sub accumulator kind) token from to {g} {env} s h a v st k en (u, (result, gives), room, formals) (j1, (j3, (j4, (j5, (j6, (j7, z0)))))) =
       let t : Sight = taking 2 s in
       let g1 : Ghost = set_what (f.base + (s.scope.free + 1)) (Keeps v) g in
       let g2 : Ghost = set_what (f.base + s.scope.free) (Keeps a) g1 in
@@ -177,11 +176,10 @@ module _ (limit : ℕ) (cuts : ℕ → ℕ → List ℕ) (program : Program) (c 
       let count : ℕ = shapes_cells (shapes program u.unit.formals) in
       let kt : Knows limit cuts g f t env = record { most = k.most; nested = k.nested; plan = k.plan; kept = k.kept; top = k.top; beyond = k.beyond; global = k.global; outside = k.outside; one = k.one; old = k.old; hidden = k.hidden; object = k.object; parameter = k.parameter; item = k.item; constant_item = k.constant_item; target = k.target; handled = k.handled; free = λ i le lt. k.free i (omega (arith, le)) lt } in
       let free : AreFree n count g.what = (λ i lt. (let e : f.base + s.scope.free + i ≡ f.base + (s.scope.free + i) = omega arith in ap g.what e) ∙ k.free (s.scope.free + i) (omega arith) (omega (arith, lt, room, many))) in
-      let q : ℕ = from + 1 + 1 + 1 + 1 + 1 + 1 in
+      let q : ℕ = from + 1 + 1 + 1 + 1 + 1 in
       does_keep limit c f x from (s.scope.free + 1) v (a ∷ st) (own_free _ free1) (at_entry en j1)
       (does_assoc limit c f x _ _ _
-      (does_seq limit c f x {g = g1} {h = g1} {j = g} (λ z d w. fit_unset (f.base + (s.scope.free + 1)) v free1 w) (λ ts al. al) (does_check limit c f x RangeCheck at accumulator.low accumulator.high a (Values.is_in accumulator a) st refl (at_entry en j2)) (λ _ _.
-      does_keep limit c f x (from + 1 + 1) s.scope.free a st (own_free _ free0') (at_entry en j3)
+      (does_set limit c f x {g = g1} {h = g} _ RangeCheck at (from + 1) s.scope.free accumulator.low accumulator.high a st (λ z d w. fit_unset (f.base + (s.scope.free + 1)) v free1 w) (own_free _ free0') (at_entry en j3)
       (does_by limit c f x (λ z d w. comes_kept limit cuts c f (s.scope.free + 1) v st d w kept j4)
       (does_seq limit c f x {g = g2} {h = g2} {j = g} (λ z d w. fit_unset (f.base + (s.scope.free + 1)) v free1 (fit_unset (f.base + s.scope.free) a free0' w)) (λ ts al. al) (does_check limit c f x RangeCheck at kind.low kind.high v (Values.is_in kind v) st refl (at_entry en j5)) (λ _ _.
       does_before limit c f x (λ d. comes_goes limit c f (v ∷ st) q st d j6 refl)
@@ -194,7 +192,7 @@ module _ (limit : ℕ) (cuts : ℕ → ℕ → List ℕ) (program : Program) (c 
         (λ ts al. allows_fewer limit c f x (scattering n (pieces ps) g) g ts (fewer_scattered limit c f x n count (pieces ps) g (pieces_in count ps have) free) al),
         subst (λ p. Runs limit c f x g any (stored.ret r.value) (λ d. on f (q + 1) (given p r.value ++ st) d) (λ v d. on f to (v ∷ st) d)) (sym gives)
             (ends_ret limit cuts program c f x calls globals mains epar calls_do r.value (q + 1) to st z0),
-      ))))))))))
+      )))))))))
 
   -- the same, where the number of constructs is known to be that of the environment
   reduced_does : (by : Reducer) (nested token from to : ℕ) {g : Ghost} {env : Env} (s : Sight) (h : ℕ) (a v : ℤ) (st : List ℤ) → nested ≡ env.nested → Knows limit cuts g f s env → s.scope.entry ≡ x.entry → FittedFold program globals mains s by → Stands c (Emission.folding s.scope h by) from to
@@ -510,16 +508,15 @@ module _ (limit : ℕ) (cuts : ℕ → ℕ → List ℕ) (program : Program) (c 
 
     valued_into : (f : Fixed) (calls_do : InnerDo limit cuts program globals mains epar c f calls) → (value : Value) → Into limit cuts program c f x calls globals mains epar calls_do value
     valued_into f calls_do (Number check e) B g j env q goal s h t n st room en from to then (one', w) l go =
-        let (m, l1, (j1, (j2, z))) = stands_seq c from to (emit program s.scope h e) (Emission.checked s.scope (h + 1) check.scalar ⨟ Emission.keep s.scope (h + 1) t) l in
+        let (m, l1, (jk, z)) = stands_seq c from to (emit program s.scope h e) (Emission.keep_checked s.scope (h + 1) check.scalar t) l in
         let z0 : f.base + t + 0 ≡ f.base + t = omega arith in
         let own : IsOwn (g.what (f.base + t)) = subst (λ a. IsOwn (g.what a)) z0 (room.own 0 (omega (arith, one'))) in
         does_assoc limit c f x _ _ then
         (does_seq limit c f x room.weak (λ ts al. al) (valued f calls_do B e from m s h st room.knows en w l1) (λ v _.
         does_assoc limit c f x _ _ then
-        (does_seq limit c f x room.weak (λ ts al. al) (does_check limit c f x RangeCheck check.at check.scalar.low check.scalar.high v (Values.is_in check.scalar v) st refl (at_entry en j1)) (λ _ _.
-        does_returned limit c f x then (v ∷ [])
-        (does_keep limit c f x (m + 1) t v st own (at_entry en j2)
-        (subst (λ p. Doing limit c f x (keeping (f.base + t) (v ∷ []) g) j q (then (v ∷ [])) (λ d. on f p st d) goal) z (go (v ∷ []) (sym one'))))))))
+        (does_set limit c f x _ RangeCheck check.at m t check.scalar.low check.scalar.high v st room.weak own (at_entry en jk)
+        (does_returned limit c f x then (v ∷ [])
+        (subst (λ p. Doing limit c f x (keeping (f.base + t) (v ∷ []) g) j q (then (v ∷ [])) (λ d. on f p st d) goal) z (go (v ∷ []) (sym one')))))))
     valued_into f calls_do (Cells value) B g j env q goal s h t n st room en from to then w l go = composed_into f calls_do value B g j env q goal s h t n st room en from to then w l go
 
     associations_into : (f : Fixed) (calls_do : InnerDo limit cuts program globals mains epar c f calls) → (as' : Associations) (B : Type 0) (g j : Ghost) (env : Env) (q : B → Type 0) (goal : B → Dyn → Step) (s : Sight) (h t n : ℕ) (st : List ℤ) → Room limit cuts program c f x calls globals mains epar calls_do g j s env t n → s.scope.entry ≡ x.entry → (from to : ℕ) (cur : List ℤ) (then : List ℤ → Stored B) → length cur ≡ n

@@ -23,7 +23,7 @@ use Rattle.lower_emission.specs.Emits.{Emit, listed}
 use Rattle.lower_emission.specs.Scope.{Scope, own, taking, with_exit, with_entry, with_target, with_handled, nested, thread_scope, store_at, none, one, root_of}
 use Rattle.lower_emission.specs.Bodies as code
 use Rattle.ada_lower.specs.Sights.{Level, Own, Around, Main, Where, Named, Leaving, ByEnd, ByReturn, ByValue, ByLeave}
-use Rattle.ada_lower.specs.Emission.{emit, selected, passed, put_into, composed, filtered, iterated, chunk_code, course_code, threaded, lost, checked, address, is_whole, chunk_scope, ends_code, cells_of, passing, composite_width, width, no_handler, is_end, assigned, in_span, chosen, has_reason, handled_by, returning, returning_value, exiting, away, handled_target, image_instr, send_instr, piece_texts, field_defaults, default_of, defaults_within, defaulted, subtype_or_none, object_here, exits_of, arm_exits, left_by, exit_code, exits_code, left_returns, is_own, left_code, declared, back_one, back_cells, parallel_for, in_share, arms_code, chunk_by, arm_scope, parallel_block, back_code, piece_values, stmt, all, cases, handling, arm_codes, Shape, shapes}
+use Rattle.ada_lower.specs.Emission.{emit, selected, passed, put_into, composed, filtered, iterated, chunk_code, course_code, threaded, lost, checked, address, is_whole, chunk_scope, ends_code, cells_of, passing, composite_width, width, no_handler, is_end, assigned, in_span, chosen, has_reason, handled_by, returning, returning_value, exiting, away, handled_target, image_instr, send_instr, piece_texts, field_defaults, default_of, defaults_within, defaulted, subtype_or_none, object_here, exits_of, arm_exits, left_by, exit_code, exits_code, left_returns, is_own, left_code, declared, back_one, back_cells, parallel_for, in_share, arms_code, chunk_by, arm_scope, parallel_block, back_code, piece_values, stmt, all, cases, handling, arm_codes, Shape, shapes, store_checked}
 use Rattle.lower_emission.specs.Programs.{has_fork, idle_fork, idle_forks, whole_code}
 use Rattle.ada_lower.specs.ProgramCode.{IsCodeOf}
 use Rattle.ada_lower.proofs.Forward.{Also, Fore}
@@ -118,11 +118,15 @@ module _ (l t : ℕ → Type 0) (s : Scope) (k : Known l s) where
     ),
   )
 
-  fore_assigned : (o : Option Named) (whole : Bool) (moved : Emit) (value : Scope → ℕ → Emit) → Fore l t moved → ((u : Scope) (h : ℕ) → Known l u → Fore l t (value u h)) → Fore l t (assigned s o whole moved value)
-  fore_assigned None whole moved value f g = ((λ n z. absurd z), k.0)
-  fore_assigned (Some n) whole moved value f g = fore_cond l t s k (whole && not n.through) _ _
-      (g (with_target n s) 0 k, fore_store 1 n.place.level n.place.cell)
-      (fore_address_of l t s k 0 n, (f, (((λ n z. absurd z), k.0), (((λ n z. absurd z), k.0), (g (with_target (record { through = true; place = own s.free; cells = 1 }) (taking 1 s)) 1 k, ((λ n z. absurd z), k.0))))))
+  fore_store_checked : (x : Scalar) (level : Level) (n : ℕ) → Fore l t (store_checked s x level n)
+  fore_store_checked x Own n = ((λ n z. absurd z), k.0)
+  fore_store_checked x level n = (((λ n z. absurd z), k.0), fore_store 1 level n)
+
+  fore_assigned : (o : Option Named) (whole : Bool) (x : Scalar) (moved : Emit) (value : Scope → ℕ → Emit) → Fore l t moved → ((u : Scope) (h : ℕ) → Known l u → Fore l t (value u h)) → Fore l t (assigned s o whole x moved value)
+  fore_assigned None whole x moved value f g = ((λ n z. absurd z), k.0)
+  fore_assigned (Some n) whole x moved value f g = fore_cond l t s k (whole && not n.through) _ _
+      (g (with_target n s) 0 k, fore_store_checked x n.place.level n.place.cell)
+      (fore_address_of l t s k 0 n, (f, (((λ n z. absurd z), k.0), (((λ n z. absurd z), k.0), (g (with_target (record { through = true; place = own s.free; cells = 1 }) (taking 1 s)) 1 k, (((λ n z. absurd z), k.0), ((λ n z. absurd z), k.0)))))))
 
 module _ (program : Program) where
   fore_in_share : (l t : ℕ → Type 0) (s : Scope) (n : ℕ) → Known l s → Fore l t (in_share program s n)
@@ -191,7 +195,7 @@ module _ (program : Program) where
     pub fore_stmt : (l t : ℕ → Type 0) (s : Scope) (x : Stmt) → Known l s → Fore l t (stmt program s x)
     fore_stmt l t s Null k = tt
     fore_stmt l t s (Assign at r selections (Number check e)) k =
-        fore_assigned l t s k (root_of s r) (is_whole selections) (selected program s 1 selections) _ (fore_selected program l t s 1 selections k) (λ u h k'. (fore_emit program l t u h e k', ((λ n z. absurd z), k'.0)))
+        fore_assigned l t s k (root_of s r) (is_whole selections) check.scalar (selected program s 1 selections) _ (fore_selected program l t s 1 selections k) (λ u h k'. fore_emit program l t u h e k')
     fore_stmt l t s (Assign at r selections (Cells c)) k =
         (fore_address l t s k 0 (root_of s r), (fore_selected program l t s 1 selections k, (((λ n z. absurd z), k.0), (fore_composed program l t (with_target (record { through = true; place = own s.free; cells = composite_width program c }) (taking (composite_width program c) (taking 1 s))) 0 (s.free + 1) c k, (((λ n z. absurd z), k.0), (((λ n z. absurd z), k.0), ((λ n z. absurd z), k.0)))))))
     fore_stmt l t s (CallProcedure at callee sub actuals) k = (fore_passed program l t (passing program sub s) 0 sub s.free actuals k, (((λ n z. absurd z), k.0), fore_back l t s sub s.free actuals k))

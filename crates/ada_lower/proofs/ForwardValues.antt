@@ -1,5 +1,5 @@
 -- The code of expressions, values, aggregates, actual parameters and iterations is put together forward.
-use Rattle.std.proofs.Common.{◌≡◌, ℕ, zero, suc, ◌+◌, ◌-◌, min, ℤ, pos, ◌&&◌, List, [], ◌∷◌, nat_eq, nat_lt, Option, Some, None, Bool, true, false, cond, refl, sym, ◌∙◌, inl, inr}
+use Rattle.std.proofs.Common.{◌≡◌, ℕ, zero, suc, ◌+◌, ◌-◌, min, ℤ, ◌&&◌, List, [], ◌∷◌, nat_eq, nat_lt, Option, Some, None, Bool, true, false, cond, refl, sym, ◌∙◌, inl, inr}
 use Rattle.std.proofs.lemmas.Option.{none-some}
 use Rattle.ada_meaning.proofs.Cells.{some_same}
 use Rattle.ada_base.specs.declared.operation.Op.{Op}
@@ -154,7 +154,7 @@ module _ (l t : ℕ → Type 0) (s : Scope) (k : Known l s) where
 
   pub fore_folding : (h : ℕ) (by : Reducer) → Fore l t (folding s h by)
   fore_folding h (Operator at o class) = fore_binary (h + 1 + 1) o class
-  fore_folding h (Function at sub accumulator value) = (((λ n z. absurd z), k.0), (((λ n z. absurd z), k.0), (((λ n z. absurd z), k.0), (((λ n z. absurd z), k.0), (((λ n z. absurd z), k.0), (((λ n z. absurd z), k.0), ((λ n z. absurd z), k.0)))))))
+  fore_folding h (Function at sub accumulator value) = (((λ n z. absurd z), k.0), (((λ n z. absurd z), k.0), (((λ n z. absurd z), k.0), (((λ n z. absurd z), k.0), (((λ n z. absurd z), k.0), ((λ n z. absurd z), k.0))))))
 
   fore_ranged : (h n : ℕ) (subtype : Scalar) → Fore l t (ranged s h n subtype)
   fore_ranged h n subtype = (((λ n z. absurd z), k.0), (((λ n z. absurd z), k.0), (((λ n z. absurd z), k.0), (((λ n z. absurd z), k.0), (((λ n z. absurd z), k.0), (((λ n z. absurd z), k.0), ((λ n z. absurd z), k.0)))))))
@@ -365,7 +365,7 @@ module _ (program : Program) where
     fore_passed l t s h sub w NoActual k = tt
     fore_passed l t s h sub w (In formal value rest) k = (fore_into l t s h _ value k, fore_passed l t s h sub w rest k)
     fore_passed l t s h sub w (InOut formal at r selections inner outer rest) k =
-        ((fore_address l t s k h (root_of s r), (fore_selected l t s (h + 1) selections k, (((λ n z. absurd z), k.0), (((λ n z. absurd z), k.0), (((λ n z. absurd z), k.0), (((λ n z. absurd z), k.0), ((λ n z. absurd z), k.0))))))), fore_passed l t s h sub w rest k)
+        ((fore_address l t s k h (root_of s r), (fore_selected l t s (h + 1) selections k, (((λ n z. absurd z), k.0), (((λ n z. absurd z), k.0), (((λ n z. absurd z), k.0), ((λ n z. absurd z), k.0)))))), fore_passed l t s h sub w rest k)
     fore_passed l t s h sub w (Out formal at r selections inner outer rest) k =
         ((fore_address l t s k h (root_of s r), (fore_selected l t s (h + 1) selections k, (((λ n z. absurd z), k.0), (((λ n z. absurd z), k.0), ((λ n z. absurd z), k.0))))), fore_passed l t s h sub w rest k)
     fore_passed l t s h sub w (CompositeInOut formal at r selections subtype rest) k =
@@ -374,7 +374,7 @@ module _ (program : Program) where
         ((((λ n z. absurd z), k.0), (fore_address l t s k (h + 1) (root_of s r), (fore_selected l t s (h + 1 + 1) selections k, (((λ n z. absurd z), k.0), (((λ n z. absurd z), k.0), ((λ n z. absurd z), k.0)))))), fore_passed l t s h sub w rest k)
 
     pub fore_into : (l t : ℕ → Type 0) (s : Scope) (h n : ℕ) (x : Value) → Known l s → Fore l t (put_into program s h n x)
-    fore_into l t s h n (Number check e) k = (fore_emit l t s h e k, (((λ n z. absurd z), k.0), ((λ n z. absurd z), k.0)))
+    fore_into l t s h n (Number check e) k = (fore_emit l t s h e k, ((λ n z. absurd z), k.0))
     fore_into l t s h n (Cells c) k = fore_composed l t s h n c k
 
     pub fore_composed : (l t : ℕ → Type 0) (s : Scope) (h n : ℕ) (x : Composite) → Known l s → Fore l t (composed program s h n x)

@@ -62,10 +62,9 @@ program = record {
 abbrev pub instrs : List Instr
 instrs =
     i.Push (pos 0) ∷
-    i.Range integer.low integer.high ∷
-    i.StoreL 0 ∷
-    i.Jump 5 ∷
-    i.Jump 28 ∷
+    i.SetL 0 integer.low integer.high ∷
+    i.Jump 4 ∷
+    i.Jump 26 ∷
     i.Push (pos 1) ∷
     i.StoreL 1 ∷
     i.Push (pos 3) ∷
@@ -73,22 +72,21 @@ instrs =
     i.LoadL 1 ∷
     i.LoadL 2 ∷
     i.Le ∷
-    i.JFalse 22 ∷
-    i.Jump 15 ∷
-    i.Jump 22 ∷
+    i.JFalse 20 ∷
+    i.Jump 14 ∷
+    i.Jump 20 ∷
     i.Turn ∷
     i.LoadL 0 ∷
     i.LoadL 1 ∷
     i.Add base.Narrow ∷
-    i.Range integer.low integer.high ∷
-    i.StoreL 0 ∷
-    i.Next 1 2 15 ∷
+    i.SetL 0 integer.low integer.high ∷
+    i.Next 1 2 14 ∷
     i.LoadL 0 ∷
     i.StoreL 1 ∷
     i.LoadL 1 ∷
     i.Img ∷
     i.SendLn ∷
-    i.Jump 30 ∷
+    i.Jump 28 ∷
     i.StoreL 1 ∷
     i.SendLn ∷
     i.Halt ∷
@@ -101,7 +99,6 @@ abbrev pub spots : List Spot
 spots =
     spot 0 None ∷
     spot 1 None ∷
-    spot 1 None ∷
     spot 0 None ∷
     spot 1 None ∷
     spot 0 (Some 0) ∷
@@ -118,7 +115,6 @@ spots =
     spot 0 (Some 0) ∷
     spot 1 (Some 0) ∷
     spot 2 (Some 0) ∷
-    spot 1 (Some 0) ∷
     spot 1 (Some 0) ∷
     spot 0 (Some 0) ∷
     spot 0 (Some 0) ∷
@@ -136,18 +132,18 @@ abbrev pub code : Code
 code = record {
   instrs = instrs;
   spots = spots;
-  unwind = record { from = 5; to = 27; handler = 4; depth = 0; nest = 0 } ∷ [];
+  unwind = record { from = 4; to = 25; handler = 3; depth = 0; nest = 0 } ∷ [];
   sites = [];
   subs = record { entry = 0; frame = 8; stack = 2; takes = 0; gives = false } ∷ [];
   texts = [];
 }
 
-met : Meets code 4 4
-met = record { place = 4; first = 0; second = 0; here = refl; there = refl }
+met : Meets code 3 3
+met = record { place = 3; first = 0; second = 0; here = refl; there = refl }
 
-stands : Stands code (main_code program none_there none_main [] text four_each (main_scope program none_there none_main [] text four_each 8).scope) 0 31
+stands : Stands code (main_code program none_there none_main [] text four_each (main_scope program none_there none_main [] text four_each 8).scope) 0 29
 unfolding Rattle.ada_lower.specs.Emission.emit Rattle.ada_lower.specs.Emission.stmt Rattle.ada_lower.specs.Emission.back_code Rattle.ada_lower.specs.Emission.piece_values
-stands = (record { is = inl refl; held = tt }, (record { is = inl refl; held = tt }, (record { is = inl refl; held = tt }, (record { is = inl refl; held = tt }, (record { is = inl refl; held = tt }, (record { is = inl refl; held = (met, refl, refl) }, (record { is = inl refl; held = (met, refl, refl) }, (record { is = inl refl; held = (met, refl, refl) }, (record { is = inl refl; held = (met, refl, refl) }, (record { is = inl refl; held = (met, refl, refl) }, (record { is = inl refl; held = (met, refl, refl) }, (record { is = inl refl; held = (met, refl, refl) }, (record { is = inl refl; held = (met, refl, refl) }, (record { is = inl refl; held = (met, refl, refl) }, (record { is = inl refl; held = (met, refl, refl) }, (record { is = inl refl; held = (met, refl, refl) }, (record { is = inl refl; held = (met, refl, refl) }, (record { is = inl refl; held = (met, refl, refl) }, (record { is = inl refl; held = (met, refl, refl) }, (record { is = inl refl; held = (met, refl, refl) }, (record { is = inl refl; held = (met, refl, refl) }, (record { is = inl refl; held = (met, refl, refl) }, (record { is = inl refl; held = (met, refl, refl) }, (record { is = inl refl; held = (met, refl, refl) }, (record { is = inl refl; held = (met, refl, refl) }, (record { is = inl refl; held = (met, refl, refl) }, (record { is = inl refl; held = (met, refl, refl) }, (record { is = inl refl; held = tt }, (record { is = inl refl; held = tt }, (record { is = inl refl; held = tt }, (record { is = inl refl; held = tt }, refl)))))))))))))))))))))))))))))))
+stands = (record { is = inl refl; held = tt }, (record { is = inl refl; held = tt }, (record { is = inl refl; held = tt }, (record { is = inl refl; held = tt }, (record { is = inl refl; held = (met, refl, refl) }, (record { is = inl refl; held = (met, refl, refl) }, (record { is = inl refl; held = (met, refl, refl) }, (record { is = inl refl; held = (met, refl, refl) }, (record { is = inl refl; held = (met, refl, refl) }, (record { is = inl refl; held = (met, refl, refl) }, (record { is = inl refl; held = (met, refl, refl) }, (record { is = inl refl; held = (met, refl, refl) }, (record { is = inl refl; held = (met, refl, refl) }, (record { is = inl refl; held = (met, refl, refl) }, (record { is = inl refl; held = (met, refl, refl) }, (record { is = inl refl; held = (met, refl, refl) }, (record { is = inl refl; held = (met, refl, refl) }, (record { is = inl refl; held = (met, refl, refl) }, (record { is = inl refl; held = (met, refl, refl) }, (record { is = inl refl; held = (met, refl, refl) }, (record { is = inl refl; held = (met, refl, refl) }, (record { is = inl refl; held = (met, refl, refl) }, (record { is = inl refl; held = (met, refl, refl) }, (record { is = inl refl; held = (met, refl, refl) }, (record { is = inl refl; held = (met, refl, refl) }, (record { is = inl refl; held = tt }, (record { is = inl refl; held = tt }, (record { is = inl refl; held = tt }, (record { is = inl refl; held = tt }, refl)))))))))))))))))))))))))))))
 
 fitted : FittedStmt program none_there none_main no_threads no_fork (main_scope program none_there none_main [] text four_each 8) (Block NoDecl main NoHandler)
 fitted = ((refl, omega arith, (refl, tt), (omega arith, (λ h. ((omega arith, tt, tt, (λ exit. (tt, ((named, refl, omega arith, tt, (((named, refl, omega arith), tt), (own 1, refl))), tt)))), ((omega arith, (((named, refl, omega arith), tt), tt)), tt))), ((omega arith, tt), tt), tt)), tt)
@@ -158,7 +154,7 @@ fitted = ((refl, omega arith, (refl, tt), (omega arith, (λ h. ((omega arith, tt
 -- where the stored run of the program gives a value, the machine ends with its output
 pub comes : (limit : ℕ) (cuts : ℕ → ℕ → List ℕ) (slots : ℕ) (input before : List ℕ) (notes : Schedule) → let r = (Meaning.main (stored.noted_operations limit cuts) limit program).does (stored.noted_outset slots input before notes) in r.end ≡ Ok tt
     → (d : Dyn) × Finally limit code (On (record { state = begun 0 0 [] 0 0 0 None (replicate 8 (Mine (pos 0))); world = (first_dyn notes cuts 8 input before).world })) (record { how = Done None; dyn = d }) × (d.world.output ≡ r.state.output) × (d.turns ≡ r.state.turns)
-comes limit cuts slots input before notes e = let (d, a, b, g, w) = program_gives None limit cuts program code none_there none_main no_threads [] text four_each no_fork slots 8 refl (call_only limit cuts program (λ n sub e. absurd (none-some sub e)) 1000) (λ f fa depth all. record { forked = (λ rs e from to g env x s h st k en w l. absurd w); parallel = (λ t from to g env x s k u w l. absurd w) }) (λ n unit q. absurd (none-some unit q)) 0 31 stands fitted input before notes tt e in (d, a, b, g)
+comes limit cuts slots input before notes e = let (d, a, b, g, w) = program_gives None limit cuts program code none_there none_main no_threads [] text four_each no_fork slots 8 refl (call_only limit cuts program (λ n sub e. absurd (none-some sub e)) 1000) (λ f fa depth all. record { forked = (λ rs e from to g env x s h st k en w l. absurd w); parallel = (λ t from to g env x s k u w l. absurd w) }) (λ n unit q. absurd (none-some unit q)) 0 29 stands fitted input before notes tt e in (d, a, b, g)
 
 -- its spots, as they are emitted beside, fit
 abbrev AllFrom : {A : Type 0} → (ℕ → A → Type 0) → ℕ → List A → Type 0
@@ -174,68 +170,62 @@ spots_fit : AllFrom (λ at i. Has code.spots at (SpotFits code at i)) 0 code.ins
 spots_fit = (
   record { height = omega arith; operands = omega arith; begun = omega arith; leads = (refl, refl, refl); belongs = tt; held = tt },
   (
-    record { height = omega arith; operands = omega arith; begun = omega arith; leads = (refl, refl, refl); belongs = tt; held = tt },
+    record { height = omega arith; operands = omega arith; begun = omega arith; leads = (refl, refl, refl); belongs = omega arith; held = tt },
     (
-      record { height = omega arith; operands = omega arith; begun = omega arith; leads = (refl, refl, refl); belongs = omega arith; held = tt },
+      record { height = omega arith; operands = omega arith; begun = omega arith; leads = (refl, refl, refl); belongs = tt; held = tt },
       (
         record { height = omega arith; operands = omega arith; begun = omega arith; leads = (refl, refl, refl); belongs = tt; held = tt },
         (
-          record { height = omega arith; operands = omega arith; begun = omega arith; leads = (refl, refl, refl); belongs = tt; held = tt },
+          record { height = omega arith; operands = omega arith; begun = omega arith; leads = (refl, refl, refl); belongs = tt; held = (omega arith, omega arith) },
           (
-            record { height = omega arith; operands = omega arith; begun = omega arith; leads = (refl, refl, refl); belongs = tt; held = (omega arith, omega arith) },
+            record { height = omega arith; operands = omega arith; begun = omega arith; leads = (refl, refl, refl); belongs = omega arith; held = (omega arith, omega arith) },
             (
-              record { height = omega arith; operands = omega arith; begun = omega arith; leads = (refl, refl, refl); belongs = omega arith; held = (omega arith, omega arith) },
+              record { height = omega arith; operands = omega arith; begun = omega arith; leads = (refl, refl, refl); belongs = tt; held = (omega arith, omega arith) },
               (
-                record { height = omega arith; operands = omega arith; begun = omega arith; leads = (refl, refl, refl); belongs = tt; held = (omega arith, omega arith) },
+                record { height = omega arith; operands = omega arith; begun = omega arith; leads = (refl, refl, refl); belongs = omega arith; held = (omega arith, omega arith) },
                 (
                   record { height = omega arith; operands = omega arith; begun = omega arith; leads = (refl, refl, refl); belongs = omega arith; held = (omega arith, omega arith) },
                   (
                     record { height = omega arith; operands = omega arith; begun = omega arith; leads = (refl, refl, refl); belongs = omega arith; held = (omega arith, omega arith) },
                     (
-                      record { height = omega arith; operands = omega arith; begun = omega arith; leads = (refl, refl, refl); belongs = omega arith; held = (omega arith, omega arith) },
+                      record { height = omega arith; operands = omega arith; begun = omega arith; leads = (refl, refl, refl); belongs = tt; held = (omega arith, omega arith) },
                       (
-                        record { height = omega arith; operands = omega arith; begun = omega arith; leads = (refl, refl, refl); belongs = tt; held = (omega arith, omega arith) },
+                        record { height = omega arith; operands = omega arith; begun = omega arith; leads = ((refl, refl, refl), (refl, refl, refl)); belongs = tt; held = (omega arith, omega arith) },
                         (
-                          record { height = omega arith; operands = omega arith; begun = omega arith; leads = ((refl, refl, refl), (refl, refl, refl)); belongs = tt; held = (omega arith, omega arith) },
+                          record { height = omega arith; operands = omega arith; begun = omega arith; leads = (refl, refl, refl); belongs = tt; held = (omega arith, omega arith) },
                           (
                             record { height = omega arith; operands = omega arith; begun = omega arith; leads = (refl, refl, refl); belongs = tt; held = (omega arith, omega arith) },
                             (
                               record { height = omega arith; operands = omega arith; begun = omega arith; leads = (refl, refl, refl); belongs = tt; held = (omega arith, omega arith) },
                               (
-                                record { height = omega arith; operands = omega arith; begun = omega arith; leads = (refl, refl, refl); belongs = tt; held = (omega arith, omega arith) },
+                                record { height = omega arith; operands = omega arith; begun = omega arith; leads = (refl, refl, refl); belongs = omega arith; held = (omega arith, omega arith) },
                                 (
                                   record { height = omega arith; operands = omega arith; begun = omega arith; leads = (refl, refl, refl); belongs = omega arith; held = (omega arith, omega arith) },
                                   (
-                                    record { height = omega arith; operands = omega arith; begun = omega arith; leads = (refl, refl, refl); belongs = omega arith; held = (omega arith, omega arith) },
+                                    record { height = omega arith; operands = omega arith; begun = omega arith; leads = (refl, refl, refl); belongs = tt; held = (omega arith, omega arith) },
                                     (
-                                      record { height = omega arith; operands = omega arith; begun = omega arith; leads = (refl, refl, refl); belongs = tt; held = (omega arith, omega arith) },
+                                      record { height = omega arith; operands = omega arith; begun = omega arith; leads = (refl, refl, refl); belongs = omega arith; held = (omega arith, omega arith) },
                                       (
-                                        record { height = omega arith; operands = omega arith; begun = omega arith; leads = (refl, refl, refl); belongs = tt; held = (omega arith, omega arith) },
+                                        record { height = omega arith; operands = omega arith; begun = omega arith; leads = ((refl, refl, refl), (refl, refl, refl)); belongs = (omega arith, omega arith); held = (omega arith, omega arith) },
                                         (
                                           record { height = omega arith; operands = omega arith; begun = omega arith; leads = (refl, refl, refl); belongs = omega arith; held = (omega arith, omega arith) },
                                           (
-                                            record { height = omega arith; operands = omega arith; begun = omega arith; leads = ((refl, refl, refl), (refl, refl, refl)); belongs = (omega arith, omega arith); held = (omega arith, omega arith) },
+                                            record { height = omega arith; operands = omega arith; begun = omega arith; leads = (refl, refl, refl); belongs = omega arith; held = (omega arith, omega arith) },
                                             (
                                               record { height = omega arith; operands = omega arith; begun = omega arith; leads = (refl, refl, refl); belongs = omega arith; held = (omega arith, omega arith) },
                                               (
-                                                record { height = omega arith; operands = omega arith; begun = omega arith; leads = (refl, refl, refl); belongs = omega arith; held = (omega arith, omega arith) },
+                                                record { height = omega arith; operands = omega arith; begun = omega arith; leads = (refl, refl, refl); belongs = tt; held = (omega arith, omega arith) },
                                                 (
-                                                  record { height = omega arith; operands = omega arith; begun = omega arith; leads = (refl, refl, refl); belongs = omega arith; held = (omega arith, omega arith) },
+                                                  record { height = omega arith; operands = omega arith; begun = omega arith; leads = (refl, refl, refl); belongs = tt; held = (omega arith, omega arith) },
                                                   (
-                                                    record { height = omega arith; operands = omega arith; begun = omega arith; leads = (refl, refl, refl); belongs = tt; held = (omega arith, omega arith) },
+                                                    record { height = omega arith; operands = omega arith; begun = omega arith; leads = (refl, refl, refl); belongs = tt; held = tt },
                                                     (
-                                                      record { height = omega arith; operands = omega arith; begun = omega arith; leads = (refl, refl, refl); belongs = tt; held = (omega arith, omega arith) },
+                                                      record { height = omega arith; operands = omega arith; begun = omega arith; leads = (refl, refl, refl); belongs = omega arith; held = tt },
                                                       (
                                                         record { height = omega arith; operands = omega arith; begun = omega arith; leads = (refl, refl, refl); belongs = tt; held = tt },
                                                         (
-                                                          record { height = omega arith; operands = omega arith; begun = omega arith; leads = (refl, refl, refl); belongs = omega arith; held = tt },
-                                                          (
-                                                            record { height = omega arith; operands = omega arith; begun = omega arith; leads = (refl, refl, refl); belongs = tt; held = tt },
-                                                            (
-                                                              record { height = omega arith; operands = omega arith; begun = omega arith; leads = tt; belongs = refl; held = tt },
-                                                              tt,
-                                                            ),
-                                                          ),
+                                                          record { height = omega arith; operands = omega arith; begun = omega arith; leads = tt; belongs = refl; held = tt },
+                                                          tt,
                                                         ),
                                                       ),
                                                     ),
@@ -270,7 +260,7 @@ instrs_fit : (k : ℕ) (i : Instr) → slice_get code.instrs k ≡ Some i → Ha
 instrs_fit k i e = let z : 0 + k ≡ k = omega arith in subst (λ m. Has code.spots m (SpotFits code m i)) z (each_of (λ at i. Has code.spots at (SpotFits code at i)) 0 code.instrs spots_fit k i e)
 
 abbrev entry : Unwind
-entry = record { from = 5; to = 27; handler = 4; depth = 0; nest = 0 }
+entry = record { from = 4; to = 25; handler = 3; depth = 0; nest = 0 }
 
 guarded : AllFrom (λ at i. Has code.spots at (λ s. Holds entry at → Guarded code 0 entry i s)) 0 code.instrs
 guarded = (
@@ -282,7 +272,7 @@ guarded = (
       (
         (λ h. absurd (let a = h.0 in let b = h.1 in omega (arith, a, b))),
         (
-          (λ h. absurd (let a = h.0 in let b = h.1 in omega (arith, a, b))),
+          (λ h. record { same_body = refl; nest = omega arith; depth = omega arith; first = omega arith }),
           (
             (λ h. record { same_body = refl; nest = omega arith; depth = omega arith; first = omega arith }),
             (
@@ -324,20 +314,14 @@ guarded = (
                                                 (
                                                   (λ h. record { same_body = refl; nest = omega arith; depth = omega arith; first = omega arith }),
                                                   (
-                                                    (λ h. record { same_body = refl; nest = omega arith; depth = omega arith; first = omega arith }),
+                                                    (λ h. absurd (let a = h.0 in let b = h.1 in omega (arith, a, b))),
                                                     (
-                                                      (λ h. record { same_body = refl; nest = omega arith; depth = omega arith; first = omega arith }),
+                                                      (λ h. absurd (let a = h.0 in let b = h.1 in omega (arith, a, b))),
                                                       (
                                                         (λ h. absurd (let a = h.0 in let b = h.1 in omega (arith, a, b))),
                                                         (
                                                           (λ h. absurd (let a = h.0 in let b = h.1 in omega (arith, a, b))),
-                                                          (
-                                                            (λ h. absurd (let a = h.0 in let b = h.1 in omega (arith, a, b))),
-                                                            (
-                                                              (λ h. absurd (let a = h.0 in let b = h.1 in omega (arith, a, b))),
-                                                              tt,
-                                                            ),
-                                                          ),
+                                                          tt,
                                                         ),
                                                       ),
                                                     ),

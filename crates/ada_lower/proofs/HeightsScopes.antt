@@ -34,7 +34,7 @@ use Rattle.lower_emission.specs.declared.types.Mark.{Mark}
 use Rattle.lower_emission.specs.declared.types.Level.{Level}
 use Rattle.lower_emission.specs.declared.types.Level.TheVariants.{Own, Around, Main}
 use Rattle.lower_emission.specs.Emits.{Emit}
-use Rattle.lower_emission.specs.Scope.{Scope, own, taking, nested, thread_scope, with_object, with_parameter, with_item, with_target, with_handled, with_exit, with_entry, root_of, constant_root_of, array_root_of, mark, none, one, keep, ◌⨟◌, load_at, address_at, store_at, address_of, outer_level, outer_where, outer_named, moved_where, moved_named}
+use Rattle.lower_emission.specs.Scope.{Scope, own, taking, nested, thread_scope, with_object, with_parameter, with_item, with_target, with_handled, with_exit, with_entry, root_of, constant_root_of, array_root_of, mark, none, one, keep, load_at, address_at, store_at, address_of, outer_level, outer_where, outer_named, moved_where, moved_named, keep_checked}
 use Rattle.lower_emission.specs.Emission.{checked, load_by, load_named, load_where, address, indexed_by, item_by, main_level, main_named, component_address, component_value, unary_instr, binary_instr, static_instr, operated_by, compare_instr, within, negated_code, leaving_by, counting, bounds_code, ascending, stepping, chunk_scope, raise_above, raise_beyond}
 use Rattle.lower_emission.proofs.Fused.{of_operated, of_component_address, of_component_value}
 use Rattle.ada_lower.proofs.Heights.{Place, Here, up, Also, In, Kept, Step, Firm}
@@ -297,6 +297,9 @@ module _ (c : Code) where
 
     pub firm_keep : (h n : ℕ) → Kept c (keep s (h + 1) n) → Firm c l (keep s (h + 1) n) (at s (h + 1)) (at s h)
     firm_keep h n r = record { here = refl; marked = k.entry; base = h; operands = refl; begun = omega arith; ways = refl; belongs = λ q. kept_cell n r.0 }
+
+    pub firm_keep_checked : (h n : ℕ) (x : Scalar) → Kept c (keep_checked s (h + 1) x n) → Firm c l (keep_checked s (h + 1) x n) (at s (h + 1)) (at s h)
+    firm_keep_checked h n x r = record { here = refl; marked = k.entry; base = h; operands = refl; begun = omega arith; ways = refl; belongs = λ q. kept_cell n r.0 }
 
     pub firm_load_at : (h : ℕ) (level : Level) (n : ℕ) → LevelFits s.body s.free level n → In c s.body s.free → Firm c l (one s h (load_at level n)) (at s h) (at s (h + 1))
     firm_load_at h Own n f r = firm_own h n (in_le s.body n s.free f r)

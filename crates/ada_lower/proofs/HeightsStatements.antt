@@ -23,18 +23,20 @@ use Rattle.stack_code.specs.Operands.{is_reduction}
 use Rattle.stack_code.specs.Valid.{Has, IsThread, IsCallee, outward}
 use Rattle.lower_emission.specs.declared.types.Where.{Where}
 use Rattle.lower_emission.specs.declared.types.Named.{Named}
+use Rattle.lower_emission.specs.declared.types.Level.{Level}
+use Rattle.lower_emission.specs.declared.types.Level.TheVariants.{Own}
 use Rattle.lower_emission.specs.declared.types.Leaving.{Leaving}
 use Rattle.lower_emission.specs.declared.types.Leaving.TheVariants.{ByReturn, ByValue, ByEnd, ByLeave}
 use Rattle.lower_emission.specs.Emits.{Emit}
 use Rattle.lower_emission.specs.Scope.{Scope, own, taking, nested, thread_scope, with_object, with_target, with_handled, with_exit, with_entry, root_of, none, one, ◌⨟◌, choose, when_}
-use Rattle.lower_emission.specs.Emission.{is_whole, chunk_scope, loop_kind, shapes, shapes_cells, formals_in, formal_of, cells_of, passing, composite_width, width, checked}
+use Rattle.lower_emission.specs.Emission.{is_whole, chunk_scope, loop_kind, shapes, shapes_cells, formals_in, formal_of, cells_of, passing, composite_width, width}
 unfoldable use Rattle.lower_emission.specs.Emission.{emit, selected, passed, put_into, composed, chunk_code, course_code, threaded}
-use Rattle.lower_emission.specs.Statements.{no_handler, is_end, assigned, in_span, chosen, has_reason, handled_by, returning, returning_value, away, exiting, handled_target, image_instr, send_instr, width_of, piece_texts, object_here, exits_of, arm_exits, left_by, exits_code, is_own, left_code, field_defaults, default_of, defaults_within, subtype_or_none, defaulted, declared, back_one, back_cells, parallel_for, in_share, arms_code, chunk_by, arm_scope, parallel_block}
+use Rattle.lower_emission.specs.Statements.{no_handler, is_end, assigned, in_span, chosen, has_reason, handled_by, returning, returning_value, away, exiting, handled_target, image_instr, send_instr, width_of, piece_texts, object_here, exits_of, arm_exits, left_by, exits_code, is_own, left_code, field_defaults, default_of, defaults_within, subtype_or_none, defaulted, declared, back_one, back_cells, parallel_for, in_share, arms_code, chunk_by, arm_scope, parallel_block, store_checked}
 unfoldable use Rattle.lower_emission.specs.Statements.{back_code, piece_values, stmt, all, cases, handling, arm_codes}
 use Rattle.ada_lower.specs.Defaults.{EachFilled, FilledOf, FilledWithin, Filled}
 use Rattle.ada_lower.specs.Ready.{Calls, ReadyOptional, ReadyIteration, ReadyChunk, ReadyPieces, ReadyDecls, ReadyStmt, ReadyAll, ReadyAlternatives, ReadyArms, ReadyHandlers}
 use Rattle.ada_lower.proofs.Heights.{Place, Here, up, Also, In, Told, Kept, Firm}
-use Rattle.ada_lower.proofs.HeightsScopes.{at, Known, Fits, in_le, known_taking, known_nested, known_more, known_object, known_target, known_handled, known_exit, known_entry, known_thread, known_chunk, plain, firm_raise, firm_own, firm_local, kept_next, kept_cell, firm_keep, firm_load_at, firm_store_at, firm_address_of, firm_cond, firm_address, root_fits, firm_checked, firm_call}
+use Rattle.ada_lower.proofs.HeightsScopes.{at, Known, Fits, in_le, known_taking, known_nested, known_more, known_object, known_target, known_handled, known_exit, known_entry, known_thread, known_chunk, plain, firm_raise, firm_own, firm_local, kept_next, kept_cell, firm_keep, firm_load_at, firm_store_at, firm_address_of, firm_cond, firm_address, root_fits, firm_checked, firm_call, LevelFits}
 use Rattle.ada_lower.proofs.HeightsValues.{Same, at_same, chunk_same, told_around, told_cells, told_thread, told_far, firm_fork, firm_nest, firm_unnest, firm_doubled, chunk_room, course_room, firm_ends, firm_emit, firm_selected, firm_passed, firm_into, firm_composed, firm_iterated, firm_chunk, firm_course, firm_threaded}
 
 module _ (c : Code) where
@@ -218,14 +220,18 @@ module _ (c : Code) where
 
     -- ---- assignments
 
-    firm_assigned : (o : Option Named) (whole : Bool) (part : Emit) (value : Scope → ℕ → Emit) → ((n : Named) → o ≡ Some n → Fits c s n) → (Kept c part → Firm c l part (at s 1) (at s 1)) → ((u : Scope) (h : ℕ) → Known c l u → Kept c (value u h) → Firm c l (value u h) (at u h) (at u (h + 1)))
-        → Kept c (assigned s o whole part value) → Firm c l (assigned s o whole part value) (at s 0) (at s 0)
-    firm_assigned None whole part value f g v r = firm_raise c l s k.names 0 _ (at s 0)
-    firm_assigned (Some n) whole part value f g v r = firm_cond c l s k.names (whole && not n.through) _ _ (at s 0) (at s 0)
-        (λ r. (at s 1, v (with_target n s) 0 (known_target c l s n (f n refl) k.names) r.0, firm_store_at c l s k.names 0 n.place.level n.place.cell (f n refl) r.1.0))
+    firm_store_checked : (x : Scalar) (level : Level) (n : ℕ) → LevelFits c s.body s.free level n → Kept c (store_checked s x level n) → Firm c l (store_checked s x level n) (at s 1) (at s 0)
+    firm_store_checked x Own n f r = record { here = refl; marked = k.names.entry; base = 0; operands = refl; begun = omega arith; ways = refl; belongs = λ q. in_le c s.body n s.free f r.0 }
+    firm_store_checked x level n f r = (at s 1, firm_checked c l s k.names 0 x, firm_store_at c l s k.names 0 level n f r.1.0)
+
+    firm_assigned : (o : Option Named) (whole : Bool) (x : Scalar) (part : Emit) (value : Scope → ℕ → Emit) → ((n : Named) → o ≡ Some n → Fits c s n) → (Kept c part → Firm c l part (at s 1) (at s 1)) → ((u : Scope) (h : ℕ) → Known c l u → Kept c (value u h) → Firm c l (value u h) (at u h) (at u (h + 1)))
+        → Kept c (assigned s o whole x part value) → Firm c l (assigned s o whole x part value) (at s 0) (at s 0)
+    firm_assigned None whole x part value f g v r = firm_raise c l s k.names 0 _ (at s 0)
+    firm_assigned (Some n) whole x part value f g v r = firm_cond c l s k.names (whole && not n.through) _ _ (at s 0) (at s 0)
+        (λ r. (at s 1, v (with_target n s) 0 (known_target c l s n (f n refl) k.names) r.0, firm_store_checked x n.place.level n.place.cell (f n refl) r.1))
         (λ r.
-        let (r1, (r2, (r3, (r4, (r5, r6))))) = r in
-        (at s 1, firm_address_of c l s k.names 0 n (f n refl) r1.0, (at s 1, g r2, (at s 2, plain c l s k.names 0 i.Dup tt, (at s 1, firm_keep c l s k.names 1 s.free r4, (at s 2, v (with_target (record { through = true; place = own s.free; cells = 1 }) (taking 1 s)) 1 (known_target c l (taking 1 s) (record { through = true; place = own s.free; cells = 1 }) (omega arith) (known_taking c l s 1 k.names)) r5, plain c l s k.names 0 i.Store tt)))))) r
+        let (r1, (r2, (r3, (r4, (r5, (r6, r7)))))) = r in
+        (at s 1, firm_address_of c l s k.names 0 n (f n refl) r1.0, (at s 1, g r2, (at s 2, plain c l s k.names 0 i.Dup tt, (at s 1, firm_keep c l s k.names 1 s.free r4, (at s 2, v (with_target (record { through = true; place = own s.free; cells = 1 }) (taking 1 s)) 1 (known_target c l (taking 1 s) (record { through = true; place = own s.free; cells = 1 }) (omega arith) (known_taking c l s 1 k.names)) r5, (at s 2, firm_checked c l s k.names 1 x, plain c l s k.names 0 i.Store tt))))))) r
 
 -- ---- objects without an initial value
 
@@ -295,7 +301,7 @@ module _ (c : Code) (program : Program) (filled : (x : ℕ) → Filled program x
   unfolding emit
   back_in l s k h sub n NoActual r = tt
   back_in l s k h sub n (InMode formal value rest) (r, r') = back_in l s k h sub n rest r'
-  back_in l s k h sub n (InOut formal a q selections inner outer rest) ((r1, (r2, (r3, (r4, (r5, (r6, r7)))))), r8) = (kept_cell c l s k (formal_of program sub n (VariableOf formal) + 1) r7.0, back_in l s k h sub n rest r8)
+  back_in l s k h sub n (InOut formal a q selections inner outer rest) ((r1, (r2, (r3, (r4, (r5, r6))))), r7) = (kept_cell c l s k (formal_of program sub n (VariableOf formal) + 1) r6.0, back_in l s k h sub n rest r7)
   back_in l s k h sub n (Out formal a q selections inner outer rest) ((r1, (r2, (r3, (r4, r5)))), r6) = (kept_cell c l s k (formal_of program sub n (VariableOf formal) + 1) r5.0, back_in l s k h sub n rest r6)
   back_in l s k h sub n (CompositeInOut formal a q selections subtype rest) ((r1, (r2, (r3, (r4, (r5, r6))))), r7) = (kept_next c l s k (formal_of program sub n (VariableOf formal)) r5.0, back_in l s k h sub n rest r7)
   back_in l s k h sub n (CompositeOut formal a q selections subtype rest) ((r1, (r2, (r3, (r4, (r5, r6))))), r7) = (kept_next c l s k (formal_of program sub n (VariableOf formal)) r5.0, back_in l s k h sub n rest r7)
@@ -459,8 +465,8 @@ module _ (c : Code) (program : Program) (filled : (x : ℕ) → Filled program x
     pub firm_stmt : (l : ℕ → Place → Type 0) (s : Scope) (x : Stmt) → ReadyStmt program x → Knows c l s → Kept c (stmt program s x) → Firm c l (stmt program s x) (at s 0) (at s 0)
     firm_stmt l s Null w k r = refl
     firm_stmt l s (Assign a q selections (Number check e)) w k r =
-        firm_assigned c l s k (root_of s q) (is_whole selections) (selected program s 1 selections) (λ u h. emit program u h e ⨟ checked u (h + 1) check.scalar) (root_fits c l s k.names q) (λ r. firm_selected c program subs l s 0 selections w.0 k.names r)
-        (λ u h k' r. (at u (h + 1), firm_emit c program subs l u h e w.1 k' r.0, firm_checked c l u k' h check.scalar)) r
+        firm_assigned c l s k (root_of s q) (is_whole selections) check.scalar (selected program s 1 selections) (λ u h. emit program u h e) (root_fits c l s k.names q) (λ r. firm_selected c program subs l s 0 selections w.0 k.names r)
+        (λ u h k' r. firm_emit c program subs l u h e w.1 k' r) r
     firm_stmt l s (Assign a q selections (Cells x)) w k (r1, (r2, (r3, (r4, (r5, (r6, r7)))))) =
         let n : ℕ = composite_width program x in
         let next : In c s.body (s.free + 1) = kept_next c l s k.names s.free r3.0 in (

@@ -20,13 +20,13 @@ use Rattle.stack_code.proofs.Standing.{has_one}
 use Rattle.stack_code.proofs.Lists.{has_map}
 use Rattle.lower_emission.specs.Emits.{Emit}
 use Rattle.lower_emission.specs.Scope.{Scope, own, taking, nested, thread_scope, with_parameter, with_item, root_of, constant_root_of, array_root_of, none, one, keep, looped, from, ◌⨟◌}
-use Rattle.lower_emission.specs.Emission.{is_plain, is_repeated, Shape, lead, shapes, shapes_cells, formal_cell, address, folding, ranged, reducing, combined, leaving_by, first_parameter, range_scope, item_scope, doubled, filling, fillings, iterated_scope, turning, turnings, entering, entering_next, run_steps, run_turnings, turn_height, components_of, locating, locating_in, repeating, is_whole, chunk_scope, ends_code, reduction_kind, fork_code, turn_range, turn_component, cells_of, formals_in, formal_of, passing, composite_width, width, own_cell, main_named}
+use Rattle.lower_emission.specs.Emission.{is_plain, is_repeated, Shape, lead, shapes, shapes_cells, formal_cell, address, folding, ranged, reducing, combined, leaving_by, first_parameter, range_scope, item_scope, doubled, filling, fillings, iterated_scope, turning, turnings, entering, entering_next, run_steps, run_turnings, turn_height, components_of, locating, locating_in, repeating, is_whole, chunk_scope, ends_code, reduction_kind, fork_code, turn_range, turn_component, cells_of, formals_in, formal_of, passing, composite_width, width, own_cell}
 use Rattle.lower_emission.specs.declared.types.Named.{Named}
 unfoldable use Rattle.lower_emission.specs.Emission.{emit, named_value, selected, read, passed, put_into, composed, associated, component, filtered, iterated, chunk_code, course_code, threaded}
 use Rattle.ada_lower.specs.Ready.{RunsIn, Calls, ReadyReducer, ReadyExpr, ReadyOptional, ReadySelections, ReadyActuals, ReadyValue, ReadyComposite, ReadyAssociations, ReadyIteration, ReadyChunk}
 use Rattle.lower_emission.proofs.OwnCells.{emit_own}
 use Rattle.ada_lower.proofs.Heights.{Place, Here, Behind, up, Also, In, Told, Kept, Firm}
-use Rattle.ada_lower.proofs.HeightsScopes.{at, Known, Fits, in_le, known_taking, known_nested, known_more, known_parameter, known_item, known_leaving, known_thread, known_chunk, plain, firm_own, firm_local, kept_next, firm_keep, firm_cond, firm_indexed, firm_item, firm_named, firm_where, firm_address, root_fits, constant_root_fits, array_root_fits, firm_component_address, firm_component_value, firm_unary, firm_binary, firm_operated, firm_compare, firm_within, firm_negated, firm_checked, firm_bounds, firm_ascending, firm_raise_above, firm_raise_beyond, firm_counting, firm_call, firm_call_back, firm_stepping}
+use Rattle.ada_lower.proofs.HeightsScopes.{at, Known, Fits, in_le, known_taking, known_nested, known_more, known_parameter, known_item, known_leaving, known_thread, known_chunk, plain, firm_own, firm_local, kept_next, firm_keep, firm_keep_checked, firm_cond, firm_indexed, firm_item, firm_named, firm_where, firm_address, root_fits, constant_root_fits, array_root_fits, firm_component_address, firm_component_value, firm_unary, firm_binary, firm_operated, firm_compare, firm_within, firm_negated, firm_checked, firm_bounds, firm_ascending, firm_raise_above, firm_raise_beyond, firm_counting, firm_call, firm_call_back, firm_stepping}
 use Rattle.ada_meaning.specs.Meaning.{most_threads}
 
 -- ---- scopes that differ in names alone
@@ -313,9 +313,9 @@ first_below false n = omega arith
 module _ (c : Code) (program : Program) (subs : (sub : ℕ) (gives : Bool) → Calls program sub gives → Has c.subs (sub + 1) (λ u. (u.takes ≡ 0) × (u.gives ≡ gives))) where
   firm_folding : (l : ℕ → Place → Type 0) (s : Scope) (h : ℕ) (by : Reducer) → ReadyReducer program by → Known c l s → Kept c (folding s h by) → Firm c l (folding s h by) (at s (h + 1 + 1)) (at s (h + 1))
   firm_folding l s h (Operator a o class) w k r = firm_binary c l s k h o class
-  firm_folding l s h (Function a sub accumulator value) w k (r1, (r2, (r3, (r4, (r5, (r6, r7)))))) =
+  firm_folding l s h (Function a sub accumulator value) w k (r1, (r2, (r3, (r4, (r5, r6))))) =
       let all : In c s.body (s.free + 1 + 1) = kept_next c l s k (s.free + 1) r1.0 in
-      (at s (h + 1), firm_keep c l s k (h + 1) (s.free + 1) r1, (at s (h + 1), firm_checked c l s k h accumulator, (at s h, firm_keep c l s k h s.free r3, (at s (h + 1), firm_own c l s k h (s.free + 1) (in_le c s.body (s.free + 1) (s.free + 1 + 1) (omega arith) all), (at s (h + 1), firm_checked c l s k h value, (at s h, plain c l s k h i.Pop tt, firm_call c l s k h sub s.free true (subs sub true w)))))))
+      (at s (h + 1), firm_keep c l s k (h + 1) (s.free + 1) r1, (at s h, firm_keep_checked c l s k h s.free accumulator r2, (at s (h + 1), firm_own c l s k h (s.free + 1) (in_le c s.body (s.free + 1) (s.free + 1 + 1) (omega arith) all), (at s (h + 1), firm_checked c l s k h value, (at s h, plain c l s k h i.Pop tt, firm_call c l s k h sub s.free true (subs sub true w))))))
 
   firm_ranged : (l : ℕ → Place → Type 0) (s : Scope) → Known c l s → (h n : ℕ) (subtype : Scalar) → In c s.body n → Firm c l (ranged s h n subtype) (at s h) (at s (h + 1))
   firm_ranged l s k h n subtype r =
@@ -507,14 +507,13 @@ module _ (c : Code) (program : Program) (subs : (sub : ℕ) (gives : Bool) → C
 
     pub firm_passed : (l : ℕ → Place → Type 0) (s : Scope) (h sub n : ℕ) (x : Actuals) → ReadyActuals program sub x → Known c l s → n + shapes_cells (shapes program (formals_in program sub)) ≤ s.free → Kept c (passed program s h sub n x) → Firm c l (passed program s h sub n x) (at s h) (at s h)
     firm_passed l s h sub n NoActual w k le r = refl
-    firm_passed l s h sub n (InMode formal (Number check e) rest) w k le ((r1, (r2, r3)), r4) =
-        (at s h, (at s (h + 1), firm_emit l s h e w.0 k r1, (at s (h + 1), firm_checked c l s k h check.scalar, firm_keep c l s k h _ r3)), firm_passed l s h sub n rest w.1 k le r4)
+    firm_passed l s h sub n (InMode formal (Number check e) rest) w k le ((r1, r2), r3) = (at s h, (at s (h + 1), firm_emit l s h e w.0 k r1, firm_keep_checked c l s k h _ check.scalar r2), firm_passed l s h sub n rest w.1 k le r3)
     firm_passed l s h sub n (InMode formal (Cells x) rest) w k le (r1, r2) =
         let e = formal_moved (shapes program (formals_in program sub)) n (ConstantOf formal) in
         let z = w.0 in
         (at s h, firm_composed l s h (formal_of program sub n (ConstantOf formal)) (composite_width program x) x w.1 k (omega (arith, e, z, le)) r1, firm_passed l s h sub n rest w.2 k le r2)
-    firm_passed l s h sub n (InOut formal a q selections inner outer rest) w k le ((r1, (r2, (r3, (r4, (r5, (r6, r7)))))), r8) =
-        (at s h, (at s (h + 1), firm_address c l s k h (root_of s q) (root_fits c l s k q) r1, (at s (h + 1), firm_selected l s h selections w.0 k r2, (at s (h + 1 + 1), plain c l s k h i.Dup tt, (at s (h + 1), firm_keep c l s k (h + 1) _ r4, (at s (h + 1), plain c l s k h i.Load tt, (at s (h + 1), firm_checked c l s k h inner, firm_keep c l s k h _ r7)))))), firm_passed l s h sub n rest w.1 k le r8)
+    firm_passed l s h sub n (InOut formal a q selections inner outer rest) w k le ((r1, (r2, (r3, (r4, (r5, r6))))), r7) =
+        (at s h, (at s (h + 1), firm_address c l s k h (root_of s q) (root_fits c l s k q) r1, (at s (h + 1), firm_selected l s h selections w.0 k r2, (at s (h + 1 + 1), plain c l s k h i.Dup tt, (at s (h + 1), firm_keep c l s k (h + 1) _ r4, (at s (h + 1), plain c l s k h i.Load tt, firm_keep_checked c l s k h _ inner r6))))), firm_passed l s h sub n rest w.1 k le r7)
     firm_passed l s h sub n (Out formal a q selections inner outer rest) w k le ((r1, (r2, (r3, (r4, r5)))), r6) = (
       at s h,
       (at s (h + 1), firm_address c l s k h (root_of s q) (root_fits c l s k q) r1, (at s (h + 1), firm_selected l s h selections w.0 k r2, (at s h, firm_keep c l s k h _ r3, (at s (h + 1), plain c l s k h (i.Push inner.low) tt, firm_keep c l s k h _ r5)))),
@@ -524,7 +523,7 @@ module _ (c : Code) (program : Program) (subs : (sub : ℕ) (gives : Bool) → C
     firm_passed l s h sub n (CompositeOut formal a q selections subtype rest) w k le (r1, r2) = (at s h, firm_back l s h (formal_of program sub n (VariableOf formal)) q (selected program s (h + 1 + 1) selections) subtype k (λ r. firm_selected l s (h + 1) selections w.0 k r) r1, firm_passed l s h sub n rest w.1 k le r2)
 
     pub firm_into : (l : ℕ → Place → Type 0) (s : Scope) (h t n : ℕ) (x : Value) → ReadyValue program n x → Known c l s → t + n ≤ s.free → Kept c (put_into program s h t x) → Firm c l (put_into program s h t x) (at s h) (at s h)
-    firm_into l s h t n (Number check e) w k le (r1, (r2, r3)) = (at s (h + 1), firm_emit l s h e w k r1, (at s (h + 1), firm_checked c l s k h check.scalar, firm_keep c l s k h t r3))
+    firm_into l s h t n (Number check e) w k le (r1, r2) = (at s (h + 1), firm_emit l s h e w k r1, firm_keep_checked c l s k h t check.scalar r2)
     firm_into l s h t n (Cells x) w k le r = firm_composed l s h t n x w k le r
 
     pub firm_composed : (l : ℕ → Place → Type 0) (s : Scope) (h t n : ℕ) (x : Composite) → ReadyComposite program n x → Known c l s → t + n ≤ s.free → Kept c (composed program s h t x) → Firm c l (composed program s h t x) (at s h) (at s h)

@@ -1,5 +1,5 @@
 -- Where a construct goes through an array, the cells of a path are those at the item's position.
-use Rattle.std.proofs.Common.{◌≡◌, ℕ, zero, suc, ◌+◌, ◌*◌, ◌/◌, ◌%◌, ◌<◌, ◌≤◌, nat_le, ℤ, pos, ◌+ℤ◌, ◌-ℤ◌, List, [], ◌∷◌, ◌++◌, replicate, ◌⊎◌, inl, inr, ⊎_elim, Option, Some, None, Bool, true, false, refl, sym, ap, ◌∙◌, subst, arith, true≢false, leb-true, leb-false}
+use Rattle.std.proofs.Common.{◌≡◌, ℕ, zero, suc, ◌+◌, ◌*◌, ◌/◌, ◌%◌, ◌<◌, ◌≤◌, nat_le, ℤ, pos, ◌+ℤ◌, ◌-ℤ◌, List, [], ◌∷◌, ◌++◌, replicate, inl, inr, ⊎_elim, Option, Some, None, Bool, true, false, refl, sym, ap, ◌∙◌, subst, arith, true≢false, leb-true, leb-false}
 use native.Mathlib.Nat.{add-mul, mul-le-mul_left, mul_comm, mul_assoc, mul-one, mul-zero, mod-add-div, mod-lt}
 use Rattle.behaviours.specs.Joins.{Now}
 use Rattle.ada_meaning.specs.Values.{between, to_nat, count}

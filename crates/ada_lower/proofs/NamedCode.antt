@@ -1,5 +1,5 @@
 -- What the listed instructions of a program name: its bodies, its constructs and its texts.
-use Rattle.std.proofs.Common.{◌≡◌, ℕ, zero, suc, ◌+◌, ◌-◌, ◌<◌, min, ℤ, pos, ◌&&◌, not, List, [], ◌∷◌, ◌++◌, length, slice_get, nat_eq, nat_lt, Option, Some, None, Bool, true, false, cond, refl, sym, subst, arith}
+use Rattle.std.proofs.Common.{◌≡◌, ℕ, zero, suc, ◌+◌, ◌-◌, ◌<◌, min, ℤ, ◌&&◌, not, List, [], ◌∷◌, ◌++◌, length, slice_get, nat_eq, nat_lt, Option, Some, None, Bool, true, false, cond, refl, sym, subst, arith}
 use Rattle.std.proofs.lemmas.Option.{none-some}
 use Rattle.ada_meaning.proofs.Cells.{some_same}
 use Rattle.ada_base.specs.declared.operation.Op.{Op}
@@ -39,7 +39,7 @@ use Rattle.lower_emission.specs.Scope.{Scope, own, taking, nested, thread_scope,
 use Rattle.lower_emission.specs.Emission.{is_plain, is_repeated, Shape, shapes, load_by, load_named, load_where, address, is_whole, unary_instr, binary_instr, static_instr, operated_by, compare_instr, within, negated_code, leaving_by, first_parameter, range_scope, item_scope, counting, bounds_code, ascending, stepping, folding, ranged, combined, doubled, filling, fillings, iterated_scope, turnings, entering, entering_next, run_steps, run_turnings, turn_height, components_of, locating, locating_in, repeating, chunk_scope, raise_above, raise_beyond, ends_code, turn_range, turn_component, cells_of, passing, composite_width, width, own_cell, indexed_by, item_by, main_named, component_address, component_value}
 use Rattle.lower_emission.proofs.Fused.{of_operated, of_component_address, of_component_value}
 unfoldable use Rattle.lower_emission.specs.Emission.{emit, named_value, selected, read, passed, put_into, composed, associated, component, filtered, iterated, chunk_code, course_code, threaded}
-use Rattle.lower_emission.specs.Statements.{no_handler, is_end, assigned, in_span, chosen, has_reason, handled_by, returning, returning_value, away, exiting, handled_target, image_instr, send_instr, piece_texts, object_here, exits_of, arm_exits, left_by, exits_code, is_own, left_code, field_defaults, default_of, defaults_within, subtype_or_none, defaulted, declared, parallel_for, arms_code, chunk_by, arm_scope, parallel_block}
+use Rattle.lower_emission.specs.Statements.{no_handler, is_end, assigned, in_span, chosen, has_reason, handled_by, returning, returning_value, away, exiting, handled_target, image_instr, send_instr, piece_texts, object_here, exits_of, arm_exits, left_by, exits_code, is_own, left_code, field_defaults, default_of, defaults_within, subtype_or_none, defaulted, declared, parallel_for, arms_code, chunk_by, arm_scope, parallel_block, store_checked}
 unfoldable use Rattle.lower_emission.specs.Statements.{back_code, piece_values, stmt, all, cases, handling, arm_codes}
 use Rattle.lower_emission.specs.Bodies as code
 use Rattle.lower_emission.specs.Programs.{text_in, has_fork, idle_fork, idle_forks, whole_code, placed_code}
@@ -225,7 +225,7 @@ module _ (program : Program) where
 
     made_folding : (h : ℕ) (by : Reducer) → Made (folding s h by)
     made_folding h (Operator a x class) = made_binary (h + 1 + 1) x class
-    made_folding h (Function a sub accumulator value) = ((k.0, tt), ((k.0, tt), ((k.0, tt), ((k.0, tt), ((k.0, tt), ((k.0, tt), (k.0, tt)))))))
+    made_folding h (Function a sub accumulator value) = ((k.0, tt), ((k.0, tt), ((k.0, tt), ((k.0, tt), ((k.0, tt), (k.0, tt))))))
 
     made_ranged : (h n : ℕ) (subtype : Scalar) → Made (ranged s h n subtype)
     made_ranged h n subtype = ((k.0, tt), ((k.0, tt), ((k.0, tt), ((k.0, tt), ((k.0, tt), ((k.0, tt), (k.0, tt)))))))
@@ -390,7 +390,7 @@ module _ (program : Program) where
     made_passed o s h sub n NoActual w k = tt
     made_passed o s h sub n (In formal value rest) w k = (made_into o s h _ value w.0 k, made_passed o s h sub n rest w.1 k)
     made_passed o s h sub n (InOut formal a r selections inner outer rest) w k =
-        ((made_address o s k h (root_of s r), (made_selected o s (h + 1) selections w.0 k, ((k.0, tt), ((k.0, tt), ((k.0, tt), ((k.0, tt), (k.0, tt))))))), made_passed o s h sub n rest w.1 k)
+        ((made_address o s k h (root_of s r), (made_selected o s (h + 1) selections w.0 k, ((k.0, tt), ((k.0, tt), ((k.0, tt), (k.0, tt)))))), made_passed o s h sub n rest w.1 k)
     made_passed o s h sub n (Out formal a r selections inner outer rest) w k = ((made_address o s k h (root_of s r), (made_selected o s (h + 1) selections w.0 k, ((k.0, tt), ((k.0, tt), (k.0, tt))))), made_passed o s h sub n rest w.1 k)
     made_passed o s h sub n (CompositeInOut formal a r selections subtype rest) w k =
         (((k.0, tt), (made_address o s k (h + 1) (root_of s r), (made_selected o s (h + 1 + 1) selections w.0 k, ((k.0, tt), ((k.0, tt), (k.0, tt)))))), made_passed o s h sub n rest w.1 k)
@@ -398,7 +398,7 @@ module _ (program : Program) where
         (((k.0, tt), (made_address o s k (h + 1) (root_of s r), (made_selected o s (h + 1 + 1) selections w.0 k, ((k.0, tt), ((k.0, tt), (k.0, tt)))))), made_passed o s h sub n rest w.1 k)
 
     made_into : (o : Option ℕ) (s : Scope) (h n : ℕ) (x : Value) → SitedValue program o x → Inside o s → Made (put_into program s h n x)
-    made_into o s h n (Number check e) w k = (made_emit o s h e w k, ((k.0, tt), (k.0, tt)))
+    made_into o s h n (Number check e) w k = (made_emit o s h e w k, (k.0, tt))
     made_into o s h n (Cells x) w k = made_composed o s h n x w k
 
     made_composed : (o : Option ℕ) (s : Scope) (h n : ℕ) (x : Composite) → SitedComposite program o x → Inside o s → Made (composed program s h n x)
@@ -564,11 +564,15 @@ module _ (program : Program) where
     made_left number loops =
         ((k.0, tt), ((k.0, tt), ((k.0, tt), (k.0, ((made_left_by s.free 1, ((k.0, made_returning 0 s.leaving), (made_left_by s.free 2, (k.0, ((k.0, tt), made_returning_value s.leaving))))), made_exits s.free number loops)))))
 
-    made_assigned : (n : Option Named) (whole : Bool) (part : Emit) (value : Scope → ℕ → Emit) → Made part → ((u : Scope) (h : ℕ) → Inside o u → Made (value u h)) → Made (assigned s n whole part value)
-    made_assigned None whole part value f g = (k.0, tt)
-    made_assigned (Some n) whole part value f g =
-        made_cond o s k (whole && not n.through) _ _ (g (with_target n s) 0 k, made_store_at o s k 1 n.place.level n.place.cell)
-        (made_address_of o s k 0 n, (f, ((k.0, tt), ((k.0, tt), (g (with_target (record { through = true; place = own s.free; cells = 1 }) (taking 1 s)) 1 k, (k.0, tt))))))
+    made_store_checked : (x : Scalar) (level : Level) (n : ℕ) → Made (store_checked s x level n)
+    made_store_checked x Own n = (k.0, tt)
+    made_store_checked x level n = ((k.0, tt), made_store_at o s k 1 level n)
+
+    made_assigned : (n : Option Named) (whole : Bool) (x : Scalar) (part : Emit) (value : Scope → ℕ → Emit) → Made part → ((u : Scope) (h : ℕ) → Inside o u → Made (value u h)) → Made (assigned s n whole x part value)
+    made_assigned None whole x part value f g = (k.0, tt)
+    made_assigned (Some n) whole x part value f g =
+        made_cond o s k (whole && not n.through) _ _ (g (with_target n s) 0 k, made_store_checked x n.place.level n.place.cell)
+        (made_address_of o s k 0 n, (f, ((k.0, tt), ((k.0, tt), (g (with_target (record { through = true; place = own s.free; cells = 1 }) (taking 1 s)) 1 k, ((k.0, tt), (k.0, tt)))))))
 
   made_fields : (at : ℕ → ℕ → Emit) (n : ℕ) (fs : List Part) → ((n m : ℕ) → Made (at n m)) → Made (field_defaults program at n fs)
   made_fields at n [] g = tt
@@ -631,7 +635,7 @@ module _ (program : Program) where
 
     made_stmt : (o : Option ℕ) (s : Scope) (x : Stmt) → SitedStmt program o x → Inside o s → Made (stmt program s x)
     made_stmt o s Null w k = tt
-    made_stmt o s (Assign a r selections (Number check e)) w k = made_assigned o s k (root_of s r) (is_whole selections) (selected program s 1 selections) _ (made_selected o s 1 selections w.0 k) (λ u h k'. (made_emit o u h e w.1 k', (k'.0, tt)))
+    made_stmt o s (Assign a r selections (Number check e)) w k = made_assigned o s k (root_of s r) (is_whole selections) check.scalar (selected program s 1 selections) _ (made_selected o s 1 selections w.0 k) (λ u h k'. made_emit o u h e w.1 k')
     made_stmt o s (Assign a r selections (Cells x)) w k =
         (made_address o s k 0 (root_of s r), (made_selected o s 1 selections w.0 k, ((k.0, tt), (made_composed o (with_target (record { through = true; place = own s.free; cells = composite_width program x }) (taking (composite_width program x) (taking 1 s))) 0 (s.free + 1) x w.1 k, ((k.0, tt), ((k.0, tt), (k.0, tt)))))))
     made_stmt o s (CallProcedure a callee sub actuals) w k = (made_passed o (passing program sub s) 0 sub s.free actuals w k, ((k.0, tt), made_back o s sub s.free actuals k))

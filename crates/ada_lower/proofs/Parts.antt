@@ -18,13 +18,13 @@ use Rattle.stack_code.specs.declared.instr.Instr.{Instr}
 use Rattle.stack_code.specs.declared.instr.Instr.TheVariants as i
 use Rattle.ada_base.specs.Cells.{Mine, where_mine}
 use Rattle.stack_code.specs.Deeds
-use Rattle.stack_code.specs.Deeds.{Deed, GoesOn, Fails, deed_of, pushed}
+use Rattle.stack_code.specs.Deeds.{Deed, GoesOn, Fails, Stores, deed_of, pushed}
 use Rattle.stack_code.specs.Machine.{done}
 use Rattle.stack_code.specs.Machine
 use Rattle.ada_lower.specs.Driven.{Dyn, Fixed, Step, on, state_of, driven, At}
 use Rattle.ada_lower.specs.Emission.{binary_instr, fixed_instr}
 use Rattle.ada_lower.specs.Fits.{Keeps, Stands as StandsFor, allows, Ghost, Allows, Fit, Ends, left_by, Lands}
-use Rattle.ada_lower.proofs.Framework.{any, To, Doing, comes_here, comes_as, comes_goes, comes_fails, does_before, lands_from, leads_on}
+use Rattle.ada_lower.proofs.Framework.{any, To, Doing, comes_here, comes_as, comes_goes, comes_fails, does_before, does_seq, lands_from, leads_on}
 use Rattle.ada_lower.proofs.Memory.{set_what, IsOwn, fit_set, what_other, what_same, at_or_not}
 
 -- ---- numbers
@@ -167,6 +167,16 @@ module _ (limit : ℕ) (c : Code) (f : Fixed) (x : Ends) where
   does_check {q = q} kind token low high v false st e a =
       does_is (Err (Left (Raises reason.ConstraintError))) (check_is kind token false) (λ d. comes_fails limit c f (v ∷ st) st reason.ConstraintError d a (ap (λ b. pushed q (cond b (Some v) None) (st ++ f.below)) e))
 
+  -- the number on the stack is checked by the instruction that then stores it
+  pub does_within : {g : Ghost} {q n : ℕ} (kind : CheckKind) (token : ℕ) (low high v : ℤ) (b : Bool) (st : List ℤ) → between low v high ≡ b → At c q (i.SetL n low high) x.entry
+      → Runs g (λ _. b ≡ true) (stored.checks kind token b) (λ d. on f q (v ∷ st) d) (λ _ d. on f q (v ∷ st) d)
+  does_within {q = q} kind token low high v true st e a = does_is (Ok tt) (check_is kind token true) (refl, λ d. comes_here limit c (on f q (v ∷ st) d))
+  does_within {q = q} {n = n} kind token low high v false st e a =
+      does_is (Err (Left (Raises reason.ConstraintError))) (check_is kind token false) (λ d. comes_fails limit c f (v ∷ st) st reason.ConstraintError d a (ap (λ b. Deeds.stored q (pos (f.base + n)) (cond b (Some v) None) (st ++ f.below)) e))
+
+  pub set_deed : (q n : ℕ) (low high v : ℤ) (st : List ℤ) → between low v high ≡ true → deed_of c q (v ∷ st ++ f.below) f.base f.outward (i.SetL n low high) ≡ Stores (pos (f.base + n)) v (GoesOn (q + 1) (st ++ f.below))
+  set_deed q n low high v st e = ap (λ b. Deeds.stored q (pos (f.base + n)) (cond b (Some v) None) (st ++ f.below)) e
+
   -- the value goes on to another place
   pub does_to : {A : Type 0} {g h : Ghost} {q : A → Type 0} {m : Stored A} {from : Dyn → Step} {to : A → Dyn → Step} (to' : A → Dyn → Step) → ((a : A) (d : Dyn) → q a → To limit c (to a d) (to' a d)) → Doing limit c f x g h q m from to → Doing limit c f x g h q m from to'
   does_to {A} {g} {h} {q} {m} {from} {to} to' k j = record { by = λ s d fit al. go s.turns (from d) (m.does s).state (m.does s).end (j.by s d fit al) }
@@ -221,15 +231,26 @@ module _ (limit : ℕ) (c : Code) (f : Fixed) (x : Ends) where
       no_keep : Keeps v ≡ StandsFor y p → ⊥
       no_keep e = cc
 
-  -- the number on the stack goes to an own cell
-  pub does_keep : {A : Type 0} {g h : Ghost} {q : A → Type 0} {m : Stored A} {to : A → Dyn → Step} (at_ n : ℕ) (v : ℤ) (st : List ℤ) → IsOwn (g.what (f.base + n)) → At c at_ (i.StoreL n) x.entry
+  -- the number on the stack goes to an own cell, by any instruction that writes it there
+  writes_own : {A : Type 0} {g h : Ghost} {q : A → Type 0} {m : Stored A} {to : A → Dyn → Step} {k : Instr} (at_ n : ℕ) (v : ℤ) (st : List ℤ) → IsOwn (g.what (f.base + n)) → At c at_ k x.entry → deed_of c at_ (v ∷ st ++ f.below) f.base f.outward k ≡ Stores (pos (f.base + n)) v (GoesOn (at_ + 1) (st ++ f.below))
       → Doing limit c f x (set_what (f.base + n) (Keeps v) g) h q m (λ d. on f (at_ + 1) st d) to → Doing limit c f x g h q m (λ d. on f at_ (v ∷ st) d) to
-  does_keep {A} {g} {h} {q} {m} {to} at_ n v st own a j = does_first (fewer_keeps g (f.base + n) v) (λ s d fit.
+  writes_own {A} {g} {h} {q} {m} {to} at_ n v st own a deed j = does_first (fewer_keeps g (f.base + n) v) (λ s d fit.
       let (u, is) = own s (slice_get d.cells (f.base + n)) (fit.cells (f.base + n)) in (
         record d { cells = set d.cells (f.base + n) (Mine v) },
         fit_set (f.base + n) v own fit,
-        comes_as limit c f (v ∷ st) d a (ap (λ o. driven limit c (Rattle.stack_code.specs.Machine.with_cells (where_mine o (set d.cells (f.base + n) (Mine v))) (state_of f at_ (v ∷ st) [] None d) (λ s. done limit (GoesOn (at_ + 1) (st ++ f.below)) s)) d.world) is),
+        comes_as limit c f (v ∷ st) d a
+            (ap (λ w. driven limit c (done limit w (state_of f at_ (v ∷ st) [] None d)) d.world) deed
+            ∙ ap (λ o. driven limit c (Rattle.stack_code.specs.Machine.with_cells (where_mine o (set d.cells (f.base + n) (Mine v))) (state_of f at_ (v ∷ st) [] None d) (λ s. done limit (GoesOn (at_ + 1) (st ++ f.below)) s)) d.world) is),
       )) j
+
+  pub does_keep : {A : Type 0} {g h : Ghost} {q : A → Type 0} {m : Stored A} {to : A → Dyn → Step} (at_ n : ℕ) (v : ℤ) (st : List ℤ) → IsOwn (g.what (f.base + n)) → At c at_ (i.StoreL n) x.entry
+      → Doing limit c f x (set_what (f.base + n) (Keeps v) g) h q m (λ d. on f (at_ + 1) st d) to → Doing limit c f x g h q m (λ d. on f at_ (v ∷ st) d) to
+  does_keep at_ n v st own a j = writes_own at_ n v st own a refl j
+
+  -- it is checked, and goes to an own cell
+  pub does_set : {A : Type 0} {g h : Ghost} {q : A → Type 0} {to : A → Dyn → Step} (m : Unit {0} → Stored A) (kind : CheckKind) (token at_ n : ℕ) (low high v : ℤ) (st : List ℤ) → ((s : stored.State) (d : Dyn) → Fit g s d → Fit h s d) → IsOwn (g.what (f.base + n)) → At c at_ (i.SetL n low high) x.entry
+      → Doing limit c f x (set_what (f.base + n) (Keeps v) g) h q (m tt) (λ d. on f (at_ + 1) st d) to → Doing limit c f x g h q (stored.bind (stored.checks kind token (between low v high)) m) (λ d. on f at_ (v ∷ st) d) to
+  does_set m kind token at_ n low high v st weak own a j = does_seq limit c f x weak (λ ts al. al) (does_within kind token low high v (between low v high) st refl a) (λ _ is. writes_own at_ n v st own a (set_deed at_ n low high v st is) j)
 
   -- a test by the number on the stack
   pub does_choice : {A : Type 0} {g h : Ghost} {q : A → Type 0} {m n : Stored A} {at_ other : ℕ} {to : A → Dyn → Step} (v : ℤ) (st : List ℤ) → At c at_ (i.JFalse other) x.entry

@@ -50,9 +50,9 @@ code = record {
   texts = [];
 }
 
-stands : Stands code (main_code program none_there none_main [] text four_each (main_scope program none_there none_main [] text four_each 4).scope) 0 30
+stands : Stands code (main_code program none_there none_main [] text four_each (main_scope program none_there none_main [] text four_each 4).scope) 0 29
 unfolding Rattle.ada_lower.specs.Emission.emit Rattle.ada_lower.specs.Emission.stmt Rattle.ada_lower.specs.Emission.back_code Rattle.ada_lower.specs.Emission.piece_values
-stands = (record { is = inl refl; held = tt }, (record { is = inl refl; held = tt }, (record { is = inl refl; held = tt }, (record { is = inl refl; held = tt }, (record { is = inl refl; held = tt }, (record { is = inl refl; held = tt }, (record { is = inl refl; held = tt }, (record { is = inl refl; held = tt }, (record { is = inl refl; held = tt }, (record { is = inl refl; held = tt }, (record { is = inl refl; held = tt }, (record { is = inl refl; held = tt }, (record { is = inl refl; held = tt }, (record { is = inl refl; held = tt }, (record { is = inl refl; held = tt }, (record { is = inl refl; held = tt }, (record { is = inl refl; held = tt }, (record { is = inl refl; held = tt }, (record { is = inl refl; held = tt }, (record { is = inl refl; held = tt }, (record { is = inl refl; held = tt }, (record { is = inl refl; held = tt }, (record { is = inl refl; held = tt }, (record { is = inl refl; held = tt }, (record { is = inl refl; held = tt }, (record { is = inl refl; held = tt }, (record { is = inl refl; held = tt }, (record { is = inl refl; held = tt }, (record { is = inl refl; held = tt }, (record { is = inl refl; held = tt }, refl))))))))))))))))))))))))))))))
+stands = (record { is = inl refl; held = tt }, (record { is = inl refl; held = tt }, (record { is = inl refl; held = tt }, (record { is = inl refl; held = tt }, (record { is = inl refl; held = tt }, (record { is = inl refl; held = tt }, (record { is = inl refl; held = tt }, (record { is = inl refl; held = tt }, (record { is = inl refl; held = tt }, (record { is = inl refl; held = tt }, (record { is = inl refl; held = tt }, (record { is = inl refl; held = tt }, (record { is = inl refl; held = tt }, (record { is = inl refl; held = tt }, (record { is = inl refl; held = tt }, (record { is = inl refl; held = tt }, (record { is = inl refl; held = tt }, (record { is = inl refl; held = tt }, (record { is = inl refl; held = tt }, (record { is = inl refl; held = tt }, (record { is = inl refl; held = tt }, (record { is = inl refl; held = tt }, (record { is = inl refl; held = tt }, (record { is = inl refl; held = tt }, (record { is = inl refl; held = tt }, (record { is = inl refl; held = tt }, (record { is = inl refl; held = tt }, (record { is = inl refl; held = tt }, (record { is = inl refl; held = tt }, refl)))))))))))))))))))))))))))))
 
 named : Named
 named = main_named 0 1
@@ -77,7 +77,7 @@ pub comes : (limit : ℕ) (cuts : ℕ → ℕ → List ℕ) (slots : ℕ) (input
     → (d : Dyn) × Finally limit code (On (record { state = begun 0 0 [] 0 0 0 None (replicate 4 (Mine (pos 0))); world = (first_dyn notes cuts 4 input before).world })) (record { how = Done None; dyn = d }) × (d.world.output ≡ r.state.output)
     × ((v : slot.Variable) → slice_get r.state.declared 0 ≡ Some v → (i : ℕ) → i < v.cells → (u : ℤ) × (slice_get r.state.kept (v.address + i) ≡ Some u) × (slice_get d.cells (0 + i) ≡ Some (Mine u)))
 comes limit cuts slots input before notes e =
-    let (d, a, b, t, w) = program_gives None limit cuts program code none_there none_main no_threads [] text four_each no_fork slots 4 refl (call_only limit cuts program (λ n sub e. absurd (none-some sub e)) 1000) (λ f fa depth all. record { forked = (λ rs e from to g env x s h st k en w l. absurd w); parallel = (λ t from to g env x s k u w l. absurd w) }) (λ n unit q. absurd (none-some unit q)) 0 30 stands fitted input before notes tt e in (
+    let (d, a, b, t, w) = program_gives None limit cuts program code none_there none_main no_threads [] text four_each no_fork slots 4 refl (call_only limit cuts program (λ n sub e. absurd (none-some sub e)) 1000) (λ f fa depth all. record { forked = (λ rs e from to g env x s h st k en w l. absurd w); parallel = (λ t from to g env x s k u w l. absurd w) }) (λ n unit q. absurd (none-some unit q)) 0 29 stands fitted input before notes tt e in (
       d,
       a,
       b,

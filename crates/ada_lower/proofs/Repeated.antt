@@ -1,5 +1,5 @@
 -- Values that are computed anew for each of several components: parts that are repeated.
-use Rattle.std.proofs.Common.{◌≡◌, ℕ, zero, suc, ◌+◌, ◌-◌, ◌*◌, ◌<◌, ◌≤◌, ◌⊎◌, ℤ, pos, ◌+ℤ◌, ◌-ℤ◌, ◌*ℤ◌, int_le, int_lt, List, [], ◌∷◌, ◌++◌, length, set, slice_get, nat_eq, ◌&&◌, Option, Some, None, Bool, true, false, cond, refl, sym, ap, ap₂, ◌∙◌, subst, le_refl, arith, inl, inr, ⊎_elim, suc-mul, zero-mul}
+use Rattle.std.proofs.Common.{◌≡◌, ℕ, zero, suc, ◌+◌, ◌-◌, ◌*◌, ◌<◌, ◌≤◌, ◌⊎◌, ℤ, pos, ◌+ℤ◌, ◌-ℤ◌, ◌*ℤ◌, int_le, int_lt, List, [], ◌∷◌, ◌++◌, length, set, slice_get, nat_eq, ◌&&◌, Option, Some, None, Bool, true, false, cond, refl, sym, ap, ◌∙◌, subst, le_refl, arith, inl, inr, ⊎_elim, suc-mul, zero-mul}
 use Rattle.std.proofs.lemmas.Bool.{ne_eqb}
 use Rattle.std.proofs.lemmas.Int.{ints}
 use Rattle.behaviours.specs.Paths.{Entity}
@@ -25,14 +25,13 @@ use Rattle.lower_emission.specs.Emits.{From}
 use Rattle.ada_lower.specs.Emission
 use Rattle.ada_lower.specs.Fits.{Free, Keeps, Right, Ghost, Fit, Ends, Knows, Stands as StandsFor}
 use Rattle.ada_lower.specs.Fitted.{FittedRuns, FittedComponent}
-use Rattle.ada_lower.proofs.Framework.{To, Doing, led, itself, comes_here, comes_on, comes_as, comes_back, comes_goes, does_assoc, does_before, does_returned}
+use Rattle.ada_lower.proofs.Framework.{To, Doing, led, itself, comes_on, comes_as, comes_back, comes_goes, does_assoc, does_before, does_returned}
 use Rattle.ada_lower.proofs.Memory.{set_what, what_same, what_other, at_or_not, at_same, fit_set, fit_unset, fit_alike, IsOwn, own_free, own_keeps, knows_keep}
 use Rattle.ada_lower.proofs.Standing.{stands_seq, stands_choose}
 use Rattle.ada_lower.proofs.Parts.{Fewer, fewer_keeps, does_first, does_keep}
 use Rattle.ada_lower.proofs.Declared.{keeping, laid_out, kept_what}
 use Rattle.ada_lower.proofs.Courses.{at_entry, comes_kept}
 use Rattle.ada_lower.proofs.Items.{comes_stores}
-use Rattle.ada_lower.proofs.Names.{does_by}
 use Rattle.ada_lower.proofs.Operands.{laid_length, knows_alike}
 use Rattle.ada_lower.proofs.Rounds.{with_rounds, knows_rounds, does_rounds}
 use Rattle.ada_lower.proofs.Turnings.{keep_swap}

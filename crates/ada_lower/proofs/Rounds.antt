@@ -1,7 +1,7 @@
 -- Parts that are repeated in a body: what is inside runs with one more round, and is left as the body is.
-use Rattle.std.proofs.Common.{◌≡◌, ℕ, ◌+◌, ◌-◌, List, [], ◌∷◌, Option, Some, None, Bool, true, false, refl, sym, subst}
+use Rattle.std.proofs.Common.{◌≡◌, ℕ, List, [], ◌∷◌, Option, Some, None, Bool, true, false, refl, sym, subst}
 use Rattle.ada_base.specs.declared.reason.Reason.{Reason}
-use Rattle.behaviours.specs.Paths.{Leave, Exits, Returns, Raises, Entity, VariableOf, ConstantOf}
+use Rattle.behaviours.specs.Paths.{Exits, Returns, Raises, Entity, VariableOf, ConstantOf}
 use Rattle.ada_meaning.specs.Stored.{Stored}
 use Rattle.ada_meaning.specs.Meaning.{Env}
 use Rattle.stack_code.specs.declared.code.Code.{Code}
@@ -9,7 +9,7 @@ use Rattle.stack_code.specs.declared.path.Round.{Round}
 use Rattle.stack_code.specs.Machine.{Frame}
 use Rattle.ada_lower.specs.Driven.{Dyn, Fixed, Step, thrown, passed_on}
 use Rattle.ada_lower.specs.Sights.{Named, Sight, Where}
-use Rattle.ada_lower.specs.Fits.{Ghost, Ends, Leads, Refers, Knows, left_by}
+use Rattle.ada_lower.specs.Fits.{Ghost, Ends, Leads, Refers, Knows}
 use Rattle.ada_lower.proofs.Framework.{To, Doing, comes_here}
 use Rattle.ada_lower.proofs.ForkInside.{LeftAs, does_inside}
 

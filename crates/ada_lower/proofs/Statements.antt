@@ -21,7 +21,7 @@ use Rattle.ada_meaning.proofs.Cells.{some_same}
 use Rattle.stack_code.specs.declared.code.Code.{Code}
 use Rattle.stack_code.specs.declared.instr.Instr.TheVariants as i
 use Rattle.ada_base.specs.Cells.{Mine}
-use Rattle.stack_code.specs.Deeds.{GoesOn, Fails}
+use Rattle.stack_code.specs.Deeds.{GoesOn, Fails, Stores}
 use Rattle.stack_code.specs.Listing.{reason_number}
 use Rattle.ada_lower.specs.Driven.{Dyn, Fixed, Step, On, on, path, thrown, unnested, At}
 use Rattle.lower_emission.specs.Scope as scope
@@ -34,8 +34,8 @@ use Rattle.ada_lower.proofs.Expressions.{composed_does, at_entry, does_hold, few
 use Rattle.ada_lower.proofs.Copies.{does_copy_to}
 use Rattle.ada_lower.proofs.Framework.{any, To, Doing, comes_here, comes_on, comes_goes, comes_fails, does_ret, does_bind, does_before, does_returned, does_assoc}
 use Rattle.ada_lower.proofs.Memory.{does_write, set_what, own_free, what_same, fit_unset, number_seen, free_extends}
-use Rattle.ada_lower.proofs.Standing.{stands_seq, stands_assoc, stands_assoc3, stands_choose, stands_when, stands_looped, stands_guarded, Guard}
-use Rattle.ada_lower.proofs.Parts.{Runs, truth_same, does_is, does_to, does_weak, does_first, Fewer, allows_fewer, does_keep, does_choice, does_check}
+use Rattle.ada_lower.proofs.Standing.{stands_seq, stands_assoc3, stands_choose, stands_when, stands_looped, stands_guarded, Guard}
+use Rattle.ada_lower.proofs.Parts.{Runs, truth_same, does_is, does_to, does_weak, does_first, Fewer, allows_fewer, does_keep, does_choice, does_check, does_set, does_within, set_deed}
 use Rattle.ada_lower.proofs.Calls.{called_plainly, given}
 use Rattle.ada_lower.proofs.Inner.{InnerDo}
 use Rattle.ada_lower.proofs.Names.{root_refers, does_by, comes_number}
@@ -72,13 +72,13 @@ module _ (limit : ℕ) (cuts : ℕ → ℕ → List ℕ) (program : Program) (c 
 
   module _ (x : Ends) where
     -- a number that is checked is left on the stack, as the cells of a value
-    number_does : (check : Check) (e : Expr) (from to : ℕ) {g : Ghost} {env : Env} (s : Sight) (h : ℕ) (b : Emit) (st : List ℤ) → Knows limit cuts g f s env → s.scope.entry ≡ x.entry → Fitted program globals mains epar s e → Stands c (emit program s.scope h e ⨟ Emission.checked s.scope (h + 1) check.scalar ⨟ b) from to
+    number_does : (check : Check) (e : Expr) (from to : ℕ) {g : Ghost} {env : Env} (s t : Sight) (h : ℕ) (b : Emit) (st : List ℤ) → Knows limit cuts g f s env → s.scope.entry ≡ x.entry → t.scope.entry ≡ x.entry → Fitted program globals mains epar s e → Stands c (emit program s.scope h e ⨟ Emission.checked t.scope (h + 1) check.scalar ⨟ b) from to
         → (mid : ℕ) × Runs limit c f x g (λ cs. cs ≡ first_of cs ∷ []) (Meaning.cells ops limit program calls (Number check e) env) (λ d. on f from st d) (λ cs d. on f mid (first_of cs ∷ st) d) × Stands c b mid to
-    number_does check e from to {g} {env} s h b st k en w l =
-        let (m, l1, (j, l2)) = stands_seq c from to (emit program s.scope h e) (Emission.checked s.scope (h + 1) check.scalar ⨟ b) l in (
+    number_does check e from to {g} {env} s t h b st k en en' w l =
+        let (m, l1, (j, l2)) = stands_seq c from to (emit program s.scope h e) (Emission.checked t.scope (h + 1) check.scalar ⨟ b) l in (
           m + 1,
           does_bind limit c f x (value_does limit cuts program c f x calls globals mains epar calls_do e from m s h st k en w l1) (λ v _.
-              does_bind limit c f x (does_check limit c f x RangeCheck check.at check.scalar.low check.scalar.high v (Values.is_in check.scalar v) st refl (at_entry en j)) (λ _ _.
+              does_bind limit c f x (does_check limit c f x RangeCheck check.at check.scalar.low check.scalar.high v (Values.is_in check.scalar v) st refl (at_entry en' j)) (λ _ _.
               does_ret limit c f x {to = λ cs d. on f (m + 1) (first_of cs ∷ st) d} (v ∷ []) refl)),
           l2,
         )
@@ -94,40 +94,51 @@ module _ (limit : ℕ) (cuts : ℕ → ℕ → List ℕ) (program : Program) (c 
     abbrev assigning : ℕ → Root → Selections → Check → Expr → Env → Stored (Unit {0})
     assigning at r selections check e env = stored.bind (Meaning.select ops limit program calls selections env (variable_root r env)) (λ p. stored.bind (Meaning.cells ops limit program calls (Number check e) (Meaning.with_target p env)) (λ cs. Meaning.write_all ops p.object p.offset cs))
 
-    abbrev value_of : Check → Expr → Scope → ℕ → Emit
-    value_of check e t h = emit program t h e ⨟ Emission.checked t (h + 1) check.scalar
+    -- the number on the stack is checked and goes to a cell that is named
+    stored_does : (check : Check) (v : ℤ) (l : Level) (n a q to : ℕ) {g : Ghost} (s : Sight) (m : Unit {0} → Stored (Unit {0})) → s.scope.entry ≡ x.entry → IsAt f l n a → Stands c (Emission.store_checked s.scope check.scalar l n) q to
+        → ((from : Dyn → Step) → ((u : ℤ) (d : Dyn) → slice_get d.cells a ≡ Some (Mine u) → To limit c (from d) (on f to [] (record d { cells = set d.cells a (Mine v) }))) → Runs limit c f x g any (m tt) from (λ _ d. on f to [] d))
+        → Runs limit c f x g any (stored.bind (stored.checks RangeCheck check.at (Values.is_in check.scalar v)) m) (λ d. on f q (v ∷ []) d) (λ _ d. on f to [] d)
+    stored_does check v Own n a q to s m en lead (j, z) go =
+        does_bind limit c f x (does_within limit c f x RangeCheck check.at check.scalar.low check.scalar.high v (Values.is_in check.scalar v) [] refl (at_entry en j)) (λ _ is.
+        go (λ d. on f q (v ∷ []) d) (λ u d mine. subst (λ p. To limit c (on f q (v ∷ []) d) (on f p [] (record d { cells = set d.cells a (Mine v) }))) (sym z)
+        (comes_stores limit c f a v u (v ∷ []) [] d j (set_deed limit c f x q n check.scalar.low check.scalar.high v [] is ∙ ap (λ b. Stores (pos b) v (GoesOn (q + 1) f.below)) (sym lead)) mine)))
+    stored_does check v l n a q to s m en lead (j, (j', z)) go =
+        does_bind limit c f x (does_check limit c f x RangeCheck check.at check.scalar.low check.scalar.high v (Values.is_in check.scalar v) [] refl (at_entry en j)) (λ _ _.
+        go (λ d. on f (q + 1) (v ∷ []) d) (λ u d mine. subst (λ p. To limit c (on f (q + 1) (v ∷ []) d) (on f p [] (record d { cells = set d.cells a (Mine v) }))) (sym z)
+        (comes_stores limit c f a v u (v ∷ []) [] d j' (store_deed limit c f (q + 1) l n a v f.below lead) mine)))
 
     assign_whole : (at : ℕ) (r : Root) (check : Check) (e : Expr) (from to : ℕ) {g : Ghost} {env : Env} (s : Sight) (n : Named) → Knows limit cuts g f s env → s.scope.entry ≡ x.entry → root_of s.scope r ≡ Some n → n.through ≡ false → 1 ≤ n.cells → Fitted program globals mains epar (with_target n s) e
-        → Stands c (value_of check e (with_target n s).scope 0 ⨟ one s.scope 1 (store_at n.place.level n.place.cell)) from to → Acts x g (assigning at r Whole check e env) from to
+        → Stands c (emit program (with_target n s).scope 0 e ⨟ Emission.store_checked s.scope check.scalar n.place.level n.place.cell) from to → Acts x g (assigning at r Whole check e env) from to
     assign_whole at r check e from to {g} {env} s n k en is direct some w l =
         let o : ObjectPart = variable_root r env in
         let u : Refers g f n (VariableOf o.object) o.offset = root_refers r n k is in
         let (p, access, here, stands) = u.spread.cell 0 (omega (arith, some)) in
         let z : u.address + 0 ≡ u.address = omega arith in
         let z0 : o.offset + 0 ≡ o.offset = omega arith in
-        let stores : Emit = one s.scope 1 (store_at n.place.level n.place.cell) in
-        let (m, num, (j, z')) = number_does check e from to (with_target n s) 0 stores [] (knows_target n o k u) en w (stands_assoc c from to (emit program (with_target n s).scope 0 e) (Emission.checked (with_target n s).scope 1 check.scalar) stores l) in
+        let (m, l1, l2) = stands_seq c from to (emit program (with_target n s).scope 0 e) (Emission.store_checked s.scope check.scalar n.place.level n.place.cell) l in
+        let then : (List ℤ → Stored (Unit {0})) = (λ cs. Meaning.write_all ops o.object o.offset cs) in
         let lead : IsAt f n.place.level n.place.cell u.address = subst (λ t. Leads t g f n.place u.address) direct u.leads in
         does_returned limit c f x _ o
-        (does_bind limit c f x num (λ cs one.
-        subst (λ cs'. Runs limit c f x g any (Meaning.write_all ops o.object o.offset cs') (λ d. on f m (first_of cs ∷ []) d) (λ _ d. on f to [] d)) (sym one)
-        (writes_does o.object o.offset u.address (first_of cs) p access k.one (subst (λ i. place_in g (VariableOf o.object) i ≡ Some p) z0 here) (subst (λ a. g.what a ≡ StandsFor access p) z stands)
-        (λ t d mine. subst (λ q. To limit c (on f m (first_of cs ∷ []) d) (on f q [] (record d { cells = set d.cells u.address (Mine (first_of cs)) }))) (sym z')
-        (comes_stores limit c f u.address (first_of cs) t (first_of cs ∷ []) [] d j (store_deed limit c f m n.place.level n.place.cell u.address (first_of cs) f.below lead) mine)))))
+        (does_assoc limit c f x _ _ then
+        (does_bind limit c f x (value_does limit cuts program c f x calls globals mains epar calls_do e from m (with_target n s) 0 [] (knows_target n o k u) en w l1) (λ v _.
+        does_assoc limit c f x _ _ then
+        (stored_does check v n.place.level n.place.cell u.address m to s _ en lead l2 (λ here' comes.
+        does_returned limit c f x then (v ∷ [])
+        (writes_does o.object o.offset u.address v p access k.one (subst (λ i. place_in g (VariableOf o.object) i ≡ Some p) z0 here) (subst (λ a. g.what a ≡ StandsFor access p) z stands) comes))))))
 
     abbrev part_sight : Sight → Sight
     part_sight s = with_target (record { through = true; place = own s.scope.free; cells = 1 }) (taking 1 s)
 
     assign_part : (at : ℕ) (r : Root) (selections : Selections) (check : Check) (e : Expr) (from to : ℕ) {g : Ghost} {env : Env} (s : Sight) (n : Named) → Knows limit cuts g f s env → s.scope.entry ≡ x.entry → root_of s.scope r ≡ Some n → Reaches n.cells selections 1 → FittedSelections program globals mains epar s selections
         → (s.scope.free < s.cells) × Fitted program globals mains epar (part_sight s) e
-        → Stands c (one s.scope 0 (address_of n) ⨟ selected program s.scope 1 selections ⨟ one s.scope 1 i.Dup ⨟ Emission.keep s.scope 2 s.scope.free ⨟ value_of check e (part_sight s).scope 1 ⨟ one s.scope 2 i.Store) from to
+        → Stands c (one s.scope 0 (address_of n) ⨟ selected program s.scope 1 selections ⨟ one s.scope 1 i.Dup ⨟ Emission.keep s.scope 2 s.scope.free ⨟ emit program (part_sight s).scope 1 e ⨟ Emission.checked s.scope 2 check.scalar ⨟ one s.scope 2 i.Store) from to
         → Acts x g (assigning at r selections check e env) from to
     assign_part at r selections check e from to {g} {env} s n k en is reach ws (room, we) (j1, l2) =
         let o : ObjectPart = variable_root r env in
         let u : Refers g f n (VariableOf o.object) o.offset = root_refers r n k is in
         let t : Sight = part_sight s in
         let stores : Emit = one s.scope 2 i.Store in
-        let last : Emit = Emission.keep s.scope 2 s.scope.free ⨟ value_of check e t.scope 1 ⨟ stores in
+        let last : Emit = Emission.keep s.scope 2 s.scope.free ⨟ emit program t.scope 1 e ⨟ Emission.checked s.scope 2 check.scalar ⨟ stores in
         let (m2, l3, (dup, (keep, l4))) = stands_seq c (from + 1) to (selected program s.scope 1 selections) (one s.scope 1 i.Dup ⨟ last) l2 in
         does_bind limit c f x
         (named_does limit cuts program c f x calls globals mains epar calls_do from (from + 1) n (VariableOf o.object) o.offset [] u j1 refl
@@ -146,7 +157,7 @@ module _ (limit : ℕ) (cuts : ℕ → ℕ → List ℕ) (program : Program) (c 
           leads = (f.base + s.scope.free, refl, inl (what_same g (f.base + s.scope.free) (Keeps (pos a))));
           spread = record { cell = λ i lt. (pl, access, (let z : p.offset + i ≡ p.offset = omega (arith, lt) in subst (λ i. place_in g (VariableOf p.object) i ≡ Some pl) (sym z) here'), (let z : a + i ≡ a = omega (arith, lt) in subst (λ b. g1.what b ≡ StandsFor access pl) (sym z) (away a access pl stands))) };
         } in
-        let (m3, num, (store, z3)) = number_does check e (m2 + 1 + 1) to t 1 stores (pos a ∷ []) (knows_target _ p k1 refers) en we (stands_assoc c (m2 + 1 + 1) to (emit program t.scope 1 e) (Emission.checked t.scope (1 + 1) check.scalar) stores l4) in
+        let (m3, num, (store, z3)) = number_does check e (m2 + 1 + 1) to t s 1 stores (pos a ∷ []) (knows_target _ p k1 refers) en en we l4 in
         does_bind limit c f x num (λ cs one'.
         subst (λ cs'. Runs limit c f x g1 any (Meaning.write_all ops p.object p.offset cs') (λ d. on f m3 (first_of cs ∷ pos a ∷ []) d) (λ _ d. on f to [] d)) (sym one')
         (writes_does p.object p.offset a (first_of cs) pl access k1.one here' (away a access pl stands)
@@ -156,8 +167,8 @@ module _ (limit : ℕ) (cuts : ℕ → ℕ → List ℕ) (program : Program) (c 
     -- both ways
     assign_does : (at : ℕ) (r : Root) (selections : Selections) (check : Check) (e : Expr) (from to : ℕ) {g : Ghost} {env : Env} (s : Sight) (n : Named) → Knows limit cuts g f s env → s.scope.entry ≡ x.entry → root_of s.scope r ≡ Some n → Reaches n.cells selections 1 → FittedSelections program globals mains epar s selections
         → (b : Bool) → n.through ≡ b → FittedTarget program globals mains epar s (Emission.is_whole selections && not b) n e
-        → Stands c (cond (Emission.is_whole selections && not b) (value_of check e (with_target n s).scope 0 ⨟ one s.scope 1 (store_at n.place.level n.place.cell))
-        (one s.scope 0 (address_of n) ⨟ selected program s.scope 1 selections ⨟ one s.scope 1 i.Dup ⨟ Emission.keep s.scope 2 s.scope.free ⨟ value_of check e (part_sight s).scope 1 ⨟ one s.scope 2 i.Store)) from to
+        → Stands c (cond (Emission.is_whole selections && not b) (emit program (with_target n s).scope 0 e ⨟ Emission.store_checked s.scope check.scalar n.place.level n.place.cell)
+        (one s.scope 0 (address_of n) ⨟ selected program s.scope 1 selections ⨟ one s.scope 1 i.Dup ⨟ Emission.keep s.scope 2 s.scope.free ⨟ emit program (part_sight s).scope 1 e ⨟ Emission.checked s.scope 2 check.scalar ⨟ one s.scope 2 i.Store)) from to
         → Acts x g (assigning at r selections check e env) from to
     assign_does at r Whole check e from to s n k en is reach ws false direct we l = assign_whole at r check e from to s n k en is direct reach we l
     assign_does at r Whole check e from to s n k en is reach ws true direct we l = assign_part at r Whole check e from to s n k en is reach ws we l
@@ -407,17 +418,16 @@ module _ (limit : ℕ) (cuts : ℕ → ℕ → List ℕ) (program : Program) (c 
   unfolding Rattle.ada_lower.specs.Emission.emit
   into_does {B} {g} {env} {q} {goal} x (Number check e) s n from to code then room k en w free l j =
       let one' : n ≡ 1 = w.0 in
-      let (m0, l0, lc) = stands_seq c from to (emit program (taking n s).scope 0 e ⨟ Emission.checked (taking n s).scope 1 check.scalar ⨟ Emission.keep (taking n s).scope 1 s.scope.free) code l in
-      let (m, l1, (j1, (j2, z))) = stands_seq c from m0 (emit program (taking n s).scope 0 e) (Emission.checked (taking n s).scope 1 check.scalar ⨟ Emission.keep (taking n s).scope 1 s.scope.free) l0 in
+      let (m0, l0, lc) = stands_seq c from to (emit program (taking n s).scope 0 e ⨟ Emission.keep_checked (taking n s).scope 1 check.scalar s.scope.free) code l in
+      let (m, l1, (jk, z)) = stands_seq c from m0 (emit program (taking n s).scope 0 e) (Emission.keep_checked (taking n s).scope 1 check.scalar s.scope.free) l0 in
       let z0 : f.base + s.scope.free + 0 ≡ f.base + s.scope.free = omega arith in
       let free0 : g.what (f.base + s.scope.free) ≡ Free = subst (λ a. g.what a ≡ Free) z0 (free 0 (omega (arith, one'))) in
       does_assoc limit c f x _ _ then
       (does_bind limit c f x (value_does limit cuts program c f x calls globals mains epar calls_do e from m (taking n s) 0 [] k en w.1 l1) (λ v _.
       does_assoc limit c f x _ _ then
-      (does_bind limit c f x (does_check limit c f x RangeCheck check.at check.scalar.low check.scalar.high v (Values.is_in check.scalar v) [] refl (at_entry en j1)) (λ _ _.
-      does_returned limit c f x then (v ∷ [])
-      (does_keep limit c f x (m + 1) s.scope.free v [] (own_free (g.what (f.base + s.scope.free)) free0) (at_entry en j2)
-      (subst (λ p. Doing limit c f x (keeping (f.base + s.scope.free) (v ∷ []) g) g q (then (v ∷ [])) (λ d. on f p [] d) goal) z (j (v ∷ []) m0 (sym one') lc)))))))
+      (does_set limit c f x _ RangeCheck check.at m s.scope.free check.scalar.low check.scalar.high v [] (λ t d w. w) (own_free (g.what (f.base + s.scope.free)) free0) (at_entry en jk)
+      (does_returned limit c f x then (v ∷ [])
+      (subst (λ p. Doing limit c f x (keeping (f.base + s.scope.free) (v ∷ []) g) g q (then (v ∷ [])) (λ d. on f p [] d) goal) z (j (v ∷ []) m0 (sym one') lc))))))
   into_does {B} {g} {env} {q} {goal} x (Cells value) s n from to code then room k en w free l j =
       let (m0, l0, lc) = stands_seq c from to (Emission.composed program (taking n s).scope 0 s.scope.free value) code l in
       let le : s.scope.free + n ≤ (taking n s).scope.free = omega arith in
@@ -601,7 +611,7 @@ module _ (limit : ℕ) (cuts : ℕ → ℕ → List ℕ) (program : Program) (c 
       stmt_does Null from to x s k u w l = acts_at from l (does_ret limit c f x {to = λ _ d. on f from [] d} tt tt)
       stmt_does (Assign at r selections (Number check e)) from to x s k u (n, is, reach, ws, we) l =
           assign_does x at r selections check e from to s n k u.entry is reach ws n.through refl we
-          (subst (λ o. Stands c (Emission.assigned s.scope o (Emission.is_whole selections) (selected program s.scope 1 selections) (λ t h. emit program t h e ⨟ Emission.checked t (h + 1) check.scalar)) from to) is l)
+          (subst (λ o. Stands c (Emission.assigned s.scope o (Emission.is_whole selections) check.scalar (selected program s.scope 1 selections) (λ t h. emit program t h e)) from to) is l)
       stmt_does (Assign at r selections (Cells value)) from to x s k u w l = assign_cells x at r selections value (Emission.composite_width program value) from to s k u.entry w l
       stmt_does (CallProcedure at callee sub actuals) from to {g} {env} x s k suits (u, none', whole, room, w) l =
           let n : ℕ = s.scope.free in
@@ -636,7 +646,7 @@ module _ (limit : ℕ) (cuts : ℕ → ℕ → List ℕ) (program : Program) (c 
           branch b (does_is limit c f x (Err (Left (Exits loop))) (λ t. leaves_is (Exits loop) t) (λ d. exits_known loop (m + 1) to u w.0 l3 d)) (does_ret limit c f x {to = λ _ d. on f to [] d} tt tt))
       stmt_does Return from to x s k u w l = does_is limit c f x (Err (Left (Returns None))) (λ t. leaves_is (Returns None) t) (λ d. u.returns s from to l d)
       stmt_does (ReturnValue (Number check e)) from to {g} x s k u w l =
-          let (m, num, l2) = number_does x check e from to s 0 (returning_value s.scope s.scope.leaving) [] k u.entry w l in
+          let (m, num, l2) = number_does x check e from to s s 0 (returning_value s.scope s.scope.leaving) [] k u.entry u.entry w l in
           does_bind limit c f x num (λ cs one'.
           subst (λ o. Runs limit c f x {A = Unit {0}} g any (stored.leaves (Returns o)) (λ d. on f m (first_of cs ∷ []) d) (λ _ d. on f to [] d)) (sym (ap (λ z. slice_get z 0) one'))
           (does_is limit c f x (Err (Left (Returns (Some (first_of cs))))) (λ t. leaves_is (Returns (Some (first_of cs))) t) (λ d. u.gives s m to (first_of cs) l2 d)))

@@ -6,7 +6,7 @@ use Rattle.ada_base.specs.declared.reason.Reason.{Reason}
 use Rattle.ada_base.specs.declared.reason.Reason.TheVariants.{ConstraintError, Declared}
 use Rattle.std.proofs.lemmas.Bool.{false≢true}
 use Rattle.ada_base.specs.Cells.{Cell, seen, written}
-use Rattle.stack_code.specs.Deeds.{Deed, GoesOn, Fails, Stores, Loads, on_one, on_two, unary, binary, pushed, load_from, store_to, item_at, stepped, indexed, is_between, reason_of}
+use Rattle.stack_code.specs.Deeds.{Deed, GoesOn, Fails, Stores, Loads, on_one, on_two, unary, binary, pushed, load_from, store_to, item_at, stored, stepped, indexed, if_between, is_between, reason_of}
 use Rattle.ada_machine.specs.Played.{cell_of, IsClear, IsFar, IsReason, Exceeds, Onward, Raised, on_value, on_cells, plays}
 
 pub seen_at : (cells : List Cell) (z : ℤ) → IsSome (seen cells z) → seen cells (pos (cell_of z)) ≡ seen cells z
@@ -60,6 +60,22 @@ module _ (pc : ℕ) (cells : List Cell) where
 
   pub store_cell_plays : (cells' : List Cell) (old new : List ℤ) (a v : ℤ) → reverse old ≡ v ∷ reverse new → written cells a v ≡ Some cells' → plays (store_to pc (reverse old) a) cells ≡ Onward (pc + 1) (reverse new) cells'
   store_cell_plays cells' old new a v e g = ap (λ st. plays (store_to pc st a) cells) e ∙ ap (λ o. on_cells o (λ w. Onward (pc + 1) (reverse new) w)) g
+
+  module _ (lo hi a : ℤ) where
+    abbrev setting : List ℤ → Deed
+    setting st = on_one st (λ v st. stored pc a (if_between lo hi v) st)
+
+    set_on : (old rest : List ℤ) (v : ℤ) (o : Option ℤ) → reverse old ≡ v ∷ rest → if_between lo hi v ≡ o → setting (reverse old) ≡ stored pc a o rest
+    set_on old rest v o e f = ap (λ st. setting st) e ∙ ap (λ o. stored pc a o rest) f
+
+    pub set_cell_clear : (old rest : List ℤ) (v : ℤ) → IsClear (on_one (reverse old) (λ v st. stored pc a (if_between lo hi v) st)) cells → reverse old ≡ v ∷ rest → is_between lo v hi ≡ true → IsSome (written cells a v)
+    set_cell_clear old rest v h e b = some_of (written cells a v) (λ w. Unit {0}) (subst (λ d. IsClear d cells) (set_on old rest v (Some v) e (ap (λ b. cond b (Some v) None) b)) h)
+
+    pub set_cell_in : (cells' : List Cell) (old new : List ℤ) (v : ℤ) → reverse old ≡ v ∷ reverse new → is_between lo v hi ≡ true → written cells a v ≡ Some cells' → plays (on_one (reverse old) (λ v st. stored pc a (if_between lo hi v) st)) cells ≡ Onward (pc + 1) (reverse new) cells'
+    set_cell_in cells' old new v e b w = ap (λ d. plays d cells) (set_on old (reverse new) v (Some v) e (ap (λ b. cond b (Some v) None) b)) ∙ ap (λ o. on_cells o (λ w. Onward (pc + 1) (reverse new) w)) w
+
+    pub set_cell_out : (old new : List ℤ) (v : ℤ) → reverse old ≡ v ∷ reverse new → is_between lo v hi ≡ false → plays (on_one (reverse old) (λ v st. stored pc a (if_between lo hi v) st)) cells ≡ Raised ConstraintError (reverse new) cells
+    set_cell_out old new v e b = ap (λ d. plays d cells) (set_on old (reverse new) v None e (ap (λ b. cond b (Some v) None) b))
 
 -- ---- components
 

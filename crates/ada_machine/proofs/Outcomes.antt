@@ -1,12 +1,12 @@
 -- A class of instructions does what each of its instructions does.
-use Rattle.std.proofs.Common.{◌≡◌, ◌+◌, ℕ, ℤ, pos, negsuc, Option, List, [], ◌∷◌, replicate, reverse, refl, sym, ap, subst, inl, inr, ⊎_elim}
+use Rattle.std.proofs.Common.{◌≡◌, ◌+◌, ℕ, ℤ, pos, negsuc, Option, List, [], ◌∷◌, replicate, reverse, refl, sym, ap, ◌∙◌, subst, inl, inr, ⊎_elim}
 use Rattle.std.specs.Prelude.{IsSomeAnd}
 use Rattle.ada_base.specs.declared.reason.Reason.TheVariants.{Declared}
 use Rattle.stack_code.specs.declared.instr.Instr.{Instr}
 use Rattle.ada_base.specs.Cells.{Cell, seen}
 use Rattle.stack_code.specs.declared.code.Code.{Code}
-use Rattle.stack_code.specs.declared.instr.Instr.TheVariants.{Index, Range, Fill, Copy}
-use Rattle.stack_code.specs.Deeds.{Deed, deed_of, GoesOn, Fails, Loads, on_one, on_two, loads_all, stores_all, unary, binary, if_between, indexed}
+use Rattle.stack_code.specs.declared.instr.Instr.TheVariants.{Index, Range, Fill, Copy, SetL}
+use Rattle.stack_code.specs.Deeds.{Deed, deed_of, GoesOn, Fails, Loads, on_one, on_two, loads_all, stores_all, unary, binary, if_between, indexed, stored}
 use Rattle.ada_machine.specs.declared.operands.Computed.{Computed}
 use Rattle.ada_machine.specs.declared.operands.Computed.TheVariants.{To, Failed, Beyond, Other}
 use Rattle.ada_machine.specs.Played.{Computes, ComputesOr, Plays, PlaysOr, CopiesOr, Outcome, IsClear, IsFar, Exceeds, plays}
@@ -76,3 +76,13 @@ module _ (c : Code) (pc base : ℕ) (outward : List ℕ) (i : Instr) (cells : Li
 
   pub fill_ready : (n : ℕ) (v v' : ℤ) → i ≡ Fill n v → v' ≡ v → IsClear (deed_of c pc (reverse old) base outward i) cells → IsClear (on_one (reverse old) (λ a st. stores_all (replicate n v') a (GoesOn (pc + 1) st))) cells
   fill_ready n v v' e f h = subst (λ w. IsClear (on_one (reverse old) (λ a st. stores_all (replicate n w) a (GoesOn (pc + 1) st))) cells) (sym f) (subst (λ j. IsClear (deed_of c pc (reverse old) base outward j) cells) e h)
+
+  same_setting : (n n' : ℕ) (lo hi lo' hi' : ℤ) → n' ≡ n → lo' ≡ lo → hi' ≡ hi → on_one (reverse old) (λ v st. stored pc (pos (base + n')) (if_between lo' hi' v) st) ≡ deed_of c pc (reverse old) base outward (SetL n lo hi)
+  same_setting n n' lo hi lo' hi' a f g = ap (λ n'. on_one (reverse old) (λ v st. stored pc (pos (base + n')) (if_between lo' hi' v) st)) a ∙ ap (λ l. on_one (reverse old) (λ v st. stored pc (pos (base + n)) (if_between l hi' v) st)) f ∙ ap (λ u. on_one (reverse old) (λ v st. stored pc (pos (base + n)) (if_between lo u v) st)) g
+
+  pub set_outcome : (cells' : List Cell) (n n' : ℕ) (lo hi lo' hi' : ℤ) → i ≡ SetL n lo hi → n' ≡ n → lo' ≡ lo → hi' ≡ hi → Plays (on_one (reverse old) (λ v st. stored pc (pos (base + n')) (if_between lo' hi' v) st)) r new cells cells' → Outcome (deed_of c pc (reverse old) base outward i) i r old new cells cells'
+  set_outcome cells' n n' lo hi lo' hi' e a f g h = subst (λ j. Outcome (deed_of c pc (reverse old) base outward j) j r old new cells cells') (sym e) (outcome_plays (deed_of c pc (reverse old) base outward (SetL n lo hi)) (SetL n lo hi) cells cells' r old new
+      (subst (λ d. Plays d r new cells cells') (same_setting n n' lo hi lo' hi' a f g) h))
+
+  pub set_ready : (n n' : ℕ) (lo hi lo' hi' : ℤ) → i ≡ SetL n lo hi → n' ≡ n → lo' ≡ lo → hi' ≡ hi → IsClear (deed_of c pc (reverse old) base outward i) cells → IsClear (on_one (reverse old) (λ v st. stored pc (pos (base + n')) (if_between lo' hi' v) st)) cells
+  set_ready n n' lo hi lo' hi' e a f g h = subst (λ d. IsClear d cells) (sym (same_setting n n' lo hi lo' hi' a f g)) (subst (λ j. IsClear (deed_of c pc (reverse old) base outward j) cells) e h)

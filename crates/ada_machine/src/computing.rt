@@ -10,7 +10,7 @@ use crate::blocks::{copy, fill};
 use crate::cells::Cells;
 use crate::memory::{
     Dimension, index, index_cell, index_main, item, item_cell, item_main, load, load_cell, next,
-    prior, store, store_cell,
+    prior, set_cell, store, store_cell,
 };
 use crate::operands::{
     Computed, add, add_constant, check_range, combine_digits, compare, differ, divide, double,
@@ -101,6 +101,9 @@ pub fn compute<C: Cells, H: Halt>(
         Instr::StoreL(cell) => store_cell(stack, pc, view, frames.base + u64::from(cell)),
         Instr::StoreO(steps, cell) => store_outer(stack, pc, view, frames.outward, steps, cell),
         Instr::StoreG(cell) => store_cell(stack, pc, view, u64::from(cell)),
+        Instr::SetL(cell, low, high) => {
+            set_cell(stack, pc, view, frames.base + u64::from(cell), low, high)
+        }
         Instr::AddI(value, kind) => add_constant(stack, pc, value, kind),
         Instr::SubI(value, kind) => subtract_constant(stack, pc, value, kind),
         Instr::MulI(value, kind) => multiply_by_constant(stack, pc, value, kind),

@@ -2,7 +2,7 @@
 ghost use Rattle.std.specs.Prelude.{◌≡◌, ◌+◌, ◌-◌, ◌*◌, ◌^◌, ◌<◌, ◌≤◌, ◌-ℤ◌, ◌+ℤ◌, ◌*ℤ◌, ◌≤ℤ◌, ◌∷◌, reverse, length, vec_len, vec_capacity, Option, Some, None, SomeIff, FitsSigned, IsSome, IsSomeAnd, pos, ℤ, int_lt, List, replicate, slice_get, slice_index, EachIndex};
 ghost use Rattle.std.specs.Int.{w64};
 ghost use Rattle.ada_base.specs.Cells.{seen, written};
-ghost use Rattle.stack_code.specs.Deeds.{on_one, on_two, unary, binary, load_from, store_to, item_at, stepped, pushed, indexed, loads_all, stores_all, Loads, Stores, GoesOn};
+ghost use Rattle.stack_code.specs.Deeds.{on_one, on_two, unary, binary, load_from, store_to, item_at, stored, stepped, pushed, indexed, if_between, loads_all, stores_all, Loads, Stores, GoesOn};
 ghost use Rattle.ada_machine.specs.Places.{Stays};
 ghost use Rattle.ada_machine.specs.Played.{cell_of, IsClear, IsPlaced, ComputesOr, Plays, PlaysOr};
 
@@ -101,6 +101,32 @@ pub(crate) fn store_cell<C: Cells>(
     let value = take(stack);
     view.set(at, value);
     Computed::To(pc + 1)
+}
+
+#[inline(always)]
+#[tactic(auto, using(crate::proofs::Memories::set_cell_clear, crate::proofs::Memories::set_cell_in, crate::proofs::Memories::set_cell_out))]
+pub(crate) fn set_cell<C: Cells>(
+    stack: &mut Vec<i64>,
+    pc: usize,
+    view: &mut C,
+    at: u64,
+    low: i64,
+    high: i64,
+) -> Computed
+    requires one { 1 ≤ vec_len stack.old }
+    requires clear { IsClear (on_one (reverse stack.old.items) (λ v st. stored pc (pos at) (if_between low high v) st)) (C.cells view.old) }
+    requires next { pc < usize.MAX }
+    ensures deed { Plays (on_one (reverse stack.old.items) (λ v st. stored pc (pos at) (if_between low high v) st)) result stack.new.items (C.cells view.old) (C.cells view.new) }
+    ensures room { vec_capacity stack.new ≡ vec_capacity stack.old }
+    ensures stays { Stays C.floor C.whole C.place view.old view.new }
+{
+    let value = take(stack);
+    if is_between(low, value, high) {
+        view.set(at, value);
+        Computed::To(pc + 1)
+    } else {
+        Computed::Failed(Reason::ConstraintError)
+    }
 }
 
 // ---- addresses of components

@@ -13,7 +13,7 @@ ghost use Rattle.lower_emission.specs.Scope.{◌⨟◌, keep, one, own, taking, 
 ghost use Rattle.lower_values.specs.Words.{env_of, nodes, tables, Emits};
 ghost use Rattle.stack_code.specs.declared.instr.Instr.TheVariants as i;
 
-use lower_emission::types::{Leaving, Named, Where};
+use lower_emission::types::{Leaving, Level, Named, Where};
 use lower_values::aggregates::{composed, own};
 use lower_values::calls::{Window, call, target_cell};
 use lower_values::cells::{cells_of, composite_width};
@@ -32,7 +32,7 @@ pub fn assign_number(
     id: u32,
     out: &mut Emitter,
 )
-    ensures { Emits (spec.assigned (env_of env.now) found (value.is_whole (selections_at (nodes env.now) selections)) (selected (tables env.now) (env_of env.now) 1 (selections_at (nodes env.now) selections)) (λ t h. emit (tables env.now) t h (expr_at (nodes env.now) id) ⨟ checked t (h + 1) check.scalar)) out.old out.new }
+    ensures { Emits (spec.assigned (env_of env.now) found (value.is_whole (selections_at (nodes env.now) selections)) check.scalar (selected (tables env.now) (env_of env.now) 1 (selections_at (nodes env.now) selections)) (λ t h. emit (tables env.now) t h (expr_at (nodes env.now) id))) out.old out.new }
 {
     match found {
         None => lost(env, 0, out),
@@ -47,7 +47,7 @@ pub fn assign_number(
 }
 
 fn assign_whole(env: &Env<'_>, named: Named, check: Check, id: u32, out: &mut Emitter)
-    ensures { Emits ((emit (tables env.now) (with_target named (env_of env.now)) 0 (expr_at (nodes env.now) id) ⨟ checked (with_target named (env_of env.now)) 1 check.scalar) ⨟ one (env_of env.now) 1 (scope.store_at named.place.level named.place.cell)) out.old out.new }
+    ensures { Emits (emit (tables env.now) (with_target named (env_of env.now)) 0 (expr_at (nodes env.now) id) ⨟ spec.store_checked (env_of env.now) check.scalar named.place.level named.place.cell) out.old out.new }
 {
     let names = Names::Target {
         outer: &env.names,
@@ -55,8 +55,20 @@ fn assign_whole(env: &Env<'_>, named: Named, check: Check, id: u32, out: &mut Em
     };
     let inner = Env { names, ..*env };
     emit(&inner, 0, id, out);
-    checked(&inner, 1, check.scalar, out);
-    out.put(env, 1, store_at(named.place));
+    store_checked(env, check.scalar, named.place, out);
+}
+
+/// The number on the stack is checked, and goes to a cell.
+fn store_checked(env: &Env<'_>, scalar: Scalar, place: Where, out: &mut Emitter)
+    ensures { Emits (spec.store_checked (env_of env.now) scalar place.level place.cell) out.old out.new }
+{
+    match place.level {
+        Level::Own => out.put(env, 1, Instr::SetL(place.cell, scalar.low, scalar.high)),
+        Level::Around(_) | Level::Main => {
+            checked(env, 1, scalar, out);
+            out.put(env, 1, store_at(place));
+        }
+    }
 }
 
 fn assign_part(
@@ -68,7 +80,7 @@ fn assign_part(
     out: &mut Emitter,
 )
     ensures { Emits (one (env_of env.now) 0 (scope.address_of named) ⨟ selected (tables env.now) (env_of env.now) 1 (selections_at (nodes env.now) selections) ⨟ one (env_of env.now) 1 i.Dup ⨟ keep (env_of env.now) (1 + 1) env.now.free
-        ⨟ (emit (tables env.now) (with_target (record { through = true; place = own env.now.free; cells = 1 }) (taking 1 (env_of env.now))) 1 (expr_at (nodes env.now) id) ⨟ checked (with_target (record { through = true; place = own env.now.free; cells = 1 }) (taking 1 (env_of env.now))) (1 + 1) check.scalar) ⨟ one (env_of env.now) (1 + 1) i.Store) out.old out.new }
+        ⨟ emit (tables env.now) (with_target (record { through = true; place = own env.now.free; cells = 1 }) (taking 1 (env_of env.now))) 1 (expr_at (nodes env.now) id) ⨟ checked (env_of env.now) (1 + 1) check.scalar ⨟ one (env_of env.now) (1 + 1) i.Store) out.old out.new }
 {
     let free = out.sum(env.free, 1);
     out.put(env, 0, address_of(named));
@@ -89,7 +101,7 @@ fn assign_part(
         ..*env
     };
     emit(&inner, 1, id, out);
-    checked(&inner, 2, check.scalar, out);
+    checked(env, 2, check.scalar, out);
     out.put(env, 2, Instr::Store);
 }
 

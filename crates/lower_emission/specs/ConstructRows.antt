@@ -16,7 +16,7 @@ use Rattle.stack_code.specs.declared.code.Lease as lease
 use Rattle.stack_code.specs.declared.code.SiteKind.TheVariants as code_kind
 use Rattle.stack_code.specs.declared.code.Step.TheVariants as step
 use Rattle.stack_code.specs.declared.instr.Instr.TheVariants as i
-use Rattle.lower_emission.specs.Lines.{Line, main, begun, thread, fits, set_to, procedure, no_leases, IsCode}
+use Rattle.lower_emission.specs.Lines.{Line, main, begun, thread, fits, integer_to, set_to, procedure, no_leases, IsCode}
 
 abbrev pub site_of : kind.the_data → Site
 site_of k = record { at = 0; around = 0; kind = k }
@@ -116,63 +116,61 @@ parts = with_site (kind.Block 2) (made_of [] (object_of 0 1 ∷ object_of 0 1 �
 abbrev parts_code : List Line
 parts_code =
     main 0 0 (i.Push (pos 0))
-    ∷ main 1 1 fits
-    ∷ main 2 1 (i.StoreL 0)
-    ∷ main 3 0 (i.Push (pos 0))
-    ∷ main 4 1 fits
-    ∷ main 5 1 (i.StoreL 1)
-    ∷ main 6 0 i.Nest
-    ∷ begun 7 0 (i.Push (pos 1))
-    ∷ begun 8 1 (i.StoreL 2)
-    ∷ begun 9 0 (i.Push (pos 4096))
-    ∷ begun 10 1 (i.StoreL 3)
-    ∷ begun 11 0 (i.Push (pos 0))
-    ∷ begun 12 1 (i.Push (pos 1))
-    ∷ begun 13 2 (i.LoadL 2)
-    ∷ begun 14 3 (i.LoadL 3)
-    ∷ begun 15 4 (i.Push (pos 0))
-    ∷ begun 16 5 (i.Fork 0)
-    ∷ begun 17 2 (i.Jump 41)
-    ∷ thread 18 0 (i.LoadL 2)
+    ∷ main 1 1 (integer_to 0)
+    ∷ main 2 0 (i.Push (pos 0))
+    ∷ main 3 1 (integer_to 1)
+    ∷ main 4 0 i.Nest
+    ∷ begun 5 0 (i.Push (pos 1))
+    ∷ begun 6 1 (i.StoreL 2)
+    ∷ begun 7 0 (i.Push (pos 4096))
+    ∷ begun 8 1 (i.StoreL 3)
+    ∷ begun 9 0 (i.Push (pos 0))
+    ∷ begun 10 1 (i.Push (pos 1))
+    ∷ begun 11 2 (i.LoadL 2)
+    ∷ begun 12 3 (i.LoadL 3)
+    ∷ begun 13 4 (i.Push (pos 0))
+    ∷ begun 14 5 (i.Fork 0)
+    ∷ begun 15 2 (i.Jump 39)
+    ∷ thread 16 0 (i.LoadL 2)
+    ∷ thread 17 1 (i.Push (pos 0))
+    ∷ thread 18 2 i.Le
     ∷ thread 19 1 (i.Push (pos 0))
-    ∷ thread 20 2 i.Le
-    ∷ thread 21 1 (i.Push (pos 0))
-    ∷ thread 22 2 (i.LoadL 3)
-    ∷ thread 23 3 i.Le
-    ∷ thread 24 2 i.Min
-    ∷ thread 25 1 (i.JFalse 29)
-    ∷ thread 26 0 (i.Push (pos 1))
-    ∷ thread 27 1 fits
-    ∷ thread 28 1 (i.StoreG 0)
-    ∷ thread 29 0 (i.LoadL 2)
+    ∷ thread 20 2 (i.LoadL 3)
+    ∷ thread 21 3 i.Le
+    ∷ thread 22 2 i.Min
+    ∷ thread 23 1 (i.JFalse 27)
+    ∷ thread 24 0 (i.Push (pos 1))
+    ∷ thread 25 1 fits
+    ∷ thread 26 1 (i.StoreG 0)
+    ∷ thread 27 0 (i.LoadL 2)
+    ∷ thread 28 1 (i.Push (pos 1))
+    ∷ thread 29 2 i.Le
     ∷ thread 30 1 (i.Push (pos 1))
-    ∷ thread 31 2 i.Le
-    ∷ thread 32 1 (i.Push (pos 1))
-    ∷ thread 33 2 (i.LoadL 3)
-    ∷ thread 34 3 i.Le
-    ∷ thread 35 2 i.Min
-    ∷ thread 36 1 (i.JFalse 40)
-    ∷ thread 37 0 (i.Push (pos 2))
-    ∷ thread 38 1 fits
-    ∷ thread 39 1 (i.StoreG 1)
-    ∷ thread 40 0 i.End
-    ∷ begun 41 2 i.Unnest
-    ∷ main 42 2 (i.StoreL 4)
-    ∷ main 43 1 (i.StoreL 5)
+    ∷ thread 31 2 (i.LoadL 3)
+    ∷ thread 32 3 i.Le
+    ∷ thread 33 2 i.Min
+    ∷ thread 34 1 (i.JFalse 38)
+    ∷ thread 35 0 (i.Push (pos 2))
+    ∷ thread 36 1 fits
+    ∷ thread 37 1 (i.StoreG 1)
+    ∷ thread 38 0 i.End
+    ∷ begun 39 2 i.Unnest
+    ∷ main 40 2 (i.StoreL 4)
+    ∷ main 41 1 (i.StoreL 5)
+    ∷ main 42 0 (i.LoadL 4)
+    ∷ main 43 1 (i.JFalse 55)
     ∷ main 44 0 (i.LoadL 4)
-    ∷ main 45 1 (i.JFalse 57)
-    ∷ main 46 0 (i.LoadL 4)
-    ∷ main 47 1 (i.Push (pos 1))
-    ∷ main 48 2 i.Eq
-    ∷ main 49 1 (i.JFalse 51)
-    ∷ main 50 0 i.Halt
-    ∷ main 51 0 (i.LoadL 4)
-    ∷ main 52 1 (i.Push (pos 2))
-    ∷ main 53 2 i.Eq
-    ∷ main 54 1 (i.JFalse 57)
-    ∷ main 55 0 (i.LoadL 5)
-    ∷ main 56 1 i.Halt
-    ∷ main 57 0 i.Halt
+    ∷ main 45 1 (i.Push (pos 1))
+    ∷ main 46 2 i.Eq
+    ∷ main 47 1 (i.JFalse 49)
+    ∷ main 48 0 i.Halt
+    ∷ main 49 0 (i.LoadL 4)
+    ∷ main 50 1 (i.Push (pos 2))
+    ∷ main 51 2 i.Eq
+    ∷ main 52 1 (i.JFalse 55)
+    ∷ main 53 0 (i.LoadL 5)
+    ∷ main 54 1 i.Halt
+    ∷ main 55 0 i.Halt
     ∷ []
 
 -- the first arm X, the second Y
@@ -180,7 +178,7 @@ abbrev pub parts_lent : ℕ → List lease.Lease
 parts_lent site = lends 0 None 0 [] ∷ lends 1 None 1 [] ∷ []
 
 abbrev pub Parts : Type 0
-Parts = IsCode parts parts_lent parts_code [] (begins (Sub 0) 18 5 3 (code_kind.Block 2) (parts_lent 0) ∷ []) (procedure 0 7 5 ∷ []) []
+Parts = IsCode parts parts_lent parts_code [] (begins (Sub 0) 16 5 3 (code_kind.Block 2) (parts_lent 0) ∷ []) (procedure 0 7 5 ∷ []) []
 
 -- X : Integer := 0; X := [parallel for I in 1 .. 3 => I]'Reduce ("+", 0);
 
@@ -191,51 +189,50 @@ gathers = with_site kind.Reduction (made_of [] (object_of 0 1 ∷ []) [] (set_to
 abbrev gathers_code : List Line
 gathers_code =
     main 0 0 (i.Push (pos 0))
-    ∷ main 1 1 fits
-    ∷ main 2 1 (i.StoreL 0)
-    ∷ main 3 0 (i.Push (pos 0))
-    ∷ main 4 1 (i.StoreL 1)
-    ∷ main 5 0 i.Nest
-    ∷ begun 6 0 (i.Push (pos 1))
-    ∷ begun 7 1 (i.StoreL 2)
-    ∷ begun 8 0 (i.Push (pos 4096))
-    ∷ begun 9 1 (i.StoreL 3)
-    ∷ begun 10 0 (i.Push (pos 1))
-    ∷ begun 11 1 (i.StoreL 4)
-    ∷ begun 12 0 (i.Push (pos 3))
-    ∷ begun 13 1 (i.StoreL 5)
-    ∷ begun 14 0 (i.LoadL 4)
-    ∷ begun 15 1 (i.LoadL 5)
-    ∷ begun 16 2 i.Le
-    ∷ begun 17 1 (i.JFalse 18)
-    ∷ begun 18 0 (i.LoadL 4)
-    ∷ begun 19 1 (i.LoadL 5)
-    ∷ begun 20 2 (i.LoadL 2)
-    ∷ begun 21 3 (i.LoadL 3)
-    ∷ begun 22 4 (i.LoadL 1)
-    ∷ begun 23 5 (i.Fork 0)
-    ∷ begun 24 1 (i.Jump 37)
-    ∷ thread 25 0 (i.LoadL 1)
-    ∷ thread 26 1 (i.LoadL 2)
-    ∷ thread 27 2 (i.LoadL 3)
-    ∷ thread 28 3 i.Le
-    ∷ thread 29 2 (i.JFalse 36)
-    ∷ thread 30 1 (i.Jump 32)
-    ∷ thread 31 1 (i.Jump 36)
-    ∷ thread 32 1 i.Turn
-    ∷ thread 33 1 (i.LoadL 2)
-    ∷ thread 34 2 (i.Add Narrow)
-    ∷ thread 35 1 (i.Next 2 3 32)
-    ∷ thread 36 1 i.EndV
-    ∷ begun 37 1 i.Unnest
-    ∷ main 38 1 fits
-    ∷ main 39 1 (i.StoreG 0)
-    ∷ main 40 0 i.Halt
+    ∷ main 1 1 (integer_to 0)
+    ∷ main 2 0 (i.Push (pos 0))
+    ∷ main 3 1 (i.StoreL 1)
+    ∷ main 4 0 i.Nest
+    ∷ begun 5 0 (i.Push (pos 1))
+    ∷ begun 6 1 (i.StoreL 2)
+    ∷ begun 7 0 (i.Push (pos 4096))
+    ∷ begun 8 1 (i.StoreL 3)
+    ∷ begun 9 0 (i.Push (pos 1))
+    ∷ begun 10 1 (i.StoreL 4)
+    ∷ begun 11 0 (i.Push (pos 3))
+    ∷ begun 12 1 (i.StoreL 5)
+    ∷ begun 13 0 (i.LoadL 4)
+    ∷ begun 14 1 (i.LoadL 5)
+    ∷ begun 15 2 i.Le
+    ∷ begun 16 1 (i.JFalse 17)
+    ∷ begun 17 0 (i.LoadL 4)
+    ∷ begun 18 1 (i.LoadL 5)
+    ∷ begun 19 2 (i.LoadL 2)
+    ∷ begun 20 3 (i.LoadL 3)
+    ∷ begun 21 4 (i.LoadL 1)
+    ∷ begun 22 5 (i.Fork 0)
+    ∷ begun 23 1 (i.Jump 36)
+    ∷ thread 24 0 (i.LoadL 1)
+    ∷ thread 25 1 (i.LoadL 2)
+    ∷ thread 26 2 (i.LoadL 3)
+    ∷ thread 27 3 i.Le
+    ∷ thread 28 2 (i.JFalse 35)
+    ∷ thread 29 1 (i.Jump 31)
+    ∷ thread 30 1 (i.Jump 35)
+    ∷ thread 31 1 i.Turn
+    ∷ thread 32 1 (i.LoadL 2)
+    ∷ thread 33 2 (i.Add Narrow)
+    ∷ thread 34 1 (i.Next 2 3 31)
+    ∷ thread 35 1 i.EndV
+    ∷ begun 36 1 i.Unnest
+    ∷ main 37 1 fits
+    ∷ main 38 1 (i.StoreG 0)
+    ∷ main 39 0 i.Halt
     ∷ []
 
 abbrev pub Gathers : Type 0
 Gathers = IsCode gathers no_leases gathers_code []
-    (begins (Sub 0) 25 5 3 (code_kind.Reduction (Some (record { op = op.Add; base = Narrow }))) [] ∷ []) (procedure 0 7 5 ∷ []) []
+    (begins (Sub 0) 24 5 3 (code_kind.Reduction (Some (record { op = op.Add; base = Narrow }))) [] ∷ []) (procedure 0 7 5 ∷ []) []
 
 -- Outer : loop parallel for I in 1 .. 2 loop exit Outer when I = 2; exit; end loop; end loop Outer;
 

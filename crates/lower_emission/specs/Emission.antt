@@ -12,7 +12,6 @@ use Rattle.ada_base.specs.declared.operation.Comparison.{Comparison}
 use Rattle.typed_tree.specs.declared.expressions.Sign.{Sign}
 use Rattle.typed_tree.specs.declared.expressions.Sign.TheVariants as sign
 use Rattle.typed_tree.specs.declared.expressions.Run.{Run}
-use Rattle.typed_tree.specs.declared.expressions.Iterated.{Iterated}
 use Rattle.typed_tree.specs.declared.expressions.Reducer.{Reducer}
 use Rattle.typed_tree.specs.declared.expressions.Reducer.TheVariants.{Operator, Function}
 use Rattle.typed_tree.specs.declared.program.Formal.{Formal}
@@ -33,7 +32,7 @@ use Rattle.lower_emission.specs.declared.types.Named.{Named}
 use Rattle.lower_emission.specs.declared.types.Level.{Level}
 use Rattle.lower_emission.specs.declared.types.Level.TheVariants.{Own, Around, Main}
 use Rattle.lower_emission.specs.Emits.{Emit}
-use Rattle.lower_emission.specs.Scope.{Scope, own, taking, nested, thread_scope, with_parameter, with_item, with_exit, root_of, constant_root_of, array_root_of, none, one, keep, forks, ◌⨟◌, choose, when_, looped, aside, from, load_of, address_of}
+use Rattle.lower_emission.specs.Scope.{Scope, own, taking, nested, thread_scope, with_parameter, with_item, with_exit, root_of, constant_root_of, array_root_of, none, one, keep, keep_checked, forks, ◌⨟◌, choose, when_, looped, aside, from, load_of, address_of}
 
 -- what no accepted program reaches
 abbrev pub lost : Scope → ℕ → Emit
@@ -251,7 +250,7 @@ stepping s h address stride first head = one s h (i.LoadL address) ⨟ one s (h 
 abbrev pub folding : Scope → ℕ → Reducer → Emit
 folding s h (Operator at op class) = one s (h + 1 + 1) (binary_instr op class)
 folding s h (Function at sub accumulator value) =
-    keep s (h + 1 + 1) (s.free + 1) ⨟ checked s (h + 1) accumulator ⨟ keep s (h + 1) s.free ⨟ one s h (i.LoadL (s.free + 1)) ⨟ checked s (h + 1) value ⨟ one s (h + 1) i.Pop ⨟ one s h (i.CallAt (sub + 1) s.free)
+    keep s (h + 1 + 1) (s.free + 1) ⨟ keep_checked s (h + 1) accumulator s.free ⨟ one s h (i.LoadL (s.free + 1)) ⨟ checked s (h + 1) value ⨟ one s (h + 1) i.Pop ⨟ one s h (i.CallAt (sub + 1) s.free)
 
 -- whether the number in a cell is one of the subtype's
 abbrev pub ranged : Scope → ℕ → (cell : ℕ) → Scalar → Emit
@@ -519,7 +518,7 @@ module _ (program : Program) where
     passed s h sub w (In formal value rest) = put_into s h (formal_of sub w (ConstantOf formal)) value ⨟ passed s h sub w rest
     passed s h sub w (InOut formal at r selections inner outer rest) =
         (address s h (root_of s r) ⨟ selected s (h + 1) selections ⨟ one s (h + 1) i.Dup ⨟ keep s (h + 1 + 1) (formal_of sub w (VariableOf formal))
-        ⨟ one s (h + 1) i.Load ⨟ checked s (h + 1) inner ⨟ keep s (h + 1) (formal_of sub w (VariableOf formal) + 1))
+        ⨟ one s (h + 1) i.Load ⨟ keep_checked s (h + 1) inner (formal_of sub w (VariableOf formal) + 1))
         ⨟ passed s h sub w rest
     passed s h sub w (Out formal at r selections inner outer rest) =
         (address s h (root_of s r) ⨟ selected s (h + 1) selections ⨟ keep s (h + 1) (formal_of sub w (VariableOf formal))
@@ -536,7 +535,7 @@ module _ (program : Program) where
 
     -- a value goes to the cells from one on
     pub put_into : Scope → ℕ → ℕ → Value → Emit
-    put_into s h t (Number check e) = emit s h e ⨟ checked s (h + 1) check.scalar ⨟ keep s (h + 1) t
+    put_into s h t (Number check e) = emit s h e ⨟ keep_checked s (h + 1) check.scalar t
     put_into s h t (Cells c) = composed s h t c
 
     pub composed : Scope → ℕ → ℕ → Composite → Emit

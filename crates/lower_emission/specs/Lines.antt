@@ -57,6 +57,10 @@ begun_within = line (Sub 1) 1 None
 abbrev pub fits : Instr
 fits = i.Range integer.low integer.high
 
+-- which then goes to a cell of the own frame
+abbrev pub integer_to : ℕ → Instr
+integer_to n = i.SetL n integer.low integer.high
+
 -- subtype Digit is Integer range 0 .. 9;
 abbrev pub digit : Scalar
 digit = record { class = integers; low = pos 0; high = pos 9 }
@@ -67,12 +71,18 @@ digits = OfScalar digit
 abbrev pub is_digit : Instr
 is_digit = i.Range digit.low digit.high
 
+abbrev pub digit_to : ℕ → Instr
+digit_to n = i.SetL n digit.low digit.high
+
 -- subtype Signed is Integer range -9 .. 9;
 abbrev pub signed : Scalar
 signed = record { class = integers; low = negsuc 8; high = pos 9 }
 
 abbrev pub is_signed : Instr
 is_signed = i.Range signed.low signed.high
+
+abbrev pub signed_to : ℕ → Instr
+signed_to n = i.SetL n signed.low signed.high
 
 -- an Integer with an initial value
 abbrev pub set_to : (object value : ℕ) → Decls → Decls

@@ -9,7 +9,7 @@ use Rattle.typed_tree.specs.declared.expressions.Root.TheVariants as root
 use Rattle.typed_tree.specs.Syntax.{Expr, Variable, Parameter, Binary, Relation, Reduction, Absent, Present, Whole, Index, Array, Range, Components, NoChunk, NoDecl, DeclareDefault, Exit, Loop, For, End, Then, Program}
 use Rattle.ada_meaning.specs.Rows.{integers, integer, number, variable, sum, assign, object_of, made_of, upto, array_of}
 use Rattle.stack_code.specs.declared.instr.Instr.TheVariants as i
-use Rattle.lower_emission.specs.Lines.{Line, main, fits, is_digit, digit, digits, set_to, IsPlain}
+use Rattle.lower_emission.specs.Lines.{Line, main, fits, integer_to, is_digit, digit, digits, set_to, IsPlain}
 
 -- X : Integer := 0; while X < 3 loop X := X + 1; end loop;
 
@@ -20,20 +20,19 @@ counts = made_of [] (object_of 0 1 ∷ []) [] (set_to 0 0 NoDecl)
 abbrev counts_code : List Line
 counts_code =
     main 0 0 (i.Push (pos 0))
-    ∷ main 1 1 fits
-    ∷ main 2 1 (i.StoreL 0)
-    ∷ main 3 0 (i.Jump 10)
-    ∷ main 4 0 (i.Jump 14)
-    ∷ main 5 0 i.Turn
-    ∷ main 6 0 (i.LoadG 0)
-    ∷ main 7 1 (i.AddI (pos 1) Narrow)
-    ∷ main 8 1 fits
-    ∷ main 9 1 (i.StoreG 0)
-    ∷ main 10 0 (i.LoadG 0)
-    ∷ main 11 1 (i.Push (pos 3))
-    ∷ main 12 2 i.Lt
-    ∷ main 13 1 (i.JTrue 5)
-    ∷ main 14 0 i.Halt
+    ∷ main 1 1 (integer_to 0)
+    ∷ main 2 0 (i.Jump 9)
+    ∷ main 3 0 (i.Jump 13)
+    ∷ main 4 0 i.Turn
+    ∷ main 5 0 (i.LoadG 0)
+    ∷ main 6 1 (i.AddI (pos 1) Narrow)
+    ∷ main 7 1 fits
+    ∷ main 8 1 (i.StoreG 0)
+    ∷ main 9 0 (i.LoadG 0)
+    ∷ main 10 1 (i.Push (pos 3))
+    ∷ main 11 2 i.Lt
+    ∷ main 12 1 (i.JTrue 4)
+    ∷ main 13 0 i.Halt
     ∷ []
 
 abbrev pub Counts : Type 0
@@ -48,22 +47,21 @@ exits = made_of [] (object_of 0 1 ∷ []) [] (set_to 0 0 NoDecl)
 abbrev exits_code : List Line
 exits_code =
     main 0 0 (i.Push (pos 0))
-    ∷ main 1 1 fits
-    ∷ main 2 1 (i.StoreL 0)
+    ∷ main 1 1 (integer_to 0)
+    ∷ main 2 0 (i.Jump 14)
     ∷ main 3 0 (i.Jump 15)
-    ∷ main 4 0 (i.Jump 16)
-    ∷ main 5 0 i.Turn
-    ∷ main 6 0 (i.LoadG 0)
-    ∷ main 7 1 (i.AddI (pos 1) Narrow)
-    ∷ main 8 1 fits
-    ∷ main 9 1 (i.StoreG 0)
-    ∷ main 10 0 (i.LoadG 0)
-    ∷ main 11 1 (i.Push (pos 3))
-    ∷ main 12 2 i.Eq
-    ∷ main 13 1 (i.JFalse 15)
-    ∷ main 14 0 (i.Jump 16)
-    ∷ main 15 0 (i.Jump 5)
-    ∷ main 16 0 i.Halt
+    ∷ main 4 0 i.Turn
+    ∷ main 5 0 (i.LoadG 0)
+    ∷ main 6 1 (i.AddI (pos 1) Narrow)
+    ∷ main 7 1 fits
+    ∷ main 8 1 (i.StoreG 0)
+    ∷ main 9 0 (i.LoadG 0)
+    ∷ main 10 1 (i.Push (pos 3))
+    ∷ main 11 2 i.Eq
+    ∷ main 12 1 (i.JFalse 14)
+    ∷ main 13 0 (i.Jump 15)
+    ∷ main 14 0 (i.Jump 4)
+    ∷ main 15 0 i.Halt
     ∷ []
 
 abbrev pub Exits : Type 0
@@ -77,26 +75,25 @@ sums = made_of [] (object_of 0 1 ∷ []) [] (set_to 0 0 NoDecl) (Then (For 0 (up
 abbrev sums_code : List Line
 sums_code =
     main 0 0 (i.Push (pos 0))
-    ∷ main 1 1 fits
-    ∷ main 2 1 (i.StoreL 0)
-    ∷ main 3 0 (i.Push (pos 1))
-    ∷ main 4 1 (i.StoreL 1)
-    ∷ main 5 0 (i.Push (pos 3))
-    ∷ main 6 1 (i.StoreL 2)
-    ∷ main 7 0 (i.LoadL 1)
-    ∷ main 8 1 (i.LoadL 2)
-    ∷ main 9 2 i.Le
-    ∷ main 10 1 (i.JFalse 20)
-    ∷ main 11 0 (i.Jump 13)
-    ∷ main 12 0 (i.Jump 20)
-    ∷ main 13 0 i.Turn
-    ∷ main 14 0 (i.LoadG 0)
-    ∷ main 15 1 (i.LoadL 1)
-    ∷ main 16 2 (i.Add Narrow)
-    ∷ main 17 1 fits
-    ∷ main 18 1 (i.StoreG 0)
-    ∷ main 19 0 (i.Next 1 2 13)
-    ∷ main 20 0 i.Halt
+    ∷ main 1 1 (integer_to 0)
+    ∷ main 2 0 (i.Push (pos 1))
+    ∷ main 3 1 (i.StoreL 1)
+    ∷ main 4 0 (i.Push (pos 3))
+    ∷ main 5 1 (i.StoreL 2)
+    ∷ main 6 0 (i.LoadL 1)
+    ∷ main 7 1 (i.LoadL 2)
+    ∷ main 8 2 i.Le
+    ∷ main 9 1 (i.JFalse 19)
+    ∷ main 10 0 (i.Jump 12)
+    ∷ main 11 0 (i.Jump 19)
+    ∷ main 12 0 i.Turn
+    ∷ main 13 0 (i.LoadG 0)
+    ∷ main 14 1 (i.LoadL 1)
+    ∷ main 15 2 (i.Add Narrow)
+    ∷ main 16 1 fits
+    ∷ main 17 1 (i.StoreG 0)
+    ∷ main 18 0 (i.Next 1 2 12)
+    ∷ main 19 0 i.Halt
     ∷ []
 
 abbrev pub Sums : Type 0
@@ -111,30 +108,29 @@ descends = made_of (digits ∷ []) (object_of 0 1 ∷ []) [] (set_to 0 3 NoDecl)
 abbrev descends_code : List Line
 descends_code =
     main 0 0 (i.Push (pos 3))
-    ∷ main 1 1 fits
-    ∷ main 2 1 (i.StoreL 0)
-    ∷ main 3 0 (i.Push (pos 1))
-    ∷ main 4 1 (i.StoreL 1)
-    ∷ main 5 0 (i.LoadG 0)
-    ∷ main 6 1 (i.StoreL 2)
-    ∷ main 7 0 (i.LoadL 1)
-    ∷ main 8 1 (i.LoadL 2)
-    ∷ main 9 2 i.Le
-    ∷ main 10 1 (i.JFalse 24)
-    ∷ main 11 0 (i.LoadL 1)
-    ∷ main 12 1 is_digit
-    ∷ main 13 1 i.Pop
-    ∷ main 14 0 (i.LoadL 2)
-    ∷ main 15 1 is_digit
-    ∷ main 16 1 i.Pop
-    ∷ main 17 0 (i.Jump 19)
-    ∷ main 18 0 (i.Jump 24)
-    ∷ main 19 0 i.Turn
-    ∷ main 20 0 (i.LoadL 2)
-    ∷ main 21 1 fits
-    ∷ main 22 1 (i.StoreG 0)
-    ∷ main 23 0 (i.Prior 2 1 19)
-    ∷ main 24 0 i.Halt
+    ∷ main 1 1 (integer_to 0)
+    ∷ main 2 0 (i.Push (pos 1))
+    ∷ main 3 1 (i.StoreL 1)
+    ∷ main 4 0 (i.LoadG 0)
+    ∷ main 5 1 (i.StoreL 2)
+    ∷ main 6 0 (i.LoadL 1)
+    ∷ main 7 1 (i.LoadL 2)
+    ∷ main 8 2 i.Le
+    ∷ main 9 1 (i.JFalse 23)
+    ∷ main 10 0 (i.LoadL 1)
+    ∷ main 11 1 is_digit
+    ∷ main 12 1 i.Pop
+    ∷ main 13 0 (i.LoadL 2)
+    ∷ main 14 1 is_digit
+    ∷ main 15 1 i.Pop
+    ∷ main 16 0 (i.Jump 18)
+    ∷ main 17 0 (i.Jump 23)
+    ∷ main 18 0 i.Turn
+    ∷ main 19 0 (i.LoadL 2)
+    ∷ main 20 1 fits
+    ∷ main 21 1 (i.StoreG 0)
+    ∷ main 22 0 (i.Prior 2 1 18)
+    ∷ main 23 0 i.Halt
     ∷ []
 
 abbrev pub Descends : Type 0
@@ -149,28 +145,27 @@ skips = made_of [] (object_of 0 1 ∷ []) [] (set_to 0 0 NoDecl)
 abbrev skips_code : List Line
 skips_code =
     main 0 0 (i.Push (pos 0))
-    ∷ main 1 1 fits
-    ∷ main 2 1 (i.StoreL 0)
-    ∷ main 3 0 (i.Push (pos 1))
-    ∷ main 4 1 (i.StoreL 1)
-    ∷ main 5 0 (i.Push (pos 3))
-    ∷ main 6 1 (i.StoreL 2)
-    ∷ main 7 0 (i.LoadL 1)
-    ∷ main 8 1 (i.LoadL 2)
-    ∷ main 9 2 i.Le
-    ∷ main 10 1 (i.JFalse 22)
-    ∷ main 11 0 (i.Jump 13)
-    ∷ main 12 0 (i.Jump 22)
-    ∷ main 13 0 i.Turn
-    ∷ main 14 0 (i.LoadL 1)
-    ∷ main 15 1 (i.Push (pos 2))
-    ∷ main 16 2 i.Ne
-    ∷ main 17 1 (i.JFalse 21)
-    ∷ main 18 0 (i.LoadL 1)
-    ∷ main 19 1 fits
-    ∷ main 20 1 (i.StoreG 0)
-    ∷ main 21 0 (i.Next 1 2 13)
-    ∷ main 22 0 i.Halt
+    ∷ main 1 1 (integer_to 0)
+    ∷ main 2 0 (i.Push (pos 1))
+    ∷ main 3 1 (i.StoreL 1)
+    ∷ main 4 0 (i.Push (pos 3))
+    ∷ main 5 1 (i.StoreL 2)
+    ∷ main 6 0 (i.LoadL 1)
+    ∷ main 7 1 (i.LoadL 2)
+    ∷ main 8 2 i.Le
+    ∷ main 9 1 (i.JFalse 21)
+    ∷ main 10 0 (i.Jump 12)
+    ∷ main 11 0 (i.Jump 21)
+    ∷ main 12 0 i.Turn
+    ∷ main 13 0 (i.LoadL 1)
+    ∷ main 14 1 (i.Push (pos 2))
+    ∷ main 15 2 i.Ne
+    ∷ main 16 1 (i.JFalse 20)
+    ∷ main 17 0 (i.LoadL 1)
+    ∷ main 18 1 fits
+    ∷ main 19 1 (i.StoreG 0)
+    ∷ main 20 0 (i.Next 1 2 12)
+    ∷ main 21 0 i.Halt
     ∷ []
 
 abbrev pub Skips : Type 0
@@ -193,28 +188,27 @@ visits_code =
     ∷ main 6 1 (i.Local 0)
     ∷ main 7 2 (i.Copy 1)
     ∷ main 8 0 (i.Push (pos 0))
-    ∷ main 9 1 fits
-    ∷ main 10 1 (i.StoreL 3)
-    ∷ main 11 0 (i.Global 0)
-    ∷ main 12 1 (i.StoreL 4)
-    ∷ main 13 0 (i.Push (pos 1))
-    ∷ main 14 1 (i.StoreL 5)
-    ∷ main 15 0 (i.Push (pos 3))
-    ∷ main 16 1 (i.StoreL 6)
-    ∷ main 17 0 (i.Jump 19)
-    ∷ main 18 0 (i.Jump 30)
-    ∷ main 19 0 i.Turn
-    ∷ main 20 0 (i.LoadG 3)
-    ∷ main 21 1 (i.LoadL 4)
-    ∷ main 22 2 i.Load
-    ∷ main 23 2 (i.Add Narrow)
-    ∷ main 24 1 fits
-    ∷ main 25 1 (i.StoreG 3)
-    ∷ main 26 0 (i.LoadL 4)
-    ∷ main 27 1 (i.Field 1)
-    ∷ main 28 1 (i.StoreL 4)
-    ∷ main 29 0 (i.Next 5 6 19)
-    ∷ main 30 0 i.Halt
+    ∷ main 9 1 (integer_to 3)
+    ∷ main 10 0 (i.Global 0)
+    ∷ main 11 1 (i.StoreL 4)
+    ∷ main 12 0 (i.Push (pos 1))
+    ∷ main 13 1 (i.StoreL 5)
+    ∷ main 14 0 (i.Push (pos 3))
+    ∷ main 15 1 (i.StoreL 6)
+    ∷ main 16 0 (i.Jump 18)
+    ∷ main 17 0 (i.Jump 29)
+    ∷ main 18 0 i.Turn
+    ∷ main 19 0 (i.LoadG 3)
+    ∷ main 20 1 (i.LoadL 4)
+    ∷ main 21 2 i.Load
+    ∷ main 22 2 (i.Add Narrow)
+    ∷ main 23 1 fits
+    ∷ main 24 1 (i.StoreG 3)
+    ∷ main 25 0 (i.LoadL 4)
+    ∷ main 26 1 (i.Field 1)
+    ∷ main 27 1 (i.StoreL 4)
+    ∷ main 28 0 (i.Next 5 6 18)
+    ∷ main 29 0 i.Halt
     ∷ []
 
 abbrev pub Visits : Type 0
@@ -229,27 +223,26 @@ reduces = made_of [] (object_of 0 1 ∷ []) [] (set_to 0 0 NoDecl)
 abbrev reduces_code : List Line
 reduces_code =
     main 0 0 (i.Push (pos 0))
-    ∷ main 1 1 fits
-    ∷ main 2 1 (i.StoreL 0)
-    ∷ main 3 0 (i.Push (pos 0))
-    ∷ main 4 1 (i.Push (pos 1))
-    ∷ main 5 2 (i.StoreL 1)
-    ∷ main 6 1 (i.Push (pos 3))
-    ∷ main 7 2 (i.StoreL 2)
-    ∷ main 8 1 (i.LoadL 1)
-    ∷ main 9 2 (i.LoadL 2)
-    ∷ main 10 3 i.Le
-    ∷ main 11 2 (i.JFalse 19)
-    ∷ main 12 1 (i.Jump 14)
-    ∷ main 13 1 (i.Jump 19)
-    ∷ main 14 1 i.Turn
-    ∷ main 15 1 (i.LoadL 1)
-    ∷ main 16 2 (i.MulI (pos 2) Narrow)
-    ∷ main 17 2 (i.Add Narrow)
-    ∷ main 18 1 (i.Next 1 2 14)
-    ∷ main 19 1 fits
-    ∷ main 20 1 (i.StoreG 0)
-    ∷ main 21 0 i.Halt
+    ∷ main 1 1 (integer_to 0)
+    ∷ main 2 0 (i.Push (pos 0))
+    ∷ main 3 1 (i.Push (pos 1))
+    ∷ main 4 2 (i.StoreL 1)
+    ∷ main 5 1 (i.Push (pos 3))
+    ∷ main 6 2 (i.StoreL 2)
+    ∷ main 7 1 (i.LoadL 1)
+    ∷ main 8 2 (i.LoadL 2)
+    ∷ main 9 3 i.Le
+    ∷ main 10 2 (i.JFalse 18)
+    ∷ main 11 1 (i.Jump 13)
+    ∷ main 12 1 (i.Jump 18)
+    ∷ main 13 1 i.Turn
+    ∷ main 14 1 (i.LoadL 1)
+    ∷ main 15 2 (i.MulI (pos 2) Narrow)
+    ∷ main 16 2 (i.Add Narrow)
+    ∷ main 17 1 (i.Next 1 2 13)
+    ∷ main 18 1 fits
+    ∷ main 19 1 (i.StoreG 0)
+    ∷ main 20 0 i.Halt
     ∷ []
 
 abbrev pub Reduces : Type 0
@@ -275,31 +268,30 @@ crosses_code =
     ∷ main 6 1 (i.Local 0)
     ∷ main 7 2 (i.Copy 2)
     ∷ main 8 0 (i.Push (pos 1))
-    ∷ main 9 1 fits
-    ∷ main 10 1 (i.StoreL 4)
-    ∷ main 11 0 (i.Push (pos 1))
-    ∷ main 12 1 (i.StoreL 5)
-    ∷ main 13 0 (i.Push (pos 2))
-    ∷ main 14 1 (i.StoreL 6)
-    ∷ main 15 0 (i.LoadL 5)
-    ∷ main 16 1 (i.LoadL 6)
-    ∷ main 17 2 i.Le
-    ∷ main 18 1 (i.JFalse 33)
-    ∷ main 19 0 (i.Jump 21)
-    ∷ main 20 0 (i.Jump 33)
-    ∷ main 21 0 i.Turn
-    ∷ main 22 0 (i.IndexG 0 (pos 1) (pos 2) 2 5)
-    ∷ main 23 1 (i.ItemL 5 (pos 1) (pos 2) 1)
-    ∷ main 24 1 (i.Global 0)
-    ∷ main 25 2 (i.LoadG 4)
-    ∷ main 26 3 (i.Index (pos 1) (pos 2) 2)
-    ∷ main 27 2 (i.LoadG 4)
-    ∷ main 28 3 (i.Item (pos 1) (pos 2) 1)
-    ∷ main 29 2 (i.Add Narrow)
-    ∷ main 30 1 fits
-    ∷ main 31 1 (i.StoreG 4)
-    ∷ main 32 0 (i.Next 5 6 21)
-    ∷ main 33 0 i.Halt
+    ∷ main 9 1 (integer_to 4)
+    ∷ main 10 0 (i.Push (pos 1))
+    ∷ main 11 1 (i.StoreL 5)
+    ∷ main 12 0 (i.Push (pos 2))
+    ∷ main 13 1 (i.StoreL 6)
+    ∷ main 14 0 (i.LoadL 5)
+    ∷ main 15 1 (i.LoadL 6)
+    ∷ main 16 2 i.Le
+    ∷ main 17 1 (i.JFalse 32)
+    ∷ main 18 0 (i.Jump 20)
+    ∷ main 19 0 (i.Jump 32)
+    ∷ main 20 0 i.Turn
+    ∷ main 21 0 (i.IndexG 0 (pos 1) (pos 2) 2 5)
+    ∷ main 22 1 (i.ItemL 5 (pos 1) (pos 2) 1)
+    ∷ main 23 1 (i.Global 0)
+    ∷ main 24 2 (i.LoadG 4)
+    ∷ main 25 3 (i.Index (pos 1) (pos 2) 2)
+    ∷ main 26 2 (i.LoadG 4)
+    ∷ main 27 3 (i.Item (pos 1) (pos 2) 1)
+    ∷ main 28 2 (i.Add Narrow)
+    ∷ main 29 1 fits
+    ∷ main 30 1 (i.StoreG 4)
+    ∷ main 31 0 (i.Next 5 6 20)
+    ∷ main 32 0 i.Halt
     ∷ []
 
 abbrev pub Crosses : Type 0
@@ -325,31 +317,30 @@ mixes_code =
     ∷ main 6 1 (i.Local 0)
     ∷ main 7 2 (i.Copy 1)
     ∷ main 8 0 (i.Push (pos 7))
-    ∷ main 9 1 fits
-    ∷ main 10 1 (i.StoreL 3)
-    ∷ main 11 0 (i.Push (pos 1))
-    ∷ main 12 1 (i.StoreL 4)
-    ∷ main 13 0 (i.Push (pos 3))
-    ∷ main 14 1 (i.StoreL 5)
-    ∷ main 15 0 (i.LoadL 4)
-    ∷ main 16 1 (i.LoadL 5)
-    ∷ main 17 2 i.Le
-    ∷ main 18 1 (i.JFalse 33)
-    ∷ main 19 0 (i.Jump 21)
-    ∷ main 20 0 (i.Jump 33)
-    ∷ main 21 0 i.Turn
-    ∷ main 22 0 (i.ItemG 0 (pos 1) (pos 3) 1 4)
-    ∷ main 23 1 (i.SubI (pos 1) Narrow)
-    ∷ main 24 1 (i.MulI (pos 3) Narrow)
-    ∷ main 25 1 (i.LoadG 3)
-    ∷ main 26 2 (i.Add Narrow)
-    ∷ main 27 1 (i.ModI (pos 5) Narrow)
-    ∷ main 28 1 (i.Push (pos 2))
-    ∷ main 29 2 (i.Div Narrow)
-    ∷ main 30 1 fits
-    ∷ main 31 1 (i.StoreG 3)
-    ∷ main 32 0 (i.Next 4 5 21)
-    ∷ main 33 0 i.Halt
+    ∷ main 9 1 (integer_to 3)
+    ∷ main 10 0 (i.Push (pos 1))
+    ∷ main 11 1 (i.StoreL 4)
+    ∷ main 12 0 (i.Push (pos 3))
+    ∷ main 13 1 (i.StoreL 5)
+    ∷ main 14 0 (i.LoadL 4)
+    ∷ main 15 1 (i.LoadL 5)
+    ∷ main 16 2 i.Le
+    ∷ main 17 1 (i.JFalse 32)
+    ∷ main 18 0 (i.Jump 20)
+    ∷ main 19 0 (i.Jump 32)
+    ∷ main 20 0 i.Turn
+    ∷ main 21 0 (i.ItemG 0 (pos 1) (pos 3) 1 4)
+    ∷ main 22 1 (i.SubI (pos 1) Narrow)
+    ∷ main 23 1 (i.MulI (pos 3) Narrow)
+    ∷ main 24 1 (i.LoadG 3)
+    ∷ main 25 2 (i.Add Narrow)
+    ∷ main 26 1 (i.ModI (pos 5) Narrow)
+    ∷ main 27 1 (i.Push (pos 2))
+    ∷ main 28 2 (i.Div Narrow)
+    ∷ main 29 1 fits
+    ∷ main 30 1 (i.StoreG 3)
+    ∷ main 31 0 (i.Next 4 5 20)
+    ∷ main 32 0 i.Halt
     ∷ []
 
 abbrev pub Mixes : Type 0

@@ -1,5 +1,5 @@
 -- Which values of an aggregate are computed anew for each of several components (4.3).
-use Rattle.std.specs.Prelude.{nat_lt, List, [], ◌∷◌, Option, Some, None, Bool, true, false, not, ◌&&◌, ◌||◌}
+use Rattle.std.specs.Prelude.{nat_lt, List, [], ◌∷◌, Some, None, Bool, true, false, not, ◌&&◌, ◌||◌}
 use Rattle.typed_tree.specs.declared.expressions.Run.{Run}
 use Rattle.typed_tree.specs.Statics.{is_whole}
 use Rattle.typed_tree.specs.Syntax.{Expr, Static, Variable, Constant, Parameter, Target, Value, Number, Cells, Composite, WholeVariable, WholeConstant, WholeTarget, CompositeIf, Aggregate, Associations, NoAssociation, Association}

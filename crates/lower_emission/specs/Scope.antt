@@ -1,6 +1,7 @@
 -- What is known where code is emitted, and how code is put together.
 use Rattle.std.specs.Prelude.{ℕ, ◌+◌, max, nat_eq, Option, Some, None, Bool, true, false, cond, not, ◌&&◌, List}
 use Rattle.behaviours.specs.Paths.{Entity, VariableOf, ConstantOf, entity_eq}
+use Rattle.typed_tree.specs.declared.scalars.Scalar.{Scalar}
 use Rattle.typed_tree.specs.declared.expressions.Root.{Root}
 use Rattle.typed_tree.specs.declared.expressions.Root.TheVariants as root
 use Rattle.stack_code.specs.declared.code.Around as body
@@ -8,7 +9,7 @@ use Rattle.stack_code.specs.declared.code.Around.TheVariants.{Site}
 use Rattle.stack_code.specs.declared.code.SiteKind.{SiteKind}
 use Rattle.stack_code.specs.declared.code.SiteKind.TheVariants as kind
 use Rattle.stack_code.specs.declared.instr.Instr.{Instr}
-use Rattle.stack_code.specs.declared.instr.Instr.TheVariants.{Fork, Local, Outer, Global, LoadL, LoadO, LoadG, StoreL, StoreO, StoreG}
+use Rattle.stack_code.specs.declared.instr.Instr.TheVariants.{Fork, Local, Outer, Global, LoadL, LoadO, LoadG, StoreL, StoreO, StoreG, SetL}
 use Rattle.lower_emission.specs.declared.types.Where.{Where}
 use Rattle.lower_emission.specs.declared.types.Named.{Named}
 use Rattle.lower_emission.specs.declared.types.Mark.{Mark}
@@ -141,6 +142,10 @@ one s h i = emits.One (mark s) h i
 -- a cell of the frame is written
 abbrev pub keep : Scope → ℕ → ℕ → Emit
 keep s h n = emits.One (mark_of (max s.free (n + 1)) s) h (StoreL n)
+
+-- a cell of the frame is written with a number of the subtype, and any other one raises
+abbrev pub keep_checked : Scope → ℕ → Scalar → ℕ → Emit
+keep_checked s h k n = emits.One (mark_of (max s.free (n + 1)) s) h (SetL n k.low k.high)
 
 -- a construct is begun
 abbrev pub forks : Scope → ℕ → SiteKind → (site : ℕ) → Emit

@@ -9,7 +9,7 @@ use Rattle.typed_tree.specs.Syntax as syntax
 use Rattle.typed_tree.specs.Syntax.{Expr, Variable, Parameter, Target, Relation, NoExpr, Selections, Whole, Field, Index, Cells, Aggregate, NoAssociation, Association, Associations, NoPiece, Text, Image, NoDecl, DeclareDefault, DeclareVariable, Assign, IfThen, Case, Put, End, Then, NoAlternative, Alternative, Program}
 use Rattle.ada_meaning.specs.Rows.{integers, integer, number, variable, sum, stored, assign, object_of, made_of, array_of, get_into}
 use Rattle.stack_code.specs.declared.instr.Instr.TheVariants as i
-use Rattle.lower_emission.specs.Lines.{Line, main, fits, set_to, procedure, no_leases, IsCode, IsPlain}
+use Rattle.lower_emission.specs.Lines.{Line, main, fits, integer_to, set_to, procedure, no_leases, IsCode, IsPlain}
 
 -- X : Integer := 2; X := X + 3; Put (Integer'Image (X));
 
@@ -20,18 +20,17 @@ adds = made_of [] (object_of 0 1 ∷ []) [] (set_to 0 2 NoDecl)
 abbrev adds_code : List Line
 adds_code =
     main 0 0 (i.Push (pos 2))
-    ∷ main 1 1 fits
-    ∷ main 2 1 (i.StoreL 0)
-    ∷ main 3 0 (i.LoadG 0)
-    ∷ main 4 1 (i.AddI (pos 3) Narrow)
-    ∷ main 5 1 fits
-    ∷ main 6 1 (i.StoreG 0)
-    ∷ main 7 0 (i.LoadG 0)
-    ∷ main 8 1 (i.StoreL 1)
-    ∷ main 9 0 (i.LoadL 1)
-    ∷ main 10 1 i.Img
-    ∷ main 11 0 i.Send
-    ∷ main 12 0 i.Halt
+    ∷ main 1 1 (integer_to 0)
+    ∷ main 2 0 (i.LoadG 0)
+    ∷ main 3 1 (i.AddI (pos 3) Narrow)
+    ∷ main 4 1 fits
+    ∷ main 5 1 (i.StoreG 0)
+    ∷ main 6 0 (i.LoadG 0)
+    ∷ main 7 1 (i.StoreL 1)
+    ∷ main 8 0 (i.LoadL 1)
+    ∷ main 9 1 i.Img
+    ∷ main 10 0 i.Send
+    ∷ main 11 0 i.Halt
     ∷ []
 
 abbrev pub Adds : Type 0
@@ -47,27 +46,26 @@ decides = made_of [] (object_of 0 1 ∷ []) [] (set_to 0 2 NoDecl)
 abbrev decides_code : List Line
 decides_code =
     main 0 0 (i.Push (pos 2))
-    ∷ main 1 1 fits
-    ∷ main 2 1 (i.StoreL 0)
-    ∷ main 3 0 (i.LoadG 0)
-    ∷ main 4 1 (i.Push (pos 3))
-    ∷ main 5 2 i.Lt
-    ∷ main 6 1 (i.JFalse 11)
-    ∷ main 7 0 (i.Push (pos 3))
-    ∷ main 8 1 fits
-    ∷ main 9 1 (i.StoreG 0)
-    ∷ main 10 0 (i.Jump 14)
-    ∷ main 11 0 (i.Push (pos 4))
-    ∷ main 12 1 fits
-    ∷ main 13 1 (i.StoreG 0)
-    ∷ main 14 0 (i.LoadG 0)
-    ∷ main 15 1 (i.Push (pos 3))
-    ∷ main 16 2 i.Eq
-    ∷ main 17 1 (i.JFalse 21)
-    ∷ main 18 0 (i.Push (pos 5))
-    ∷ main 19 1 fits
-    ∷ main 20 1 (i.StoreG 0)
-    ∷ main 21 0 i.Halt
+    ∷ main 1 1 (integer_to 0)
+    ∷ main 2 0 (i.LoadG 0)
+    ∷ main 3 1 (i.Push (pos 3))
+    ∷ main 4 2 i.Lt
+    ∷ main 5 1 (i.JFalse 10)
+    ∷ main 6 0 (i.Push (pos 3))
+    ∷ main 7 1 fits
+    ∷ main 8 1 (i.StoreG 0)
+    ∷ main 9 0 (i.Jump 13)
+    ∷ main 10 0 (i.Push (pos 4))
+    ∷ main 11 1 fits
+    ∷ main 12 1 (i.StoreG 0)
+    ∷ main 13 0 (i.LoadG 0)
+    ∷ main 14 1 (i.Push (pos 3))
+    ∷ main 15 2 i.Eq
+    ∷ main 16 1 (i.JFalse 20)
+    ∷ main 17 0 (i.Push (pos 5))
+    ∷ main 18 1 fits
+    ∷ main 19 1 (i.StoreG 0)
+    ∷ main 20 0 i.Halt
     ∷ []
 
 abbrev pub Decides : Type 0
@@ -83,37 +81,36 @@ chooses = made_of [] (object_of 0 1 ∷ []) [] (set_to 0 2 NoDecl)
 abbrev chooses_code : List Line
 chooses_code =
     main 0 0 (i.Push (pos 2))
-    ∷ main 1 1 fits
-    ∷ main 2 1 (i.StoreL 0)
-    ∷ main 3 0 (i.LoadG 0)
-    ∷ main 4 1 (i.StoreL 1)
-    ∷ main 5 0 (i.LoadL 1)
-    ∷ main 6 1 (i.Push (pos 1))
-    ∷ main 7 2 i.Ge
-    ∷ main 8 1 (i.LoadL 1)
-    ∷ main 9 2 (i.Push (pos 1))
-    ∷ main 10 3 i.Le
-    ∷ main 11 2 i.Min
-    ∷ main 12 1 (i.JFalse 15)
-    ∷ main 13 0 (i.Push (pos 1))
-    ∷ main 14 1 (i.Jump 26)
-    ∷ main 15 0 (i.LoadL 1)
-    ∷ main 16 1 (i.Push (pos 3))
-    ∷ main 17 2 i.Ge
-    ∷ main 18 1 (i.LoadL 1)
-    ∷ main 19 2 (i.Push (pos 4))
-    ∷ main 20 3 i.Le
-    ∷ main 21 2 i.Min
-    ∷ main 22 1 (i.JFalse 25)
-    ∷ main 23 0 (i.Push (pos 1))
-    ∷ main 24 1 (i.Jump 26)
-    ∷ main 25 0 (i.Push (pos 0))
-    ∷ main 26 1 (i.JFalse 31)
-    ∷ main 27 0 (i.Push (pos 5))
-    ∷ main 28 1 fits
-    ∷ main 29 1 (i.StoreG 0)
-    ∷ main 30 0 (i.Jump 31)
-    ∷ main 31 0 i.Halt
+    ∷ main 1 1 (integer_to 0)
+    ∷ main 2 0 (i.LoadG 0)
+    ∷ main 3 1 (i.StoreL 1)
+    ∷ main 4 0 (i.LoadL 1)
+    ∷ main 5 1 (i.Push (pos 1))
+    ∷ main 6 2 i.Ge
+    ∷ main 7 1 (i.LoadL 1)
+    ∷ main 8 2 (i.Push (pos 1))
+    ∷ main 9 3 i.Le
+    ∷ main 10 2 i.Min
+    ∷ main 11 1 (i.JFalse 14)
+    ∷ main 12 0 (i.Push (pos 1))
+    ∷ main 13 1 (i.Jump 25)
+    ∷ main 14 0 (i.LoadL 1)
+    ∷ main 15 1 (i.Push (pos 3))
+    ∷ main 16 2 i.Ge
+    ∷ main 17 1 (i.LoadL 1)
+    ∷ main 18 2 (i.Push (pos 4))
+    ∷ main 19 3 i.Le
+    ∷ main 20 2 i.Min
+    ∷ main 21 1 (i.JFalse 24)
+    ∷ main 22 0 (i.Push (pos 1))
+    ∷ main 23 1 (i.Jump 25)
+    ∷ main 24 0 (i.Push (pos 0))
+    ∷ main 25 1 (i.JFalse 30)
+    ∷ main 26 0 (i.Push (pos 5))
+    ∷ main 27 1 fits
+    ∷ main 28 1 (i.StoreG 0)
+    ∷ main 29 0 (i.Jump 30)
+    ∷ main 30 0 i.Halt
     ∷ []
 
 abbrev pub Chooses : Type 0
@@ -136,23 +133,19 @@ fills = array_with 4 (given (run 1 1 ∷ []) (variable 0) (given (run 0 1 ∷ ru
 abbrev fills_code : List Line
 fills_code =
     main 0 0 (i.Push (pos 3))
-    ∷ main 1 1 fits
-    ∷ main 2 1 (i.StoreL 0)
-    ∷ main 3 0 (i.Local 1)
-    ∷ main 4 1 (i.Fill 4 (pos 0))
-    ∷ main 5 0 (i.LoadG 0)
-    ∷ main 6 1 fits
-    ∷ main 7 1 (i.StoreL 2)
+    ∷ main 1 1 (integer_to 0)
+    ∷ main 2 0 (i.Local 1)
+    ∷ main 3 1 (i.Fill 4 (pos 0))
+    ∷ main 4 0 (i.LoadG 0)
+    ∷ main 5 1 (integer_to 2)
+    ∷ main 6 0 (i.Push (pos 0))
+    ∷ main 7 1 (integer_to 1)
     ∷ main 8 0 (i.Push (pos 0))
-    ∷ main 9 1 fits
-    ∷ main 10 1 (i.StoreL 1)
-    ∷ main 11 0 (i.Push (pos 0))
-    ∷ main 12 1 fits
-    ∷ main 13 1 (i.StoreL 3)
-    ∷ main 14 0 (i.Local 4)
-    ∷ main 15 1 (i.Local 3)
-    ∷ main 16 2 (i.Copy 1)
-    ∷ main 17 0 i.Halt
+    ∷ main 9 1 (integer_to 3)
+    ∷ main 10 0 (i.Local 4)
+    ∷ main 11 1 (i.Local 3)
+    ∷ main 12 2 (i.Copy 1)
+    ∷ main 13 0 i.Halt
     ∷ []
 
 abbrev pub Fills : Type 0
@@ -166,27 +159,26 @@ computes = array_with 3 (given (run 0 3 ∷ []) (sum (variable 0) (number (pos 1
 abbrev computes_code : List Line
 computes_code =
     main 0 0 (i.Push (pos 3))
-    ∷ main 1 1 fits
-    ∷ main 2 1 (i.StoreL 0)
-    ∷ main 3 0 (i.Local 1)
-    ∷ main 4 1 (i.Fill 3 (pos 0))
-    ∷ main 5 0 (i.Push (pos 0))
-    ∷ main 6 1 (i.StoreL 4)
-    ∷ main 7 0 (i.Repeat 3)
-    ∷ main 8 0 (i.Local 1)
-    ∷ main 9 1 (i.LoadL 4)
-    ∷ main 10 2 (i.Index (pos 0) (pos 2) 1)
-    ∷ main 11 1 (i.StoreL 5)
-    ∷ main 12 0 (i.LoadL 5)
-    ∷ main 13 1 (i.LoadG 0)
-    ∷ main 14 2 (i.AddI (pos 1) Narrow)
-    ∷ main 15 2 fits
-    ∷ main 16 2 i.Store
-    ∷ main 17 0 (i.LoadL 4)
-    ∷ main 18 1 (i.Field 1)
-    ∷ main 19 1 (i.StoreL 4)
-    ∷ main 20 0 (i.Again 8)
-    ∷ main 21 0 i.Halt
+    ∷ main 1 1 (integer_to 0)
+    ∷ main 2 0 (i.Local 1)
+    ∷ main 3 1 (i.Fill 3 (pos 0))
+    ∷ main 4 0 (i.Push (pos 0))
+    ∷ main 5 1 (i.StoreL 4)
+    ∷ main 6 0 (i.Repeat 3)
+    ∷ main 7 0 (i.Local 1)
+    ∷ main 8 1 (i.LoadL 4)
+    ∷ main 9 2 (i.Index (pos 0) (pos 2) 1)
+    ∷ main 10 1 (i.StoreL 5)
+    ∷ main 11 0 (i.LoadL 5)
+    ∷ main 12 1 (i.LoadG 0)
+    ∷ main 13 2 (i.AddI (pos 1) Narrow)
+    ∷ main 14 2 fits
+    ∷ main 15 2 i.Store
+    ∷ main 16 0 (i.LoadL 4)
+    ∷ main 17 1 (i.Field 1)
+    ∷ main 18 1 (i.StoreL 4)
+    ∷ main 19 0 (i.Again 7)
+    ∷ main 20 0 i.Halt
     ∷ []
 
 -- an association with the parameter K, from 1 on
@@ -199,30 +191,29 @@ numbers = array_with 3 (numbered (run 0 3 ∷ []))
 abbrev numbers_code : List Line
 numbers_code =
     main 0 0 (i.Push (pos 3))
-    ∷ main 1 1 fits
-    ∷ main 2 1 (i.StoreL 0)
-    ∷ main 3 0 (i.Local 1)
-    ∷ main 4 1 (i.Fill 3 (pos 0))
-    ∷ main 5 0 (i.Push (pos 1))
-    ∷ main 6 1 (i.StoreL 4)
-    ∷ main 7 0 (i.Push (pos 3))
-    ∷ main 8 1 (i.StoreL 5)
-    ∷ main 9 0 (i.Local 1)
-    ∷ main 10 1 (i.StoreL 6)
-    ∷ main 11 0 (i.Jump 13)
-    ∷ main 12 0 (i.Jump 24)
-    ∷ main 13 0 i.Turn
-    ∷ main 14 0 (i.LoadL 6)
-    ∷ main 15 1 (i.LoadG 0)
-    ∷ main 16 2 (i.LoadL 4)
-    ∷ main 17 3 (i.Add Narrow)
-    ∷ main 18 2 fits
-    ∷ main 19 2 i.Store
-    ∷ main 20 0 (i.LoadL 6)
-    ∷ main 21 1 (i.Field 1)
-    ∷ main 22 1 (i.StoreL 6)
-    ∷ main 23 0 (i.Next 4 5 13)
-    ∷ main 24 0 i.Halt
+    ∷ main 1 1 (integer_to 0)
+    ∷ main 2 0 (i.Local 1)
+    ∷ main 3 1 (i.Fill 3 (pos 0))
+    ∷ main 4 0 (i.Push (pos 1))
+    ∷ main 5 1 (i.StoreL 4)
+    ∷ main 6 0 (i.Push (pos 3))
+    ∷ main 7 1 (i.StoreL 5)
+    ∷ main 8 0 (i.Local 1)
+    ∷ main 9 1 (i.StoreL 6)
+    ∷ main 10 0 (i.Jump 12)
+    ∷ main 11 0 (i.Jump 23)
+    ∷ main 12 0 i.Turn
+    ∷ main 13 0 (i.LoadL 6)
+    ∷ main 14 1 (i.LoadG 0)
+    ∷ main 15 2 (i.LoadL 4)
+    ∷ main 16 3 (i.Add Narrow)
+    ∷ main 17 2 fits
+    ∷ main 18 2 i.Store
+    ∷ main 19 0 (i.LoadL 6)
+    ∷ main 20 1 (i.Field 1)
+    ∷ main 21 1 (i.StoreL 6)
+    ∷ main 22 0 (i.Next 4 5 12)
+    ∷ main 23 0 i.Halt
     ∷ []
 
 abbrev pub Computes : Type 0
@@ -236,39 +227,37 @@ goes_round = array_with 3 (given (run 1 1 ∷ []) (number (pos 0)) (given (run 0
 abbrev goes_round_code : List Line
 goes_round_code =
     main 0 0 (i.Push (pos 3))
-    ∷ main 1 1 fits
-    ∷ main 2 1 (i.StoreL 0)
-    ∷ main 3 0 (i.Local 1)
-    ∷ main 4 1 (i.Fill 3 (pos 0))
-    ∷ main 5 0 (i.Push (pos 0))
-    ∷ main 6 1 fits
-    ∷ main 7 1 (i.StoreL 2)
-    ∷ main 8 0 (i.Push (pos 0))
-    ∷ main 9 1 (i.StoreL 4)
-    ∷ main 10 0 (i.Repeat 2)
-    ∷ main 11 0 (i.LoadL 4)
-    ∷ main 12 1 (i.Push (pos 1))
-    ∷ main 13 2 i.Lt
-    ∷ main 14 1 (i.JFalse 20)
-    ∷ main 15 0 (i.Local 1)
-    ∷ main 16 1 (i.LoadL 4)
-    ∷ main 17 2 (i.Index (pos 0) (pos 0) 1)
-    ∷ main 18 1 (i.StoreL 5)
-    ∷ main 19 0 (i.Jump 24)
-    ∷ main 20 0 (i.Local 3)
-    ∷ main 21 1 (i.LoadL 4)
-    ∷ main 22 2 (i.Index (pos 1) (pos 1) 1)
-    ∷ main 23 1 (i.StoreL 5)
-    ∷ main 24 0 (i.LoadL 5)
-    ∷ main 25 1 (i.LoadG 0)
-    ∷ main 26 2 (i.AddI (pos 1) Narrow)
-    ∷ main 27 2 fits
-    ∷ main 28 2 i.Store
-    ∷ main 29 0 (i.LoadL 4)
-    ∷ main 30 1 (i.Field 1)
-    ∷ main 31 1 (i.StoreL 4)
-    ∷ main 32 0 (i.Again 11)
-    ∷ main 33 0 i.Halt
+    ∷ main 1 1 (integer_to 0)
+    ∷ main 2 0 (i.Local 1)
+    ∷ main 3 1 (i.Fill 3 (pos 0))
+    ∷ main 4 0 (i.Push (pos 0))
+    ∷ main 5 1 (integer_to 2)
+    ∷ main 6 0 (i.Push (pos 0))
+    ∷ main 7 1 (i.StoreL 4)
+    ∷ main 8 0 (i.Repeat 2)
+    ∷ main 9 0 (i.LoadL 4)
+    ∷ main 10 1 (i.Push (pos 1))
+    ∷ main 11 2 i.Lt
+    ∷ main 12 1 (i.JFalse 18)
+    ∷ main 13 0 (i.Local 1)
+    ∷ main 14 1 (i.LoadL 4)
+    ∷ main 15 2 (i.Index (pos 0) (pos 0) 1)
+    ∷ main 16 1 (i.StoreL 5)
+    ∷ main 17 0 (i.Jump 22)
+    ∷ main 18 0 (i.Local 3)
+    ∷ main 19 1 (i.LoadL 4)
+    ∷ main 20 2 (i.Index (pos 1) (pos 1) 1)
+    ∷ main 21 1 (i.StoreL 5)
+    ∷ main 22 0 (i.LoadL 5)
+    ∷ main 23 1 (i.LoadG 0)
+    ∷ main 24 2 (i.AddI (pos 1) Narrow)
+    ∷ main 25 2 fits
+    ∷ main 26 2 i.Store
+    ∷ main 27 0 (i.LoadL 4)
+    ∷ main 28 1 (i.Field 1)
+    ∷ main 29 1 (i.StoreL 4)
+    ∷ main 30 0 (i.Again 9)
+    ∷ main 31 0 i.Halt
     ∷ []
 
 abbrev pub rounds : Program
@@ -277,56 +266,54 @@ rounds = array_with 3 (given (run 1 1 ∷ []) (number (pos 0)) (numbered (run 0 
 abbrev rounds_code : List Line
 rounds_code =
     main 0 0 (i.Push (pos 3))
-    ∷ main 1 1 fits
-    ∷ main 2 1 (i.StoreL 0)
-    ∷ main 3 0 (i.Local 1)
-    ∷ main 4 1 (i.Fill 3 (pos 0))
-    ∷ main 5 0 (i.Push (pos 0))
-    ∷ main 6 1 fits
-    ∷ main 7 1 (i.StoreL 2)
-    ∷ main 8 0 (i.Push (pos 0))
+    ∷ main 1 1 (integer_to 0)
+    ∷ main 2 0 (i.Local 1)
+    ∷ main 3 1 (i.Fill 3 (pos 0))
+    ∷ main 4 0 (i.Push (pos 0))
+    ∷ main 5 1 (integer_to 2)
+    ∷ main 6 0 (i.Push (pos 0))
+    ∷ main 7 1 (i.Push (pos 1))
+    ∷ main 8 2 (i.StoreL 4)
     ∷ main 9 1 (i.Push (pos 1))
-    ∷ main 10 2 (i.StoreL 4)
-    ∷ main 11 1 (i.Push (pos 1))
-    ∷ main 12 2 (i.StoreL 5)
-    ∷ main 13 1 (i.Local 1)
-    ∷ main 14 2 (i.StoreL 6)
-    ∷ main 15 1 (i.Jump 17)
-    ∷ main 16 1 (i.Jump 49)
-    ∷ main 17 1 i.Turn
-    ∷ main 18 1 (i.LoadL 6)
-    ∷ main 19 2 (i.LoadG 0)
-    ∷ main 20 3 (i.LoadL 4)
-    ∷ main 21 4 (i.Add Narrow)
-    ∷ main 22 3 fits
-    ∷ main 23 3 i.Store
-    ∷ main 24 1 i.Dup
-    ∷ main 25 2 (i.Push (pos 0))
-    ∷ main 26 3 i.Eq
-    ∷ main 27 2 (i.JFalse 41)
-    ∷ main 28 1 (i.LoadL 6)
-    ∷ main 29 2 (i.Field 1)
-    ∷ main 30 2 (i.StoreL 6)
-    ∷ main 31 1 (i.Next 4 5 17)
-    ∷ main 32 1 i.Pop
-    ∷ main 33 0 (i.Push (pos 1))
+    ∷ main 10 2 (i.StoreL 5)
+    ∷ main 11 1 (i.Local 1)
+    ∷ main 12 2 (i.StoreL 6)
+    ∷ main 13 1 (i.Jump 15)
+    ∷ main 14 1 (i.Jump 47)
+    ∷ main 15 1 i.Turn
+    ∷ main 16 1 (i.LoadL 6)
+    ∷ main 17 2 (i.LoadG 0)
+    ∷ main 18 3 (i.LoadL 4)
+    ∷ main 19 4 (i.Add Narrow)
+    ∷ main 20 3 fits
+    ∷ main 21 3 i.Store
+    ∷ main 22 1 i.Dup
+    ∷ main 23 2 (i.Push (pos 0))
+    ∷ main 24 3 i.Eq
+    ∷ main 25 2 (i.JFalse 39)
+    ∷ main 26 1 (i.LoadL 6)
+    ∷ main 27 2 (i.Field 1)
+    ∷ main 28 2 (i.StoreL 6)
+    ∷ main 29 1 (i.Next 4 5 15)
+    ∷ main 30 1 i.Pop
+    ∷ main 31 0 (i.Push (pos 1))
+    ∷ main 32 1 (i.Push (pos 1))
+    ∷ main 33 2 (i.StoreL 4)
     ∷ main 34 1 (i.Push (pos 1))
-    ∷ main 35 2 (i.StoreL 4)
-    ∷ main 36 1 (i.Push (pos 1))
-    ∷ main 37 2 (i.StoreL 5)
-    ∷ main 38 1 (i.Local 3)
-    ∷ main 39 2 (i.StoreL 6)
-    ∷ main 40 1 (i.Jump 17)
-    ∷ main 41 1 i.Dup
-    ∷ main 42 2 (i.Push (pos 1))
-    ∷ main 43 3 i.Eq
-    ∷ main 44 2 (i.JFalse 49)
-    ∷ main 45 1 (i.LoadL 6)
-    ∷ main 46 2 (i.Field 1)
-    ∷ main 47 2 (i.StoreL 6)
-    ∷ main 48 1 (i.Next 4 5 17)
-    ∷ main 49 1 i.Pop
-    ∷ main 50 0 i.Halt
+    ∷ main 35 2 (i.StoreL 5)
+    ∷ main 36 1 (i.Local 3)
+    ∷ main 37 2 (i.StoreL 6)
+    ∷ main 38 1 (i.Jump 15)
+    ∷ main 39 1 i.Dup
+    ∷ main 40 2 (i.Push (pos 1))
+    ∷ main 41 3 i.Eq
+    ∷ main 42 2 (i.JFalse 47)
+    ∷ main 43 1 (i.LoadL 6)
+    ∷ main 44 2 (i.Field 1)
+    ∷ main 45 2 (i.StoreL 6)
+    ∷ main 46 1 (i.Next 4 5 15)
+    ∷ main 47 1 i.Pop
+    ∷ main 48 0 i.Halt
     ∷ []
 
 abbrev pub GoesRound : Type 0
@@ -346,32 +333,31 @@ selects = made_of (syntax.Record (record { name = 0; subtype = 0 } ∷ record { 
 abbrev selects_code : List Line
 selects_code =
     main 0 0 (i.Push (pos 1))
-    ∷ main 1 1 fits
-    ∷ main 2 1 (i.StoreL 0)
-    ∷ main 3 0 (i.Push integer.low)
-    ∷ main 4 1 (i.StoreL 1)
-    ∷ main 5 0 (i.Push integer.low)
-    ∷ main 6 1 (i.StoreL 2)
-    ∷ main 7 0 (i.Local 3)
-    ∷ main 8 1 (i.Local 1)
-    ∷ main 9 2 (i.Copy 2)
-    ∷ main 10 0 (i.Global 1)
-    ∷ main 11 1 (i.LoadG 0)
-    ∷ main 12 2 (i.Index (pos 1) (pos 2) 2)
-    ∷ main 13 1 (i.Field 1)
-    ∷ main 14 1 i.Dup
-    ∷ main 15 2 (i.StoreL 5)
-    ∷ main 16 1 (i.LoadL 5)
-    ∷ main 17 2 i.Load
-    ∷ main 18 2 (i.Global 1)
-    ∷ main 19 3 (i.Push (pos 2))
-    ∷ main 20 4 (i.Index (pos 1) (pos 2) 2)
-    ∷ main 21 3 (i.Field 0)
-    ∷ main 22 3 i.Load
-    ∷ main 23 3 (i.Add Narrow)
-    ∷ main 24 2 fits
-    ∷ main 25 2 i.Store
-    ∷ main 26 0 i.Halt
+    ∷ main 1 1 (integer_to 0)
+    ∷ main 2 0 (i.Push integer.low)
+    ∷ main 3 1 (i.StoreL 1)
+    ∷ main 4 0 (i.Push integer.low)
+    ∷ main 5 1 (i.StoreL 2)
+    ∷ main 6 0 (i.Local 3)
+    ∷ main 7 1 (i.Local 1)
+    ∷ main 8 2 (i.Copy 2)
+    ∷ main 9 0 (i.Global 1)
+    ∷ main 10 1 (i.LoadG 0)
+    ∷ main 11 2 (i.Index (pos 1) (pos 2) 2)
+    ∷ main 12 1 (i.Field 1)
+    ∷ main 13 1 i.Dup
+    ∷ main 14 2 (i.StoreL 5)
+    ∷ main 15 1 (i.LoadL 5)
+    ∷ main 16 2 i.Load
+    ∷ main 17 2 (i.Global 1)
+    ∷ main 18 3 (i.Push (pos 2))
+    ∷ main 19 4 (i.Index (pos 1) (pos 2) 2)
+    ∷ main 20 3 (i.Field 0)
+    ∷ main 21 3 i.Load
+    ∷ main 22 3 (i.Add Narrow)
+    ∷ main 23 2 fits
+    ∷ main 24 2 i.Store
+    ∷ main 25 0 i.Halt
     ∷ []
 
 abbrev pub Selects : Type 0

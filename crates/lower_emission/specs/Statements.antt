@@ -21,6 +21,8 @@ use Rattle.stack_code.specs.declared.instr.Instr.TheVariants as i
 use Rattle.stack_code.specs.Listing.{reason_number}
 use Rattle.lower_emission.specs.declared.types.Where.{Where}
 use Rattle.lower_emission.specs.declared.types.Named.{Named}
+use Rattle.lower_emission.specs.declared.types.Level.{Level}
+use Rattle.lower_emission.specs.declared.types.Level.TheVariants.{Own}
 use Rattle.lower_emission.specs.declared.types.Leaving.{Leaving}
 use Rattle.lower_emission.specs.declared.types.Leaving.TheVariants.{ByReturn, ByValue, ByEnd, ByLeave}
 use Rattle.lower_emission.specs.Emits.{Emit}
@@ -37,13 +39,18 @@ is_end s = false
 
 -- ---- assignments (5.2)
 
+-- a number is checked and goes to a cell, by one instruction to one of the own frame
+abbrev pub store_checked : Scope → Scalar → Level → ℕ → Emit
+store_checked s k Own n = one s 1 (i.SetL n k.low k.high)
+store_checked s k level n = checked s 1 k ⨟ one s 1 (store_at level n)
+
 -- a scalar goes to a part of what is named, whose value @ is
-abbrev pub assigned : Scope → Option Named → Bool → (moved : Emit) → (value : Scope → ℕ → Emit) → Emit
-assigned s None whole moved value = lost s 0
-assigned s (Some n) whole moved value =
-    cond (whole && not n.through) (value (with_target n s) 0 ⨟ one s 1 (store_at n.place.level n.place.cell))
+abbrev pub assigned : Scope → Option Named → Bool → Scalar → (moved : Emit) → (value : Scope → ℕ → Emit) → Emit
+assigned s None whole k moved value = lost s 0
+assigned s (Some n) whole k moved value =
+    cond (whole && not n.through) (value (with_target n s) 0 ⨟ store_checked s k n.place.level n.place.cell)
     (one s 0 (address_of n) ⨟ moved ⨟ one s 1 i.Dup ⨟ keep s (1 + 1) s.free
-    ⨟ value (with_target (record { through = true; place = own s.free; cells = 1 }) (taking 1 s)) 1 ⨟ one s (1 + 1) i.Store)
+    ⨟ value (with_target (record { through = true; place = own s.free; cells = 1 }) (taking 1 s)) 1 ⨟ checked s (1 + 1) k ⨟ one s (1 + 1) i.Store)
 
 -- ---- choices (5.4), reasons (11.2)
 
@@ -267,7 +274,7 @@ module _ (program : Program) where
     pub stmt : Scope → Stmt → Emit
     stmt s Null = none
     stmt s (Assign at r selections (Number check e)) =
-        assigned s (root_of s r) (is_whole selections) (selected program s 1 selections) (λ t h. emit program t h e ⨟ checked t (h + 1) check.scalar)
+        assigned s (root_of s r) (is_whole selections) check.scalar (selected program s 1 selections) (λ t h. emit program t h e)
     stmt s (Assign at r selections (Cells c)) =
         address s 0 (root_of s r) ⨟ selected program s 1 selections ⨟ keep s 1 s.free
         ⨟ composed program (with_target (record { through = true; place = own s.free; cells = composite_width program c }) (taking (composite_width program c) (taking 1 s))) 0 (s.free + 1) c

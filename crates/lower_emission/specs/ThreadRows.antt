@@ -17,7 +17,7 @@ use Rattle.stack_code.specs.declared.code.Lease.{Lease}
 use Rattle.stack_code.specs.declared.code.SiteKind.TheVariants as code_kind
 use Rattle.stack_code.specs.declared.code.Step.TheVariants as step
 use Rattle.stack_code.specs.declared.instr.Instr.TheVariants as i
-use Rattle.lower_emission.specs.Lines.{Line, main, begun, begun_within, begun_thread, inner_thread, guarded, is_signed, signed, thread, within, fits, is_digit, digit, digits, set_to, procedure, function, no_leases, IsCode}
+use Rattle.lower_emission.specs.Lines.{Line, main, begun, begun_within, begun_thread, inner_thread, guarded, is_signed, signed_to, signed, thread, within, fits, integer_to, is_digit, digit, digits, set_to, procedure, function, no_leases, IsCode}
 use Rattle.lower_emission.specs.ConstructRows.{site_of, with_site, begins, lends}
 
 -- A : array (1 .. 2) of Integer; parallel (C in 1 .. 2) for I in 1 .. 4 loop A (C) := I; end loop;
@@ -190,57 +190,56 @@ reaches = with_site (kind.Block 2) (made_of [] (object_of 0 1 ∷ []) [] NoDecl
 abbrev reaches_code : List Line
 reaches_code =
     main 0 0 (i.Push (pos 0))
-    ∷ main 1 1 fits
-    ∷ main 2 1 (i.StoreL 0)
-    ∷ main 3 0 i.Nest
-    ∷ begun 4 0 (i.Push (pos 1))
-    ∷ begun 5 1 (i.StoreL 1)
-    ∷ begun 6 0 (i.Push (pos 4096))
-    ∷ begun 7 1 (i.StoreL 2)
-    ∷ begun 8 0 (i.Push (pos 0))
-    ∷ begun 9 1 (i.Push (pos 1))
-    ∷ begun 10 2 (i.LoadL 1)
-    ∷ begun 11 3 (i.LoadL 2)
-    ∷ begun 12 4 (i.Push (pos 0))
-    ∷ begun 13 5 (i.Fork 0)
-    ∷ begun 14 2 (i.Jump 35)
-    ∷ thread 15 0 (i.LoadL 2)
-    ∷ thread 16 1 (i.Push (pos 0))
-    ∷ thread 17 2 i.Le
-    ∷ thread 18 1 (i.Push (pos 0))
-    ∷ thread 19 2 (i.LoadL 3)
-    ∷ thread 20 3 i.Le
-    ∷ thread 21 2 i.Min
-    ∷ thread 22 1 (i.JFalse 26)
-    ∷ thread 23 0 (i.Push (pos 1))
-    ∷ thread 24 1 fits
-    ∷ thread 25 1 (i.StoreO 1 0)
-    ∷ thread 26 0 (i.LoadL 2)
-    ∷ thread 27 1 (i.Push (pos 1))
-    ∷ thread 28 2 i.Le
-    ∷ thread 29 1 (i.Push (pos 1))
-    ∷ thread 30 2 (i.LoadL 3)
-    ∷ thread 31 3 i.Le
-    ∷ thread 32 2 i.Min
-    ∷ thread 33 1 (i.JFalse 34)
-    ∷ thread 34 0 i.End
-    ∷ begun 35 2 i.Unnest
-    ∷ main 36 2 (i.StoreL 3)
-    ∷ main 37 1 (i.StoreL 4)
-    ∷ main 38 0 (i.LoadL 3)
-    ∷ main 39 1 (i.JFalse 51)
-    ∷ main 40 0 (i.LoadL 3)
-    ∷ main 41 1 (i.Push (pos 1))
-    ∷ main 42 2 i.Eq
-    ∷ main 43 1 (i.JFalse 45)
-    ∷ main 44 0 i.Halt
-    ∷ main 45 0 (i.LoadL 3)
-    ∷ main 46 1 (i.Push (pos 2))
-    ∷ main 47 2 i.Eq
-    ∷ main 48 1 (i.JFalse 51)
-    ∷ main 49 0 (i.LoadL 4)
-    ∷ main 50 1 i.Halt
-    ∷ main 51 0 i.Halt
+    ∷ main 1 1 (integer_to 0)
+    ∷ main 2 0 i.Nest
+    ∷ begun 3 0 (i.Push (pos 1))
+    ∷ begun 4 1 (i.StoreL 1)
+    ∷ begun 5 0 (i.Push (pos 4096))
+    ∷ begun 6 1 (i.StoreL 2)
+    ∷ begun 7 0 (i.Push (pos 0))
+    ∷ begun 8 1 (i.Push (pos 1))
+    ∷ begun 9 2 (i.LoadL 1)
+    ∷ begun 10 3 (i.LoadL 2)
+    ∷ begun 11 4 (i.Push (pos 0))
+    ∷ begun 12 5 (i.Fork 0)
+    ∷ begun 13 2 (i.Jump 34)
+    ∷ thread 14 0 (i.LoadL 2)
+    ∷ thread 15 1 (i.Push (pos 0))
+    ∷ thread 16 2 i.Le
+    ∷ thread 17 1 (i.Push (pos 0))
+    ∷ thread 18 2 (i.LoadL 3)
+    ∷ thread 19 3 i.Le
+    ∷ thread 20 2 i.Min
+    ∷ thread 21 1 (i.JFalse 25)
+    ∷ thread 22 0 (i.Push (pos 1))
+    ∷ thread 23 1 fits
+    ∷ thread 24 1 (i.StoreO 1 0)
+    ∷ thread 25 0 (i.LoadL 2)
+    ∷ thread 26 1 (i.Push (pos 1))
+    ∷ thread 27 2 i.Le
+    ∷ thread 28 1 (i.Push (pos 1))
+    ∷ thread 29 2 (i.LoadL 3)
+    ∷ thread 30 3 i.Le
+    ∷ thread 31 2 i.Min
+    ∷ thread 32 1 (i.JFalse 33)
+    ∷ thread 33 0 i.End
+    ∷ begun 34 2 i.Unnest
+    ∷ main 35 2 (i.StoreL 3)
+    ∷ main 36 1 (i.StoreL 4)
+    ∷ main 37 0 (i.LoadL 3)
+    ∷ main 38 1 (i.JFalse 50)
+    ∷ main 39 0 (i.LoadL 3)
+    ∷ main 40 1 (i.Push (pos 1))
+    ∷ main 41 2 i.Eq
+    ∷ main 42 1 (i.JFalse 44)
+    ∷ main 43 0 i.Halt
+    ∷ main 44 0 (i.LoadL 3)
+    ∷ main 45 1 (i.Push (pos 2))
+    ∷ main 46 2 i.Eq
+    ∷ main 47 1 (i.JFalse 50)
+    ∷ main 48 0 (i.LoadL 4)
+    ∷ main 49 1 i.Halt
+    ∷ main 50 0 i.Halt
     ∷ []
 
 -- the first arm Y
@@ -248,7 +247,7 @@ abbrev pub reaches_lent : ℕ → List Lease
 reaches_lent site = lends 0 (Some 0) 0 [] ∷ []
 
 abbrev pub Reaches : Type 0
-Reaches = IsCode reaches reaches_lent reaches_code [] (begins (Sub 0) 15 5 3 (code_kind.Block 2) (reaches_lent 0) ∷ []) (procedure 0 6 5 ∷ []) []
+Reaches = IsCode reaches reaches_lent reaches_code [] (begins (Sub 0) 14 5 3 (code_kind.Block 2) (reaches_lent 0) ∷ []) (procedure 0 6 5 ∷ []) []
 
 -- declare Y : Integer := 1; Z : Integer := 0; begin
 -- parallel do Z := [parallel for K in 1 .. 2 => Y]'Reduce ("+", 0); and null; end do; end;
@@ -263,94 +262,92 @@ nests = record (made_of [] (object_of 0 1 ∷ object_of 0 1 ∷ []) [] NoDecl
 abbrev nests_code : List Line
 nests_code =
     main 0 0 (i.Push (pos 1))
-    ∷ main 1 1 fits
-    ∷ main 2 1 (i.StoreL 0)
-    ∷ main 3 0 (i.Push (pos 0))
-    ∷ main 4 1 fits
-    ∷ main 5 1 (i.StoreL 1)
-    ∷ main 6 0 i.Nest
-    ∷ begun 7 0 (i.Push (pos 1))
-    ∷ begun 8 1 (i.StoreL 2)
-    ∷ begun 9 0 (i.Push (pos 4096))
-    ∷ begun 10 1 (i.StoreL 3)
-    ∷ begun 11 0 (i.Push (pos 0))
-    ∷ begun 12 1 (i.Push (pos 1))
-    ∷ begun 13 2 (i.LoadL 2)
-    ∷ begun 14 3 (i.LoadL 3)
-    ∷ begun 15 4 (i.Push (pos 0))
-    ∷ begun 16 5 (i.Fork 0)
-    ∷ begun 17 2 (i.Jump 72)
-    ∷ thread 18 0 (i.LoadL 2)
+    ∷ main 1 1 (integer_to 0)
+    ∷ main 2 0 (i.Push (pos 0))
+    ∷ main 3 1 (integer_to 1)
+    ∷ main 4 0 i.Nest
+    ∷ begun 5 0 (i.Push (pos 1))
+    ∷ begun 6 1 (i.StoreL 2)
+    ∷ begun 7 0 (i.Push (pos 4096))
+    ∷ begun 8 1 (i.StoreL 3)
+    ∷ begun 9 0 (i.Push (pos 0))
+    ∷ begun 10 1 (i.Push (pos 1))
+    ∷ begun 11 2 (i.LoadL 2)
+    ∷ begun 12 3 (i.LoadL 3)
+    ∷ begun 13 4 (i.Push (pos 0))
+    ∷ begun 14 5 (i.Fork 0)
+    ∷ begun 15 2 (i.Jump 70)
+    ∷ thread 16 0 (i.LoadL 2)
+    ∷ thread 17 1 (i.Push (pos 0))
+    ∷ thread 18 2 i.Le
     ∷ thread 19 1 (i.Push (pos 0))
-    ∷ thread 20 2 i.Le
-    ∷ thread 21 1 (i.Push (pos 0))
-    ∷ thread 22 2 (i.LoadL 3)
-    ∷ thread 23 3 i.Le
-    ∷ thread 24 2 i.Min
-    ∷ thread 25 1 (i.JFalse 63)
-    ∷ thread 26 0 (i.Push (pos 0))
-    ∷ thread 27 1 (i.StoreL 4)
-    ∷ thread 28 0 i.Nest
-    ∷ begun_thread 29 0 (i.Push (pos 1))
-    ∷ begun_thread 30 1 (i.StoreL 5)
-    ∷ begun_thread 31 0 (i.Push (pos 4096))
-    ∷ begun_thread 32 1 (i.StoreL 6)
-    ∷ begun_thread 33 0 (i.Push (pos 1))
-    ∷ begun_thread 34 1 (i.StoreL 7)
-    ∷ begun_thread 35 0 (i.Push (pos 2))
-    ∷ begun_thread 36 1 (i.StoreL 8)
-    ∷ begun_thread 37 0 (i.LoadL 7)
-    ∷ begun_thread 38 1 (i.LoadL 8)
-    ∷ begun_thread 39 2 i.Le
-    ∷ begun_thread 40 1 (i.JFalse 41)
-    ∷ begun_thread 41 0 (i.LoadL 7)
-    ∷ begun_thread 42 1 (i.LoadL 8)
-    ∷ begun_thread 43 2 (i.LoadL 5)
-    ∷ begun_thread 44 3 (i.LoadL 6)
-    ∷ begun_thread 45 4 (i.LoadL 4)
-    ∷ begun_thread 46 5 (i.Fork 1)
-    ∷ begun_thread 47 1 (i.Jump 60)
-    ∷ inner_thread 48 0 (i.LoadL 1)
-    ∷ inner_thread 49 1 (i.LoadL 2)
-    ∷ inner_thread 50 2 (i.LoadL 3)
-    ∷ inner_thread 51 3 i.Le
-    ∷ inner_thread 52 2 (i.JFalse 59)
-    ∷ inner_thread 53 1 (i.Jump 55)
-    ∷ inner_thread 54 1 (i.Jump 59)
-    ∷ inner_thread 55 1 i.Turn
-    ∷ inner_thread 56 1 (i.LoadO 2 0)
-    ∷ inner_thread 57 2 (i.Add Narrow)
-    ∷ inner_thread 58 1 (i.Next 2 3 55)
-    ∷ inner_thread 59 1 i.EndV
-    ∷ begun_thread 60 1 i.Unnest
-    ∷ thread 61 1 fits
-    ∷ thread 62 1 (i.StoreO 1 1)
-    ∷ thread 63 0 (i.LoadL 2)
+    ∷ thread 20 2 (i.LoadL 3)
+    ∷ thread 21 3 i.Le
+    ∷ thread 22 2 i.Min
+    ∷ thread 23 1 (i.JFalse 61)
+    ∷ thread 24 0 (i.Push (pos 0))
+    ∷ thread 25 1 (i.StoreL 4)
+    ∷ thread 26 0 i.Nest
+    ∷ begun_thread 27 0 (i.Push (pos 1))
+    ∷ begun_thread 28 1 (i.StoreL 5)
+    ∷ begun_thread 29 0 (i.Push (pos 4096))
+    ∷ begun_thread 30 1 (i.StoreL 6)
+    ∷ begun_thread 31 0 (i.Push (pos 1))
+    ∷ begun_thread 32 1 (i.StoreL 7)
+    ∷ begun_thread 33 0 (i.Push (pos 2))
+    ∷ begun_thread 34 1 (i.StoreL 8)
+    ∷ begun_thread 35 0 (i.LoadL 7)
+    ∷ begun_thread 36 1 (i.LoadL 8)
+    ∷ begun_thread 37 2 i.Le
+    ∷ begun_thread 38 1 (i.JFalse 39)
+    ∷ begun_thread 39 0 (i.LoadL 7)
+    ∷ begun_thread 40 1 (i.LoadL 8)
+    ∷ begun_thread 41 2 (i.LoadL 5)
+    ∷ begun_thread 42 3 (i.LoadL 6)
+    ∷ begun_thread 43 4 (i.LoadL 4)
+    ∷ begun_thread 44 5 (i.Fork 1)
+    ∷ begun_thread 45 1 (i.Jump 58)
+    ∷ inner_thread 46 0 (i.LoadL 1)
+    ∷ inner_thread 47 1 (i.LoadL 2)
+    ∷ inner_thread 48 2 (i.LoadL 3)
+    ∷ inner_thread 49 3 i.Le
+    ∷ inner_thread 50 2 (i.JFalse 57)
+    ∷ inner_thread 51 1 (i.Jump 53)
+    ∷ inner_thread 52 1 (i.Jump 57)
+    ∷ inner_thread 53 1 i.Turn
+    ∷ inner_thread 54 1 (i.LoadO 2 0)
+    ∷ inner_thread 55 2 (i.Add Narrow)
+    ∷ inner_thread 56 1 (i.Next 2 3 53)
+    ∷ inner_thread 57 1 i.EndV
+    ∷ begun_thread 58 1 i.Unnest
+    ∷ thread 59 1 fits
+    ∷ thread 60 1 (i.StoreO 1 1)
+    ∷ thread 61 0 (i.LoadL 2)
+    ∷ thread 62 1 (i.Push (pos 1))
+    ∷ thread 63 2 i.Le
     ∷ thread 64 1 (i.Push (pos 1))
-    ∷ thread 65 2 i.Le
-    ∷ thread 66 1 (i.Push (pos 1))
-    ∷ thread 67 2 (i.LoadL 3)
-    ∷ thread 68 3 i.Le
-    ∷ thread 69 2 i.Min
-    ∷ thread 70 1 (i.JFalse 71)
-    ∷ thread 71 0 i.End
-    ∷ begun 72 2 i.Unnest
-    ∷ main 73 2 (i.StoreL 4)
-    ∷ main 74 1 (i.StoreL 5)
+    ∷ thread 65 2 (i.LoadL 3)
+    ∷ thread 66 3 i.Le
+    ∷ thread 67 2 i.Min
+    ∷ thread 68 1 (i.JFalse 69)
+    ∷ thread 69 0 i.End
+    ∷ begun 70 2 i.Unnest
+    ∷ main 71 2 (i.StoreL 4)
+    ∷ main 72 1 (i.StoreL 5)
+    ∷ main 73 0 (i.LoadL 4)
+    ∷ main 74 1 (i.JFalse 86)
     ∷ main 75 0 (i.LoadL 4)
-    ∷ main 76 1 (i.JFalse 88)
-    ∷ main 77 0 (i.LoadL 4)
-    ∷ main 78 1 (i.Push (pos 1))
-    ∷ main 79 2 i.Eq
-    ∷ main 80 1 (i.JFalse 82)
-    ∷ main 81 0 i.Halt
-    ∷ main 82 0 (i.LoadL 4)
-    ∷ main 83 1 (i.Push (pos 2))
-    ∷ main 84 2 i.Eq
-    ∷ main 85 1 (i.JFalse 88)
-    ∷ main 86 0 (i.LoadL 5)
-    ∷ main 87 1 i.Halt
-    ∷ main 88 0 i.Halt
+    ∷ main 76 1 (i.Push (pos 1))
+    ∷ main 77 2 i.Eq
+    ∷ main 78 1 (i.JFalse 80)
+    ∷ main 79 0 i.Halt
+    ∷ main 80 0 (i.LoadL 4)
+    ∷ main 81 1 (i.Push (pos 2))
+    ∷ main 82 2 i.Eq
+    ∷ main 83 1 (i.JFalse 86)
+    ∷ main 84 0 (i.LoadL 5)
+    ∷ main 85 1 i.Halt
+    ∷ main 86 0 i.Halt
     ∷ []
 
 -- the first arm Z, the threads of the reduction nothing
@@ -360,8 +357,8 @@ nests_lent (suc site) = []
 
 abbrev pub Nests : Type 0
 Nests = IsCode nests nests_lent nests_code []
-    (begins (Sub 0) 18 10 5 (code_kind.Block 2) (nests_lent 0)
-    ∷ begins (Site 0) 48 5 3 (code_kind.Reduction (Some (record { op = op.Add; base = Narrow }))) (nests_lent 1) ∷ [])
+    (begins (Sub 0) 16 10 5 (code_kind.Block 2) (nests_lent 0)
+    ∷ begins (Site 0) 46 5 3 (code_kind.Reduction (Some (record { op = op.Add; base = Narrow }))) (nests_lent 1) ∷ [])
     (procedure 0 7 5 ∷ []) []
 
 -- X : Integer := 3; parallel (X) for I in 1 .. 2 loop null; end loop;
@@ -373,65 +370,64 @@ divides = with_site kind.Loop (made_of [] (object_of 0 1 ∷ []) [] (set_to 0 3 
 abbrev divides_code : List Line
 divides_code =
     main 0 0 (i.Push (pos 3))
-    ∷ main 1 1 fits
-    ∷ main 2 1 (i.StoreL 0)
-    ∷ main 3 0 i.Nest
-    ∷ begun 4 0 (i.Push (pos 1))
-    ∷ begun 5 1 (i.StoreL 1)
-    ∷ begun 6 0 (i.LoadG 0)
-    ∷ begun 7 1 (i.Push (pos 4096))
-    ∷ begun 8 2 i.Min
-    ∷ begun 9 1 (i.StoreL 2)
-    ∷ begun 10 0 (i.LoadL 1)
-    ∷ begun 11 1 (i.LoadL 2)
-    ∷ begun 12 2 i.Gt
-    ∷ begun 13 1 (i.JFalse 15)
-    ∷ begun 14 0 (i.Raise reason.ProgramError)
-    ∷ begun 15 0 (i.Push (pos 1))
-    ∷ begun 16 1 (i.StoreL 3)
-    ∷ begun 17 0 (i.Push (pos 2))
-    ∷ begun 18 1 (i.StoreL 4)
-    ∷ begun 19 0 (i.LoadL 3)
-    ∷ begun 20 1 (i.LoadL 4)
-    ∷ begun 21 2 i.Le
-    ∷ begun 22 1 (i.JFalse 23)
-    ∷ begun 23 0 (i.LoadL 3)
-    ∷ begun 24 1 (i.LoadL 4)
-    ∷ begun 25 2 (i.LoadL 1)
-    ∷ begun 26 3 (i.LoadL 2)
-    ∷ begun 27 4 (i.Push (pos 0))
-    ∷ begun 28 5 (i.Fork 0)
-    ∷ begun 29 2 (i.Jump 39)
-    ∷ thread 30 0 (i.LoadL 2)
-    ∷ thread 31 1 (i.LoadL 3)
-    ∷ thread 32 2 i.Le
-    ∷ thread 33 1 (i.JFalse 38)
-    ∷ thread 34 0 (i.Jump 36)
-    ∷ thread 35 0 (i.Jump 38)
-    ∷ thread 36 0 i.Turn
-    ∷ thread 37 0 (i.Next 2 3 36)
-    ∷ thread 38 0 i.End
-    ∷ begun 39 2 i.Unnest
-    ∷ main 40 2 (i.StoreL 5)
-    ∷ main 41 1 (i.StoreL 6)
-    ∷ main 42 0 (i.LoadL 5)
-    ∷ main 43 1 (i.JFalse 55)
-    ∷ main 44 0 (i.LoadL 5)
-    ∷ main 45 1 (i.Push (pos 1))
-    ∷ main 46 2 i.Eq
-    ∷ main 47 1 (i.JFalse 49)
-    ∷ main 48 0 i.Halt
-    ∷ main 49 0 (i.LoadL 5)
-    ∷ main 50 1 (i.Push (pos 2))
-    ∷ main 51 2 i.Eq
-    ∷ main 52 1 (i.JFalse 55)
-    ∷ main 53 0 (i.LoadL 6)
-    ∷ main 54 1 i.Halt
-    ∷ main 55 0 i.Halt
+    ∷ main 1 1 (integer_to 0)
+    ∷ main 2 0 i.Nest
+    ∷ begun 3 0 (i.Push (pos 1))
+    ∷ begun 4 1 (i.StoreL 1)
+    ∷ begun 5 0 (i.LoadG 0)
+    ∷ begun 6 1 (i.Push (pos 4096))
+    ∷ begun 7 2 i.Min
+    ∷ begun 8 1 (i.StoreL 2)
+    ∷ begun 9 0 (i.LoadL 1)
+    ∷ begun 10 1 (i.LoadL 2)
+    ∷ begun 11 2 i.Gt
+    ∷ begun 12 1 (i.JFalse 14)
+    ∷ begun 13 0 (i.Raise reason.ProgramError)
+    ∷ begun 14 0 (i.Push (pos 1))
+    ∷ begun 15 1 (i.StoreL 3)
+    ∷ begun 16 0 (i.Push (pos 2))
+    ∷ begun 17 1 (i.StoreL 4)
+    ∷ begun 18 0 (i.LoadL 3)
+    ∷ begun 19 1 (i.LoadL 4)
+    ∷ begun 20 2 i.Le
+    ∷ begun 21 1 (i.JFalse 22)
+    ∷ begun 22 0 (i.LoadL 3)
+    ∷ begun 23 1 (i.LoadL 4)
+    ∷ begun 24 2 (i.LoadL 1)
+    ∷ begun 25 3 (i.LoadL 2)
+    ∷ begun 26 4 (i.Push (pos 0))
+    ∷ begun 27 5 (i.Fork 0)
+    ∷ begun 28 2 (i.Jump 38)
+    ∷ thread 29 0 (i.LoadL 2)
+    ∷ thread 30 1 (i.LoadL 3)
+    ∷ thread 31 2 i.Le
+    ∷ thread 32 1 (i.JFalse 37)
+    ∷ thread 33 0 (i.Jump 35)
+    ∷ thread 34 0 (i.Jump 37)
+    ∷ thread 35 0 i.Turn
+    ∷ thread 36 0 (i.Next 2 3 35)
+    ∷ thread 37 0 i.End
+    ∷ begun 38 2 i.Unnest
+    ∷ main 39 2 (i.StoreL 5)
+    ∷ main 40 1 (i.StoreL 6)
+    ∷ main 41 0 (i.LoadL 5)
+    ∷ main 42 1 (i.JFalse 54)
+    ∷ main 43 0 (i.LoadL 5)
+    ∷ main 44 1 (i.Push (pos 1))
+    ∷ main 45 2 i.Eq
+    ∷ main 46 1 (i.JFalse 48)
+    ∷ main 47 0 i.Halt
+    ∷ main 48 0 (i.LoadL 5)
+    ∷ main 49 1 (i.Push (pos 2))
+    ∷ main 50 2 i.Eq
+    ∷ main 51 1 (i.JFalse 54)
+    ∷ main 52 0 (i.LoadL 6)
+    ∷ main 53 1 i.Halt
+    ∷ main 54 0 i.Halt
     ∷ []
 
 abbrev pub Divides : Type 0
-Divides = IsCode divides no_leases divides_code [] (begins (Sub 0) 30 5 2 code_kind.Loop [] ∷ []) (procedure 0 8 5 ∷ []) []
+Divides = IsCode divides no_leases divides_code [] (begins (Sub 0) 29 5 2 code_kind.Loop [] ∷ []) (procedure 0 8 5 ∷ []) []
 
 -- function F return Integer is begin parallel for I in 1 .. 2 loop return I; end loop; return 0; end F;
 -- X : Integer := 0; X := F;
@@ -449,69 +445,68 @@ returns_early = with_site kind.Loop (made_of [] (object_of 0 1 ∷ [])
 abbrev returns_early_code : List Line
 returns_early_code =
     main 0 0 (i.Push (pos 0))
-    ∷ main 1 1 fits
-    ∷ main 2 1 (i.StoreL 0)
-    ∷ main 3 0 (i.CallAt 1 1)
-    ∷ main 4 1 fits
-    ∷ main 5 1 (i.StoreG 0)
-    ∷ main 6 0 i.Halt
-    ∷ within 7 0 i.Nest
-    ∷ begun_within 8 0 (i.Push (pos 1))
-    ∷ begun_within 9 1 (i.StoreL 0)
-    ∷ begun_within 10 0 (i.Push (pos 4096))
-    ∷ begun_within 11 1 (i.StoreL 1)
-    ∷ begun_within 12 0 (i.Push (pos 1))
-    ∷ begun_within 13 1 (i.StoreL 2)
-    ∷ begun_within 14 0 (i.Push (pos 2))
-    ∷ begun_within 15 1 (i.StoreL 3)
-    ∷ begun_within 16 0 (i.LoadL 2)
-    ∷ begun_within 17 1 (i.LoadL 3)
-    ∷ begun_within 18 2 i.Le
-    ∷ begun_within 19 1 (i.JFalse 20)
-    ∷ begun_within 20 0 (i.LoadL 2)
-    ∷ begun_within 21 1 (i.LoadL 3)
-    ∷ begun_within 22 2 (i.LoadL 0)
-    ∷ begun_within 23 3 (i.LoadL 1)
-    ∷ begun_within 24 4 (i.Push (pos 0))
-    ∷ begun_within 25 5 (i.Fork 0)
-    ∷ begun_within 26 2 (i.Jump 39)
-    ∷ thread 27 0 (i.LoadL 2)
-    ∷ thread 28 1 (i.LoadL 3)
-    ∷ thread 29 2 i.Le
-    ∷ thread 30 1 (i.JFalse 38)
-    ∷ thread 31 0 (i.Jump 33)
-    ∷ thread 32 0 (i.Jump 38)
-    ∷ thread 33 0 i.Turn
-    ∷ thread 34 0 (i.LoadL 2)
-    ∷ thread 35 1 fits
-    ∷ thread 36 1 i.LeaveV
-    ∷ thread 37 0 (i.Next 2 3 33)
-    ∷ thread 38 0 i.End
-    ∷ begun_within 39 2 i.Unnest
-    ∷ within 40 2 (i.StoreL 4)
-    ∷ within 41 1 (i.StoreL 5)
-    ∷ within 42 0 (i.LoadL 4)
-    ∷ within 43 1 (i.JFalse 56)
-    ∷ within 44 0 (i.LoadL 4)
-    ∷ within 45 1 (i.Push (pos 1))
-    ∷ within 46 2 i.Eq
-    ∷ within 47 1 (i.JFalse 50)
-    ∷ within 48 0 (i.Push (pos 0))
-    ∷ within 49 1 i.RetV
-    ∷ within 50 0 (i.LoadL 4)
-    ∷ within 51 1 (i.Push (pos 2))
-    ∷ within 52 2 i.Eq
-    ∷ within 53 1 (i.JFalse 56)
-    ∷ within 54 0 (i.LoadL 5)
-    ∷ within 55 1 i.RetV
-    ∷ within 56 0 (i.Push (pos 0))
-    ∷ within 57 1 fits
-    ∷ within 58 1 i.RetV
-    ∷ within 59 0 (i.Raise reason.ProgramError)
+    ∷ main 1 1 (integer_to 0)
+    ∷ main 2 0 (i.CallAt 1 1)
+    ∷ main 3 1 fits
+    ∷ main 4 1 (i.StoreG 0)
+    ∷ main 5 0 i.Halt
+    ∷ within 6 0 i.Nest
+    ∷ begun_within 7 0 (i.Push (pos 1))
+    ∷ begun_within 8 1 (i.StoreL 0)
+    ∷ begun_within 9 0 (i.Push (pos 4096))
+    ∷ begun_within 10 1 (i.StoreL 1)
+    ∷ begun_within 11 0 (i.Push (pos 1))
+    ∷ begun_within 12 1 (i.StoreL 2)
+    ∷ begun_within 13 0 (i.Push (pos 2))
+    ∷ begun_within 14 1 (i.StoreL 3)
+    ∷ begun_within 15 0 (i.LoadL 2)
+    ∷ begun_within 16 1 (i.LoadL 3)
+    ∷ begun_within 17 2 i.Le
+    ∷ begun_within 18 1 (i.JFalse 19)
+    ∷ begun_within 19 0 (i.LoadL 2)
+    ∷ begun_within 20 1 (i.LoadL 3)
+    ∷ begun_within 21 2 (i.LoadL 0)
+    ∷ begun_within 22 3 (i.LoadL 1)
+    ∷ begun_within 23 4 (i.Push (pos 0))
+    ∷ begun_within 24 5 (i.Fork 0)
+    ∷ begun_within 25 2 (i.Jump 38)
+    ∷ thread 26 0 (i.LoadL 2)
+    ∷ thread 27 1 (i.LoadL 3)
+    ∷ thread 28 2 i.Le
+    ∷ thread 29 1 (i.JFalse 37)
+    ∷ thread 30 0 (i.Jump 32)
+    ∷ thread 31 0 (i.Jump 37)
+    ∷ thread 32 0 i.Turn
+    ∷ thread 33 0 (i.LoadL 2)
+    ∷ thread 34 1 fits
+    ∷ thread 35 1 i.LeaveV
+    ∷ thread 36 0 (i.Next 2 3 32)
+    ∷ thread 37 0 i.End
+    ∷ begun_within 38 2 i.Unnest
+    ∷ within 39 2 (i.StoreL 4)
+    ∷ within 40 1 (i.StoreL 5)
+    ∷ within 41 0 (i.LoadL 4)
+    ∷ within 42 1 (i.JFalse 55)
+    ∷ within 43 0 (i.LoadL 4)
+    ∷ within 44 1 (i.Push (pos 1))
+    ∷ within 45 2 i.Eq
+    ∷ within 46 1 (i.JFalse 49)
+    ∷ within 47 0 (i.Push (pos 0))
+    ∷ within 48 1 i.RetV
+    ∷ within 49 0 (i.LoadL 4)
+    ∷ within 50 1 (i.Push (pos 2))
+    ∷ within 51 2 i.Eq
+    ∷ within 52 1 (i.JFalse 55)
+    ∷ within 53 0 (i.LoadL 5)
+    ∷ within 54 1 i.RetV
+    ∷ within 55 0 (i.Push (pos 0))
+    ∷ within 56 1 fits
+    ∷ within 57 1 i.RetV
+    ∷ within 58 0 (i.Raise reason.ProgramError)
     ∷ []
 
 abbrev pub ReturnsEarly : Type 0
-ReturnsEarly = IsCode returns_early no_leases returns_early_code [] (begins (Sub 1) 27 5 2 code_kind.Loop [] ∷ []) (procedure 0 2 1 ∷ function 7 7 5 ∷ []) []
+ReturnsEarly = IsCode returns_early no_leases returns_early_code [] (begins (Sub 1) 26 5 2 code_kind.Loop [] ∷ []) (procedure 0 2 1 ∷ function 6 7 5 ∷ []) []
 
 -- E : exception; begin parallel do raise E; and null; end do; exception when others => null; end;
 
@@ -602,83 +597,81 @@ folds = with_site kind.Reduction (made_of (syntax.OfScalar signed ∷ digits ∷
 abbrev folds_code : List Line
 folds_code =
     main 0 0 (i.Push (pos 0))
-    ∷ main 1 1 fits
-    ∷ main 2 1 (i.StoreL 0)
-    ∷ main 3 0 (i.Push (pos 0))
-    ∷ main 4 1 (i.StoreL 1)
-    ∷ main 5 0 i.Nest
-    ∷ begun 6 0 (i.Push (pos 1))
-    ∷ begun 7 1 (i.StoreL 2)
-    ∷ begun 8 0 (i.Push (pos 4096))
-    ∷ begun 9 1 (i.StoreL 3)
-    ∷ begun 10 0 (i.Push (pos 1))
-    ∷ begun 11 1 (i.StoreL 4)
-    ∷ begun 12 0 (i.Push (pos 3))
-    ∷ begun 13 1 (i.StoreL 5)
-    ∷ begun 14 0 (i.LoadL 4)
-    ∷ begun 15 1 (i.LoadL 5)
-    ∷ begun 16 2 i.Le
-    ∷ begun 17 1 (i.JFalse 18)
-    ∷ begun 18 0 (i.LoadL 4)
-    ∷ begun 19 1 (i.LoadL 5)
-    ∷ begun 20 2 (i.LoadL 2)
-    ∷ begun 21 3 (i.LoadL 3)
-    ∷ begun 22 4 (i.LoadL 1)
-    ∷ begun 23 5 (i.Fork 0)
-    ∷ begun 24 1 (i.Jump 43)
-    ∷ thread 25 0 (i.LoadL 1)
-    ∷ thread 26 1 (i.LoadL 2)
-    ∷ thread 27 2 (i.LoadL 3)
-    ∷ thread 28 3 i.Le
-    ∷ thread 29 2 (i.JFalse 42)
-    ∷ thread 30 1 (i.Jump 32)
-    ∷ thread 31 1 (i.Jump 42)
-    ∷ thread 32 1 i.Turn
-    ∷ thread 33 1 (i.LoadL 2)
-    ∷ thread 34 2 (i.StoreL 5)
-    ∷ thread 35 1 is_signed
-    ∷ thread 36 1 (i.StoreL 4)
-    ∷ thread 37 0 (i.LoadL 5)
-    ∷ thread 38 1 is_digit
-    ∷ thread 39 1 i.Pop
-    ∷ thread 40 0 (i.CallAt 1 4)
-    ∷ thread 41 1 (i.Next 2 3 32)
-    ∷ thread 42 1 i.EndV
-    ∷ begun 43 1 i.Unnest
-    ∷ main 44 1 i.Part
-    ∷ main 45 3 (i.JFalse 64)
-    ∷ main 46 2 (i.StoreL 7)
-    ∷ main 47 1 (i.StoreL 6)
-    ∷ main 48 0 (i.LoadL 6)
-    ∷ main 49 1 (i.Push (negsuc 8))
-    ∷ main 50 2 i.Ge
-    ∷ main 51 1 (i.LoadL 6)
-    ∷ main 52 2 (i.Push (pos 9))
-    ∷ main 53 3 i.Le
-    ∷ main 54 2 i.Min
-    ∷ main 55 1 (i.LoadL 7)
-    ∷ main 56 2 (i.Push (pos 0))
-    ∷ main 57 3 i.Ge
-    ∷ main 58 2 (i.LoadL 7)
-    ∷ main 59 3 (i.Push (pos 9))
-    ∷ main 60 4 i.Le
-    ∷ main 61 3 i.Min
-    ∷ main 62 2 i.Min
-    ∷ main 63 1 (i.CallTo 1 6 44)
-    ∷ main 64 2 i.Pop
-    ∷ main 65 1 fits
-    ∷ main 66 1 (i.StoreG 0)
-    ∷ main 67 0 i.Halt
-    ∷ within 68 0 (i.LoadL 0)
-    ∷ within 69 1 (i.LoadL 1)
-    ∷ within 70 2 (i.Add Narrow)
-    ∷ within 71 1 is_signed
-    ∷ within 72 1 i.RetV
-    ∷ within 73 0 (i.Raise reason.ProgramError)
+    ∷ main 1 1 (integer_to 0)
+    ∷ main 2 0 (i.Push (pos 0))
+    ∷ main 3 1 (i.StoreL 1)
+    ∷ main 4 0 i.Nest
+    ∷ begun 5 0 (i.Push (pos 1))
+    ∷ begun 6 1 (i.StoreL 2)
+    ∷ begun 7 0 (i.Push (pos 4096))
+    ∷ begun 8 1 (i.StoreL 3)
+    ∷ begun 9 0 (i.Push (pos 1))
+    ∷ begun 10 1 (i.StoreL 4)
+    ∷ begun 11 0 (i.Push (pos 3))
+    ∷ begun 12 1 (i.StoreL 5)
+    ∷ begun 13 0 (i.LoadL 4)
+    ∷ begun 14 1 (i.LoadL 5)
+    ∷ begun 15 2 i.Le
+    ∷ begun 16 1 (i.JFalse 17)
+    ∷ begun 17 0 (i.LoadL 4)
+    ∷ begun 18 1 (i.LoadL 5)
+    ∷ begun 19 2 (i.LoadL 2)
+    ∷ begun 20 3 (i.LoadL 3)
+    ∷ begun 21 4 (i.LoadL 1)
+    ∷ begun 22 5 (i.Fork 0)
+    ∷ begun 23 1 (i.Jump 41)
+    ∷ thread 24 0 (i.LoadL 1)
+    ∷ thread 25 1 (i.LoadL 2)
+    ∷ thread 26 2 (i.LoadL 3)
+    ∷ thread 27 3 i.Le
+    ∷ thread 28 2 (i.JFalse 40)
+    ∷ thread 29 1 (i.Jump 31)
+    ∷ thread 30 1 (i.Jump 40)
+    ∷ thread 31 1 i.Turn
+    ∷ thread 32 1 (i.LoadL 2)
+    ∷ thread 33 2 (i.StoreL 5)
+    ∷ thread 34 1 (signed_to 4)
+    ∷ thread 35 0 (i.LoadL 5)
+    ∷ thread 36 1 is_digit
+    ∷ thread 37 1 i.Pop
+    ∷ thread 38 0 (i.CallAt 1 4)
+    ∷ thread 39 1 (i.Next 2 3 31)
+    ∷ thread 40 1 i.EndV
+    ∷ begun 41 1 i.Unnest
+    ∷ main 42 1 i.Part
+    ∷ main 43 3 (i.JFalse 62)
+    ∷ main 44 2 (i.StoreL 7)
+    ∷ main 45 1 (i.StoreL 6)
+    ∷ main 46 0 (i.LoadL 6)
+    ∷ main 47 1 (i.Push (negsuc 8))
+    ∷ main 48 2 i.Ge
+    ∷ main 49 1 (i.LoadL 6)
+    ∷ main 50 2 (i.Push (pos 9))
+    ∷ main 51 3 i.Le
+    ∷ main 52 2 i.Min
+    ∷ main 53 1 (i.LoadL 7)
+    ∷ main 54 2 (i.Push (pos 0))
+    ∷ main 55 3 i.Ge
+    ∷ main 56 2 (i.LoadL 7)
+    ∷ main 57 3 (i.Push (pos 9))
+    ∷ main 58 4 i.Le
+    ∷ main 59 3 i.Min
+    ∷ main 60 2 i.Min
+    ∷ main 61 1 (i.CallTo 1 6 42)
+    ∷ main 62 2 i.Pop
+    ∷ main 63 1 fits
+    ∷ main 64 1 (i.StoreG 0)
+    ∷ main 65 0 i.Halt
+    ∷ within 66 0 (i.LoadL 0)
+    ∷ within 67 1 (i.LoadL 1)
+    ∷ within 68 2 (i.Add Narrow)
+    ∷ within 69 1 is_signed
+    ∷ within 70 1 i.RetV
+    ∷ within 71 0 (i.Raise reason.ProgramError)
     ∷ []
 
 abbrev pub Folds : Type 0
-Folds = IsCode folds no_leases folds_code [] (begins (Sub 0) 25 7 3 (code_kind.Reduction None) [] ∷ []) (procedure 0 9 5 ∷ function 68 3 2 ∷ []) []
+Folds = IsCode folds no_leases folds_code [] (begins (Sub 0) 24 7 3 (code_kind.Reduction None) [] ∷ []) (procedure 0 9 5 ∷ function 66 3 2 ∷ []) []
 
 -- type Rows is array (1 .. 2) of Row; M : Rows; where type Row is array (1 .. 2) of Integer;
 -- X : Integer := M ([parallel for I in 1 .. 3 => I]'Reduce ("+", 0))'Length; the reduction isn't evaluated (4.9, 4.1.4)
@@ -699,17 +692,16 @@ mentions_code =
     ∷ main 6 1 (i.Local 0)
     ∷ main 7 2 (i.Copy 2)
     ∷ main 8 0 (i.Push (pos 2))
-    ∷ main 9 1 fits
-    ∷ main 10 1 (i.StoreL 4)
-    ∷ main 11 0 i.Halt
-    ∷ begun 12 5 (i.Fork 0)
-    ∷ begun 13 2 (i.Jump 15)
-    ∷ thread 14 0 (i.Raise reason.ProgramError)
-    ∷ begun 15 2 (i.Raise reason.ProgramError)
+    ∷ main 9 1 (integer_to 4)
+    ∷ main 10 0 i.Halt
+    ∷ begun 11 5 (i.Fork 0)
+    ∷ begun 12 2 (i.Jump 14)
+    ∷ thread 13 0 (i.Raise reason.ProgramError)
+    ∷ begun 14 2 (i.Raise reason.ProgramError)
     ∷ []
 
 abbrev pub Mentioned : Type 0
-Mentioned = IsCode mentions no_leases mentions_code [] (begins (Sub 0) 14 5 0 code_kind.Loop [] ∷ []) (procedure 0 6 5 ∷ []) []
+Mentioned = IsCode mentions no_leases mentions_code [] (begins (Sub 0) 13 5 0 code_kind.Loop [] ∷ []) (procedure 0 6 5 ∷ []) []
 
 abbrev pub ThreadRows : Type 0
 ThreadRows = Deals × Marks × Reaches × Nests × Divides × ReturnsEarly × Catches × Folds × Mentioned

@@ -11,7 +11,7 @@ use Rattle.typed_tree.specs.Syntax as syntax
 use Rattle.typed_tree.specs.Syntax.{Expr, Unary, AndThen, Membership, If, Convert, WholeVariable, CompositeInOut, Relation, Whole, NoActual, Number, Cells, NoDecl, DeclareDefault, DeclareVariable, Assign, CallProcedure, End, Then, NoHandler, Program}
 use Rattle.ada_meaning.specs.Rows.{integers, integer, number, variable, assign, object_of, made_of, array_of, formal}
 use Rattle.stack_code.specs.declared.instr.Instr.TheVariants as i
-use Rattle.lower_emission.specs.Lines.{Line, main, within, fits, is_digit, digit, digits, set_to, procedure, no_leases, IsCode, IsPlain}
+use Rattle.lower_emission.specs.Lines.{Line, main, within, fits, integer_to, is_digit, digit, digits, set_to, procedure, no_leases, IsCode, IsPlain}
 
 -- subtype Digit is Integer range 0 .. 9; X : Integer := 2; X := (if X > 1 and then X < 5 then -X else Digit (X));
 
@@ -25,26 +25,25 @@ picks = made_of (digits ∷ []) (object_of 0 1 ∷ []) [] (set_to 0 2 NoDecl)
 abbrev picks_code : List Line
 picks_code =
     main 0 0 (i.Push (pos 2))
-    ∷ main 1 1 fits
-    ∷ main 2 1 (i.StoreL 0)
-    ∷ main 3 0 (i.LoadG 0)
-    ∷ main 4 1 (i.Push (pos 1))
-    ∷ main 5 2 i.Gt
-    ∷ main 6 1 (i.JFalse 11)
-    ∷ main 7 0 (i.LoadG 0)
-    ∷ main 8 1 (i.Push (pos 5))
-    ∷ main 9 2 i.Lt
-    ∷ main 10 1 (i.Jump 12)
-    ∷ main 11 0 (i.Push (pos 0))
-    ∷ main 12 1 (i.JFalse 16)
-    ∷ main 13 0 (i.LoadG 0)
-    ∷ main 14 1 (i.Neg Narrow)
-    ∷ main 15 1 (i.Jump 18)
-    ∷ main 16 0 (i.LoadG 0)
-    ∷ main 17 1 is_digit
-    ∷ main 18 1 fits
-    ∷ main 19 1 (i.StoreG 0)
-    ∷ main 20 0 i.Halt
+    ∷ main 1 1 (integer_to 0)
+    ∷ main 2 0 (i.LoadG 0)
+    ∷ main 3 1 (i.Push (pos 1))
+    ∷ main 4 2 i.Gt
+    ∷ main 5 1 (i.JFalse 10)
+    ∷ main 6 0 (i.LoadG 0)
+    ∷ main 7 1 (i.Push (pos 5))
+    ∷ main 8 2 i.Lt
+    ∷ main 9 1 (i.Jump 11)
+    ∷ main 10 0 (i.Push (pos 0))
+    ∷ main 11 1 (i.JFalse 15)
+    ∷ main 12 0 (i.LoadG 0)
+    ∷ main 13 1 (i.Neg Narrow)
+    ∷ main 14 1 (i.Jump 17)
+    ∷ main 15 0 (i.LoadG 0)
+    ∷ main 16 1 is_digit
+    ∷ main 17 1 fits
+    ∷ main 18 1 (i.StoreG 0)
+    ∷ main 19 0 i.Halt
     ∷ []
 
 abbrev pub Picks : Type 0
@@ -62,23 +61,21 @@ finds = made_of (syntax.OfScalar boolean ∷ []) (object_of 0 1 ∷ object_of 1 
 abbrev finds_code : List Line
 finds_code =
     main 0 0 (i.Push (pos 2))
-    ∷ main 1 1 fits
-    ∷ main 2 1 (i.StoreL 0)
-    ∷ main 3 0 (i.LoadG 0)
-    ∷ main 4 1 (i.StoreL 2)
-    ∷ main 5 0 (i.Push (pos 1))
-    ∷ main 6 1 (i.StoreL 3)
-    ∷ main 7 0 (i.Push (pos 3))
-    ∷ main 8 1 (i.LoadL 2)
-    ∷ main 9 2 i.Ge
-    ∷ main 10 1 (i.LoadL 3)
-    ∷ main 11 2 (i.LoadL 2)
-    ∷ main 12 3 i.Le
-    ∷ main 13 2 i.Min
-    ∷ main 14 1 i.Flip
-    ∷ main 15 1 (i.Range (pos 0) (pos 1))
-    ∷ main 16 1 (i.StoreL 1)
-    ∷ main 17 0 i.Halt
+    ∷ main 1 1 (integer_to 0)
+    ∷ main 2 0 (i.LoadG 0)
+    ∷ main 3 1 (i.StoreL 2)
+    ∷ main 4 0 (i.Push (pos 1))
+    ∷ main 5 1 (i.StoreL 3)
+    ∷ main 6 0 (i.Push (pos 3))
+    ∷ main 7 1 (i.LoadL 2)
+    ∷ main 8 2 i.Ge
+    ∷ main 9 1 (i.LoadL 3)
+    ∷ main 10 2 (i.LoadL 2)
+    ∷ main 11 3 i.Le
+    ∷ main 12 2 i.Min
+    ∷ main 13 1 i.Flip
+    ∷ main 14 1 (i.SetL 1 (pos 0) (pos 1))
+    ∷ main 15 0 i.Halt
     ∷ []
 
 abbrev pub Finds : Type 0

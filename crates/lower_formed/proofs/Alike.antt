@@ -201,7 +201,7 @@ module _ (T : ℕ → ℕ → Type 0) (v : Around) (s : Scope) (o : Entity → O
 
   pub a_folding : (h : ℕ) (by : Reducer) → Alike T (folding s h by) (folding (prime o x e s) h by)
   a_folding h (Operator at op class) = plain
-  a_folding h (Function at sub accumulator value) = (plain, (plain, (plain, (plain, (plain, (plain, plain))))))
+  a_folding h (Function at sub accumulator value) = (plain, (plain, (plain, (plain, (plain, plain)))))
 
   a_ranged : (h n : ℕ) (k : Scalar) → Alike T (ranged s h n k) (ranged (prime o x e s) h n k)
   a_ranged h n k = (plain, (plain, (plain, (plain, (plain, (plain, plain))))))

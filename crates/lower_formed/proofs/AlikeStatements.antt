@@ -13,8 +13,8 @@ use Rattle.stack_code.specs.declared.instr.Instr.TheVariants as i
 use Rattle.lower_emission.specs.Emits.{Emit}
 use Rattle.lower_emission.specs.Scope.{Scope, moved_named, nested, none, own, taking, thread_scope, with_entry, with_exit, with_handled, with_object, with_target}
 use Rattle.lower_emission.specs.Bodies as code
-use Rattle.ada_lower.specs.Sights.{ByEnd, ByLeave, ByReturn, ByValue, Leaving, Named, Where, root_of}
-use Rattle.ada_lower.specs.Emission.{Shape, all, arm_codes, arm_exits, arm_scope, arms_code, assigned, back_code, cases, cells_of, chosen, chunk_by, composed, composite_width, declared, default_of, defaulted, defaults_within, emit, exits_code, exits_of, exiting, field_defaults, handled_by, handled_target, handling, has_reason, in_share, is_end, is_whole, lead, is_own, left_code, left_returns, no_handler, object_here, passing, piece_texts, piece_values, returning, returning_value, selected, shape_by, shapes, shapes_cells, stmt, subtype_or_none, width}
+use Rattle.ada_lower.specs.Sights.{ByEnd, ByLeave, ByReturn, ByValue, Leaving, Named, Where, root_of, Level, Own}
+use Rattle.ada_lower.specs.Emission.{Shape, all, arm_codes, arm_exits, arm_scope, arms_code, assigned, back_code, cases, cells_of, chosen, chunk_by, composed, composite_width, declared, default_of, defaulted, defaults_within, emit, exits_code, exits_of, exiting, field_defaults, handled_by, handled_target, handling, has_reason, in_share, is_end, is_whole, lead, is_own, left_code, left_returns, no_handler, object_here, passing, piece_texts, piece_values, returning, returning_value, selected, shape_by, shapes, shapes_cells, stmt, subtype_or_none, width, store_checked}
 use Rattle.typed_scopes.specs.Scopes as scopes
 use Rattle.typed_scopes.specs.Scopes.{Around, ScopedAll, ScopedAlternatives, ScopedArms, ScopedChunk, ScopedComposite, ScopedDecls, ScopedExpr, ScopedHandlers, ScopedMain, ScopedOptional, ScopedPieces, ScopedStmt, entity_of, with_chunk, with_formals, with_outer}
 use Rattle.lower_formed.proofs.Alike.{Alike, Like, a_address, a_cond, a_doubled, a_ends, a_exiting, like_exit, like_thread, marked, plain, prime, root_same}
@@ -63,13 +63,18 @@ module _ (T : ℕ → ℕ → Type 0) (v : Around) (s : Scope) (o : Entity → O
   a_left : (number : Option ℕ) (loops : List ℕ) → Alike T (left_code s number loops) (left_code (prime o xs en s) number loops)
   a_left number loops = ((plain T v s o xs en k), ((plain T v s o xs en k), ((plain T v s o xs en k), ((marked T v s o xs en k), refl, ((((plain T v s o xs en k), ((plain T v s o xs en k), (plain T v s o xs en k))), (((marked T v s o xs en k), refl, a_returning 0 s.leaving), (((plain T v s o xs en k), ((plain T v s o xs en k), (plain T v s o xs en k))), ((marked T v s o xs en k), refl, ((plain T v s o xs en k), a_returning_value s.leaving))))), a_exits s.free number loops)))))
 
-  a_assigned : (n n' : Option Named) (whole : Bool) (moved moved' : Emit) (value : Scope → ℕ → Emit) → n ≡ n' → Alike T moved moved' → ((m : Named) → Alike T (value (with_target m s) 0) (value (with_target m (prime o xs en s)) 0)) → ((m : Named) → Alike T (value (with_target m (taking 1 s)) 1) (value (with_target m (taking 1 (prime o xs en s))) 1))
-      → Alike T (assigned s n whole moved value) (assigned (prime o xs en s) n' whole moved' value)
-  a_assigned n n' whole moved moved' value same f g h = subst (λ m. Alike T (assigned s n whole moved value) (assigned (prime o xs en s) m whole moved' value)) same (by n)
+  a_store_checked : (x : Scalar) (level : Level) (n : ℕ) → Alike T (store_checked s x level n) (store_checked (prime o xs en s) x level n)
+  a_store_checked x Own n = (plain T v s o xs en k)
+  a_store_checked x level n = ((plain T v s o xs en k), (plain T v s o xs en k))
+
+  a_assigned : (n n' : Option Named) (whole : Bool) (x : Scalar) (moved moved' : Emit) (value : Scope → ℕ → Emit) → n ≡ n' → Alike T moved moved' → ((m : Named) → Alike T (value (with_target m s) 0) (value (with_target m (prime o xs en s)) 0)) → ((m : Named) → Alike T (value (with_target m (taking 1 s)) 1) (value (with_target m (taking 1 (prime o xs en s))) 1))
+      → Alike T (assigned s n whole x moved value) (assigned (prime o xs en s) n' whole x moved' value)
+  a_assigned n n' whole x moved moved' value same f g h = subst (λ m. Alike T (assigned s n whole x moved value) (assigned (prime o xs en s) m whole x moved' value)) same (by n)
     where
-      by : (n : Option Named) → Alike T (assigned s n whole moved value) (assigned (prime o xs en s) n whole moved' value)
+      by : (n : Option Named) → Alike T (assigned s n whole x moved value) (assigned (prime o xs en s) n whole x moved' value)
       by None = (plain T v s o xs en k)
-      by (Some m) = a_cond T (whole && not m.through) _ _ _ _ (g m, (plain T v s o xs en k)) ((plain T v s o xs en k), (f, ((plain T v s o xs en k), ((plain T v s o xs en k), (h (record { through = true; place = own s.free; cells = 1 }), (plain T v s o xs en k))))))
+      by (Some m) = a_cond T (whole && not m.through) _ _ _ _ (g m, a_store_checked x m.place.level m.place.cell)
+          ((plain T v s o xs en k), (f, ((plain T v s o xs en k), ((plain T v s o xs en k), (h (record { through = true; place = own s.free; cells = 1 }), ((plain T v s o xs en k), (plain T v s o xs en k)))))))
 
 module _ (T : ℕ → ℕ → Type 0) (program : Program) (shown : ℕ → Entity → Bool) where
   -- ---- objects without an initial value
@@ -151,8 +156,8 @@ module _ (T : ℕ → ℕ → Type 0) (program : Program) (shown : ℕ → Entit
     pub a_stmt : (v : Around) (s : Scope) (o : Entity → Option Named) (xs : ℕ → Option ℕ) (en : Option ℕ) (x : Stmt) → Like T v s o xs en → ScopedStmt program shown v x → Alike T (stmt program s x) (stmt program (prime o xs en s) x)
     a_stmt v s o xs en Null k p = tt
     a_stmt v s o xs en (Assign at r x (Number check e)) k p =
-        a_assigned T v s o xs en k (root_of s r) (root_of (prime o xs en s) r) (is_whole x) _ _ _ (root_same T v s o xs en k r p.0) (a_selected T program shown v s o xs en 1 x k p.1)
-        (λ m. (a_emit T program shown (scopes.with_target p.2.0 v) (with_target m s) o xs en 0 e k p.2.1.1, (plain T v s o xs en k))) (λ m. (a_emit T program shown (scopes.with_target p.2.0 v) (with_target m (taking 1 s)) o xs en 1 e k p.2.1.1, (plain T v (taking 1 s) o xs en k)))
+        a_assigned T v s o xs en k (root_of s r) (root_of (prime o xs en s) r) (is_whole x) check.scalar _ _ _ (root_same T v s o xs en k r p.0) (a_selected T program shown v s o xs en 1 x k p.1)
+        (λ m. a_emit T program shown (scopes.with_target p.2.0 v) (with_target m s) o xs en 0 e k p.2.1.1) (λ m. a_emit T program shown (scopes.with_target p.2.0 v) (with_target m (taking 1 s)) o xs en 1 e k p.2.1.1)
     a_stmt v s o xs en (Assign at r x (Cells c)) k p = (
       a_address T v s o xs en k 0 (root_of s r) (root_of (prime o xs en s) r) (root_same T v s o xs en k r p.0),
       (

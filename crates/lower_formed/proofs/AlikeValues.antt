@@ -149,7 +149,7 @@ module _ (T : ℕ → ℕ → Type 0) (program : Program) (shown : ℕ → Entit
     a_passed v s o xs en h sub w fs (In formal value rest) k p = let (gs, is, pv, pr) = p in (a_into v s o xs en h _ _ value k pv, a_passed v s o xs en h sub w gs rest k pr)
     a_passed v s o xs en h sub w fs (InOut formal at r x inner outer rest) k p =
         let (gs, is, one', seen, px, pr) = p in
-        ((a_address T v s o xs en k h (root_of s r) (root_of (prime o xs en s) r) (root_same T v s o xs en k r seen), (a_selected v s o xs en (h + 1) x k px, ((plain T v s o xs en k), ((plain T v s o xs en k), ((plain T v s o xs en k), ((plain T v s o xs en k), (plain T v s o xs en k))))))), a_passed v s o xs en h sub w gs rest k pr)
+        ((a_address T v s o xs en k h (root_of s r) (root_of (prime o xs en s) r) (root_same T v s o xs en k r seen), (a_selected v s o xs en (h + 1) x k px, ((plain T v s o xs en k), ((plain T v s o xs en k), ((plain T v s o xs en k), (plain T v s o xs en k)))))), a_passed v s o xs en h sub w gs rest k pr)
     a_passed v s o xs en h sub w fs (Out formal at r x inner outer rest) k p =
         let (gs, is, one', seen, px, pr) = p in
         ((a_address T v s o xs en k h (root_of s r) (root_of (prime o xs en s) r) (root_same T v s o xs en k r seen), (a_selected v s o xs en (h + 1) x k px, ((plain T v s o xs en k), ((plain T v s o xs en k), (plain T v s o xs en k))))), a_passed v s o xs en h sub w gs rest k pr)
@@ -161,7 +161,7 @@ module _ (T : ℕ → ℕ → Type 0) (program : Program) (shown : ℕ → Entit
         (((plain T v s o xs en k), (a_address T v s o xs en k (h + 1) (root_of s r) (root_of (prime o xs en s) r) (root_same T v s o xs en k r seen), (a_selected v s o xs en (h + 1 + 1) x k px, ((plain T v s o xs en k), ((plain T v s o xs en k), (plain T v s o xs en k)))))), a_passed v s o xs en h sub w gs rest k pr)
 
     pub a_into : (v : Around) (s : Scope) (o : Entity → Option Named) (xs : ℕ → Option ℕ) (en : Option ℕ) (h t n : ℕ) (x : Value) → Like T v s o xs en → ScopedValue program shown v n x → Alike T (put_into program s h t x) (put_into program (prime o xs en s) h t x)
-    a_into v s o xs en h t n (Number check e) k p = (a_emit v s o xs en h e k p.1, ((plain T v s o xs en k), (plain T v s o xs en k)))
+    a_into v s o xs en h t n (Number check e) k p = (a_emit v s o xs en h e k p.1, (plain T v s o xs en k))
     a_into v s o xs en h t n (Cells c) k p = a_composed v s o xs en h t n c k p
 
     pub a_composed : (v : Around) (s : Scope) (o : Entity → Option Named) (xs : ℕ → Option ℕ) (en : Option ℕ) (h t n : ℕ) (x : Composite) → Like T v s o xs en → ScopedComposite program shown v n x → Alike T (composed program s h t x) (composed program (prime o xs en s) h t x)

@@ -23,7 +23,7 @@ use Rattle.lower_emission.specs.Scope as scope
 use Rattle.lower_emission.specs.Scope.{address_of, keep, one, store_at, ◌⨟◌}
 use Rattle.ada_lower.specs.Sights as sights
 use Rattle.ada_lower.specs.Sights.{AllKnown, Amid, Named, Scope, Sight, chunk_sight, item_sight, nested_sight, object_here, own, passing, range_sight, root_of, taking, thread_sight, turn_sight, with_entry, with_exit, with_handled, with_outside, with_target}
-use Rattle.ada_lower.specs.Emission.{Shape, all, arm_codes, arms_code, assigned, cases, checked, cells_of, chunk_by, chunk_code, chunk_scope, composite_width, declared, defaulted, defaults_within, emit, formals_in, handling, is_whole, passed, piece_values, selected, shapes, shapes_cells, stmt, subtype_or_none, width}
+use Rattle.ada_lower.specs.Emission.{Shape, all, arm_codes, arms_code, assigned, cases, checked, cells_of, chunk_by, chunk_code, chunk_scope, composite_width, declared, defaulted, defaults_within, emit, formals_in, handling, is_whole, passed, piece_values, selected, shapes, shapes_cells, stmt, subtype_or_none, width, store_checked}
 use Rattle.ada_lower.specs.Defaults.{NoneEmpty}
 use Rattle.typed_tree.specs.declared.program.Mode.TheVariants as mode
 use Rattle.ada_lower.specs.Fitted.{Spot, spot, spots, FittedActuals, FittedAll, FittedAlternatives, FittedDecls, FittedHandlers, FittedPieces, FittedStmt, FittedTarget}
@@ -98,17 +98,14 @@ module _ (program : Program) (globals : ℕ → Entity → Option Named) (mains 
   abbrev through_at : Sight → Named
   through_at i = record { through = true; place = own i.scope.free; cells = 1 }
 
-  abbrev value_at : Check → Expr → Scope → ℕ → Emit
-  value_at check e t h = emit program t h e ⨟ checked t (h + 1) check.scalar
-
   -- the code of an assignment to what is named: where the target is whole and here, and where its address is kept
   abbrev directly : Sight → Named → Check → Expr → Emit
-  directly i o check e = value_at check e (with_target o i).scope 0 ⨟ one i.scope 1 (store_at o.place.level o.place.cell)
+  directly i o check e = emit program (with_target o i).scope 0 e ⨟ store_checked i.scope check.scalar o.place.level o.place.cell
 
   abbrev by_address : Sight → Named → Emit → Check → Expr → Emit
   by_address i o moved check e =
       one i.scope 0 (address_of o) ⨟ moved ⨟ one i.scope 1 instr.Dup ⨟ keep i.scope (1 + 1) i.scope.free
-      ⨟ value_at check e (with_target (through_at i) (taking 1 i)).scope 1 ⨟ one i.scope (1 + 1) instr.Store
+      ⨟ emit program (with_target (through_at i) (taking 1 i)).scope 1 e ⨟ checked i.scope (1 + 1) check.scalar ⨟ one i.scope (1 + 1) instr.Store
 
   moved_room : (i : Sight) (o : Named) (check : Check) (e : Expr) (x : Selections) (b : Bool) → R' (cond (is_whole x && b) (directly i o check e) (by_address i o (selected program i.scope 1 x) check e)) → R' (selected program i.scope 1 x)
   unfolding selected
@@ -124,12 +121,12 @@ module _ (program : Program) (globals : ℕ → Entity → Option Named) (mains 
   target_fits : (n : ℕ) (i : Sight) (w : Known) (v : Around) (o : Named) (moved : Emit) (check : Check) (e : Expr) (b : Bool) → S' w v i → (b ≡ true → 1 ≤ o.cells) → FormedExpr program w e → ScopedExpr program shown (scopes.with_target 1 v) e → TabledExpr T n e
       → R' (cond b (directly i o check e) (by_address i o moved check e)) → FittedTarget program globals mains (Fold n) i b o e
   target_fits n i w v o moved check e true k one f p t m =
-      fits program globals mains c T frames room threads apart names shown shows lent give n (with_target o i) w (scopes.with_target 1 v) 0 e (sees_target program names mains T frames room 1 o (one refl) k) f p t m.0.0
+      fits program globals mains c T frames room threads apart names shown shows lent give n (with_target o i) w (scopes.with_target 1 v) 0 e (sees_target program names mains T frames room 1 o (one refl) k) f p t m.0
   target_fits n i w v o moved check e false k one f p t m =
       let lt = kept i.scope.free i.scope.free (room i.scope.body) i.cells m.1.1.1.0 k.enough in (
         lt,
         fits program globals mains c T frames room threads apart names shown shows lent give n (with_target (through_at i) (taking 1 i)) w (scopes.with_target 1 v) 1 e
-            (sees_target program names mains T frames room 1 (through_at i) (omega arith) (sees_taking program names mains T frames room 1 (omega (arith, lt)) k)) f p t m.1.1.1.1.0.0,
+            (sees_target program names mains T frames room 1 (through_at i) (omega arith) (sees_taking program names mains T frames room 1 (omega (arith, lt)) k)) f p t m.1.1.1.1.0,
       )
 
   -- ---- calls of procedures
@@ -289,7 +286,7 @@ module _ (program : Program) (globals : ℕ → Entity → Option Named) (mains 
         let u = f.0.0 in
         let (t0, is0, selects) = f.0.1 in
         let (named, is, le) = variable_seen program names mains T frames room r t0 k is0 p.0 in
-        let m' = subst (λ o. R' (assigned i.scope o (is_whole x) (selected program i.scope 1 x) (value_at check e))) is m in
+        let m' = subst (λ o. R' (assigned i.scope o (is_whole x) check.scalar (selected program i.scope 1 x) (λ t h. emit program t h e))) is m in
         let one : 1 ≤ size u = f.0.2 in (
           named,
           is,

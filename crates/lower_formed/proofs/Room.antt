@@ -1,6 +1,6 @@
 -- Where code of a value, of an object or of pieces is, the frame has the cells that its scope uses.
 use Rattle.std.proofs.Common.{◌≡◌, ℕ, zero, suc, ◌+◌, ◌≤◌, ℤ, List, [], ◌∷◌, ◌++◌, length, slice_get, Option, Some, None, Bool, true, false, cond, refl, sym, subst, true≢false, arith}
-use Rattle.std.proofs.Math.Nat.{le-max_right}
+use Rattle.std.proofs.Math.Nat.{le-max_left, le-max_right}
 use Rattle.typed_tree.specs.declared.scalars.Scalar.{Scalar}
 use Rattle.typed_tree.specs.declared.program.Field.{Field as Part}
 use Rattle.typed_tree.specs.Syntax.{Expr, Static, Actuals, NoActual, In, InOut, Out, CompositeInOut, CompositeOut, Value, Number, Cells, Composite, WholeVariable, WholeConstant, WholeTarget, CompositeIf, Aggregate, Pieces, NoPiece, Text, Image, Padded, Selections, Whole, Field, Index, Subtype, OfScalar, Array, Record, Program}
@@ -91,7 +91,7 @@ module _ (program : Program) (rows : ℕ → SiteKind → Around → Type 0) (ro
 
   pub put_room : (s : Scope) (h t : ℕ) (x : Value) → Roomy rows room (put_into program s h t x) → s.free ≤ room s.body
   unfolding put_into
-  put_room s h t (Number check e) m = m.1.0
+  put_room s h t (Number check e) m = let z = le-max_left s.free (t + 1) in let y = m.1 in omega (arith, z, y)
   put_room s h t (Cells c) m = composed_room s h t c m
 
   -- a line is sent

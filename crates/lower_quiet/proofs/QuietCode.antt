@@ -40,7 +40,7 @@ use Rattle.lower_emission.specs.Scope.{Scope, own, taking, nested, thread_scope,
 use Rattle.lower_emission.specs.Emission.{is_plain, Shape, shapes, load_by, load_named, load_where, address, is_whole, own_cell, indexed_by, item_by, main_named, component_address, component_value, unary_instr, binary_instr, static_instr, operated_by, compare_instr, within, negated_code, leaving_by, first_parameter, range_scope, item_scope, counting, bounds_code, ascending, stepping, folding, ranged, combined, doubled, filling, fillings, iterated_scope, turnings, entering, entering_next, run_steps, run_turnings, turn_height, chunk_scope, raise_above, raise_beyond, ends_code, turn_range, turn_component, cells_of, passing, composite_width, width, is_repeated, components_of, locating, locating_in, repeating}
 use Rattle.lower_emission.proofs.Fused.{of_operated, of_component_address, of_component_value}
 unfoldable use Rattle.lower_emission.specs.Emission.{emit, named_value, selected, read, passed, put_into, composed, associated, component, filtered, iterated, chunk_code, course_code, threaded}
-use Rattle.lower_emission.specs.Statements.{no_handler, is_end, assigned, in_span, chosen, has_reason, handled_by, returning, returning_value, away, exiting, handled_target, image_instr, send_instr, piece_texts, object_here, exits_of, arm_exits, left_by, exits_code, is_own, left_code, field_defaults, default_of, defaults_within, subtype_or_none, defaulted, declared, parallel_for, arms_code, chunk_by, arm_scope, parallel_block}
+use Rattle.lower_emission.specs.Statements.{no_handler, is_end, assigned, in_span, chosen, has_reason, handled_by, returning, returning_value, away, exiting, handled_target, image_instr, send_instr, piece_texts, object_here, exits_of, arm_exits, left_by, exits_code, is_own, left_code, field_defaults, default_of, defaults_within, subtype_or_none, defaulted, declared, parallel_for, arms_code, chunk_by, arm_scope, parallel_block, store_checked}
 unfoldable use Rattle.lower_emission.specs.Statements.{back_code, piece_values, stmt, all, cases, handling, arm_codes}
 use Rattle.lower_emission.specs.Bodies as code
 use Rattle.lower_emission.specs.Programs.{text_in, has_fork, idle_fork, idle_forks, whole_code, placed_code}
@@ -287,7 +287,7 @@ module _ (program : Program) where
 
     quiet_folding : (h : ℕ) (by : Reducer) → MayReduce nonblocking may by → Hushed (folding s h by)
     quiet_folding h (Operator a x class) w = quiet_binary s (h + 1 + 1) x class
-    quiet_folding h (Function a sub accumulator value) w = (tt, (tt, (tt, (tt, (tt, (tt, calls_quiet sub w))))))
+    quiet_folding h (Function a sub accumulator value) w = (tt, (tt, (tt, (tt, (tt, calls_quiet sub w)))))
 
     quiet_combined : (h : ℕ) (by : Reducer) → MayReduce nonblocking may by → Hushed (combined s h by)
     quiet_combined h (Operator a x class) w = tt
@@ -386,7 +386,7 @@ module _ (program : Program) where
     quiet_passed may s h sub n NoActual w k = tt
     quiet_passed may s h sub n (In formal value rest) w k = (quiet_into may s h _ value w.0 k, quiet_passed may s h sub n rest w.1 k)
     quiet_passed may s h sub n (InOut formal a r selections inner outer rest) w k =
-        ((quiet_address s h (root_of s r), (quiet_selected may s (h + 1) selections w.0 k, (tt, (tt, (tt, (tt, tt)))))), quiet_passed may s h sub n rest w.1 k)
+        ((quiet_address s h (root_of s r), (quiet_selected may s (h + 1) selections w.0 k, (tt, (tt, (tt, tt))))), quiet_passed may s h sub n rest w.1 k)
     quiet_passed may s h sub n (Out formal a r selections inner outer rest) w k = ((quiet_address s h (root_of s r), (quiet_selected may s (h + 1) selections w.0 k, (tt, (tt, tt)))), quiet_passed may s h sub n rest w.1 k)
     quiet_passed may s h sub n (CompositeInOut formal a r selections subtype rest) w k =
         ((tt, (quiet_address s (h + 1) (root_of s r), (quiet_selected may s (h + 1 + 1) selections w.0 k, (tt, (tt, tt))))), quiet_passed may s h sub n rest w.1 k)
@@ -394,7 +394,7 @@ module _ (program : Program) where
         ((tt, (quiet_address s (h + 1) (root_of s r), (quiet_selected may s (h + 1 + 1) selections w.0 k, (tt, (tt, tt))))), quiet_passed may s h sub n rest w.1 k)
 
     quiet_into : (may : Bool) (s : Scope) (h n : ℕ) (x : Value) → KeepsValue nonblocking x may → Inside may s → Hushed (put_into program s h n x)
-    quiet_into may s h n (Number check e) w k = (quiet_emit may s h e w k, (tt, tt))
+    quiet_into may s h n (Number check e) w k = (quiet_emit may s h e w k, tt)
     quiet_into may s h n (Cells x) w k = quiet_composed may s h n x w k
 
     quiet_composed : (may : Bool) (s : Scope) (h n : ℕ) (x : Composite) → KeepsComposite nonblocking x may → Inside may s → Hushed (composed program s h n x)
@@ -551,11 +551,15 @@ module _ (program : Program) where
     quiet_left number loops =
         (tt, (tt, (tt, ((quiet_left_by s.free 1, (quiet_returning 0 s.leaving, (quiet_left_by s.free 2, (tt, quiet_returning_value s.leaving)))), quiet_exits s.free number loops))))
 
-    quiet_assigned : (n : Option Named) (whole : Bool) (part : Emit) (value : Scope → ℕ → Emit) → Hushed part → ((u : Scope) (h : ℕ) → u.body ≡ s.body → Hushed (value u h)) → Hushed (assigned s n whole part value)
-    quiet_assigned None whole part value f g = tt
-    quiet_assigned (Some n) whole part value f g =
-        quiet_cond s (whole && not n.through) _ _ (g (with_target n s) 0 refl, quiet_store_at s 1 n.place.level n.place.cell)
-        (quiet_address_of s 0 n, (f, (tt, (tt, (g (with_target (record { through = true; place = own s.free; cells = 1 }) (taking 1 s)) 1 refl, tt)))))
+    quiet_store_checked : (x : Scalar) (level : Level) (n : ℕ) → Hushed (store_checked s x level n)
+    quiet_store_checked x Own n = tt
+    quiet_store_checked x level n = (tt, quiet_store_at s 1 level n)
+
+    quiet_assigned : (n : Option Named) (whole : Bool) (x : Scalar) (part : Emit) (value : Scope → ℕ → Emit) → Hushed part → ((u : Scope) (h : ℕ) → u.body ≡ s.body → Hushed (value u h)) → Hushed (assigned s n whole x part value)
+    quiet_assigned None whole x part value f g = tt
+    quiet_assigned (Some n) whole x part value f g =
+        quiet_cond s (whole && not n.through) _ _ (g (with_target n s) 0 refl, quiet_store_checked x n.place.level n.place.cell)
+        (quiet_address_of s 0 n, (f, (tt, (tt, (g (with_target (record { through = true; place = own s.free; cells = 1 }) (taking 1 s)) 1 refl, (tt, tt))))))
 
   quiet_fields : (at : ℕ → ℕ → Emit) (n : ℕ) (fs : List Part) → ((n m : ℕ) → Hushed (at n m)) → Hushed (field_defaults program at n fs)
   quiet_fields at n [] g = tt
@@ -619,7 +623,7 @@ module _ (program : Program) where
 
     quiet_stmt : (may : Bool) (s : Scope) (x : Stmt) → Keeps nonblocking x may → Inside may s → Hushed (stmt program s x)
     quiet_stmt may s Null w k = tt
-    quiet_stmt may s (Assign a r selections (Number check e)) w k = quiet_assigned s (root_of s r) (is_whole selections) (selected program s 1 selections) _ (quiet_selected may s 1 selections w.0 k) (λ u h is. (quiet_emit may u h e w.1 (λ q. k (subst (IsQuiet quiet) is q)), tt))
+    quiet_stmt may s (Assign a r selections (Number check e)) w k = quiet_assigned s (root_of s r) (is_whole selections) check.scalar (selected program s 1 selections) _ (quiet_selected may s 1 selections w.0 k) (λ u h is. quiet_emit may u h e w.1 (λ q. k (subst (IsQuiet quiet) is q)))
     quiet_stmt may s (Assign a r selections (Cells x)) w k =
         (quiet_address s 0 (root_of s r), (quiet_selected may s 1 selections w.0 k, (tt, (quiet_composed may (with_target (record { through = true; place = own s.free; cells = composite_width program x }) (taking (composite_width program x) (taking 1 s))) 0 (s.free + 1) x w.1 k, (tt, (tt, tt))))))
     quiet_stmt may s (CallProcedure a callee sub actuals) w k = (quiet_passed may (passing program sub s) 0 sub s.free actuals w.1 k, (calls_quiet may s k sub w.0, quiet_back s sub s.free actuals))

@@ -4,12 +4,12 @@ ghost use Rattle.std.specs.Prelude.{◌≡◌, ◌<◌, ◌+◌};
 ghost use Rattle.behaviours.specs.Paths.{VariableOf};
 ghost use Rattle.typed_tree.specs.Decoded.{actuals_at, selections_at};
 ghost use Rattle.lower_emission.specs.Emission as spec;
-ghost use Rattle.lower_emission.specs.Scope.{◌⨟◌, one, keep, root_of};
+ghost use Rattle.lower_emission.specs.Scope.{◌⨟◌, one, keep, keep_checked, root_of};
 ghost use Rattle.lower_values.specs.Words.{env_of, nodes, tables, Emits, Finds};
 ghost use Rattle.stack_code.specs.declared.instr.Instr.TheVariants as i;
 
 use crate::cells::{Wanted, cells_of, formal_of, formals_cells};
-use crate::exprs::{address, checked, put_into, selected};
+use crate::exprs::{address, put_into, selected};
 use crate::types::{Emitter, Env};
 use stack_code::Instr;
 use typed_tree::{Actual, Root, Scalar};
@@ -143,7 +143,7 @@ pub fn target_cell(env: &Env<'_>, window: Window, formal: u32, out: &mut Emitter
 #[cycle(emit)]
 #[inline(never)]
 fn number_in(env: &Env<'_>, h: u32, target: Target, inside: Scalar, out: &mut Emitter)
-    ensures { Emits (spec.address (env_of env.now) h (root_of (env_of env.now) target.root) ⨟ spec.selected (tables env.now) (env_of env.now) (h + 1) (selections_at (nodes env.now) target.selections) ⨟ one (env_of env.now) (h + 1) i.Dup ⨟ keep (env_of env.now) (h + 1 + 1) target.cell ⨟ one (env_of env.now) (h + 1) i.Load ⨟ spec.checked (env_of env.now) (h + 1) inside ⨟ keep (env_of env.now) (h + 1) (target.cell + 1)) out.old out.new }
+    ensures { Emits (spec.address (env_of env.now) h (root_of (env_of env.now) target.root) ⨟ spec.selected (tables env.now) (env_of env.now) (h + 1) (selections_at (nodes env.now) target.selections) ⨟ one (env_of env.now) (h + 1) i.Dup ⨟ keep (env_of env.now) (h + 1 + 1) target.cell ⨟ one (env_of env.now) (h + 1) i.Load ⨟ keep_checked (env_of env.now) (h + 1) inside (target.cell + 1)) out.old out.new }
 {
     let h1 = out.sum(h, 1);
     let h2 = out.sum(h1, 1);
@@ -154,8 +154,7 @@ fn number_in(env: &Env<'_>, h: u32, target: Target, inside: Scalar, out: &mut Em
     out.put(env, h1, Instr::Dup);
     out.keep(env, h2, target.cell);
     out.put(env, h1, Instr::Load);
-    checked(env, h1, inside, out);
-    out.keep(env, h1, value);
+    out.keep_checked(env, h1, inside, value);
 }
 
 #[cycle(emit)]

@@ -2,12 +2,13 @@
 
 ghost use Rattle.std.specs.Prelude.{◌≡◌, ◌+◌, ◌++◌, ◌∷◌, [], length, slice_set};
 ghost use Rattle.lower_emission.specs.Emits.{put, gap, aimed, aimed_at, aimed_false};
-ghost use Rattle.lower_emission.specs.Scope.{forks, keep, mark};
+ghost use Rattle.lower_emission.specs.Scope.{forks, keep, keep_checked, mark};
 ghost use Rattle.lower_values.specs.Words.{env_of, Emits, Wrote, Finds, Leaps};
 
 use crate::types::{Emitter, Env};
 use lower_emission::types::Placed;
 use stack_code::{Instr, SiteKind};
+use typed_tree::Scalar;
 
 impl Emitter {
     /// An instruction is put at the end, with what holds around it.
@@ -32,6 +33,15 @@ impl Emitter {
     {
         let above = self.sum(cell, 1);
         self.push(env.placed(env.free.max(above), height, Instr::StoreL(cell)));
+    }
+
+    /// The same, where the top is one of a subtype's numbers, and else a raise.
+    pub fn keep_checked(&mut self, env: &Env<'_>, height: u32, scalar: Scalar, cell: u32)
+        ensures { Emits (keep_checked (env_of env.now) height scalar cell) self.old self.new }
+    {
+        let above = self.sum(cell, 1);
+        let set = Instr::SetL(cell, scalar.low, scalar.high);
+        self.push(env.placed(env.free.max(above), height, set));
     }
 
     /// A construct is begun.

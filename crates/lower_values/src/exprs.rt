@@ -555,8 +555,7 @@ pub fn put_into(env: &Env<'_>, h: u32, to: u32, id: u32, out: &mut Emitter)
         Some(Value::Number { check, value }) => {
             emit(env, h, value, out);
             let h1 = out.sum(h, 1);
-            checked(env, h1, check.scalar, out);
-            out.keep(env, h1, to);
+            out.keep_checked(env, h1, check.scalar, to);
         }
         Some(Value::Cells { composite }) => composed(env, h, to, composite, out),
         None => {

@@ -111,8 +111,7 @@ fn folding(env: &Env<'_>, h: u32, by: Reducer, out: &mut Emitter)
             let free1 = out.sum(env.free, 1);
             let number = out.sum(sub, 1);
             out.keep(env, h2, free1);
-            checked(env, h1, accumulator, out);
-            out.keep(env, h1, env.free);
+            out.keep_checked(env, h1, accumulator, env.free);
             out.put(env, h, Instr::LoadL(free1));
             checked(env, h1, value, out);
             out.put(env, h1, Instr::Pop);
