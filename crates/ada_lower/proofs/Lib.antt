@@ -108,8 +108,8 @@ mod LeasesLent
 mod WholeSafe
 mod AllFine
 -- the worked leases
-pub mod Computed
+mod Computed
 -- one home for each variable
 mod Times
-mod Housed
-mod Local
+pub mod Housed
+pub mod Local

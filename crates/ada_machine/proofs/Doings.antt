@@ -12,7 +12,7 @@ use Rattle.stack_code.specs.declared.path.Asked.{Asked}
 use Rattle.stack_code.specs.declared.path.Io.TheVariants as io
 use Rattle.ada_base.specs.Cells.{Cell}
 use Rattle.stack_code.specs.Deeds as Deeds
-use Rattle.stack_code.specs.Deeds.{Deed, deed_of, called, called_at, truth, forked, CallsAt, Forks, Fails}
+use Rattle.stack_code.specs.Deeds.{deed_of, called, called_at, truth, forked, CallsAt}
 use Rattle.stack_code.specs.Fits.{IsCallAt}
 use Rattle.stack_code.specs.Operands.{takes, taken_by}
 use Rattle.stack_code.specs.Runs.{IsAtLook}

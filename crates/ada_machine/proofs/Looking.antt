@@ -10,7 +10,7 @@ use Rattle.stack_code.specs.declared.instr.Instr.{Instr}
 use Rattle.stack_code.specs.declared.instr.Instr.TheVariants.{Call, CallAt, CallTo, Part, Repeat, Again, Combine, Ret, RetV, Exit, Leave, LeaveV, Fork, Unnest, Words, Img, Bool, Wide, Send, SendLn, Get, End, EndV, Halt}
 use Rattle.stack_code.specs.Deeds as Deeds
 use Rattle.stack_code.specs.Deeds.{Deed, called, called_at, truth, GoesOn, Fails, Loads, Stores, Forks, on_one, forked, can_fork, asked, many, deed_of}
-use Rattle.stack_code.specs.Machine.{State, Goes, Stop, step, Comes, Comes_to, entry_of}
+use Rattle.stack_code.specs.Machine.{State, Goes, Stop, step, Comes_to, entry_of}
 use Rattle.stack_code.specs.Looks.{counting, value_looks, cells_looks, kept_looks, deed_looks, act_looks, step_looks, looks_of, raise_looks, Looks, Looks_to}
 use Rattle.stack_code.proofs.Looks.{looks_one, looks_stop, looks_on, looks_end, looks_none, looks_cut}
 use Rattle.ada_machine.specs.declared.machine.Machine.{Machine}

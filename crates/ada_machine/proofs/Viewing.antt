@@ -1,5 +1,5 @@
 -- Views as the cells of a path.
-use Rattle.std.proofs.Common.{◌≡◌, ◌≢◌, ℕ, ◌+◌, ◌-◌, ◌<◌, ◌≤◌, inl, inr, ℤ, pos, Bool, true, false, List, ◌++◌, map, length, get_or, set, take, Option, Some, None, arith, refl, sym, ◌∙◌, ap, subst, length-append, length-set, length-take-le}
+use Rattle.std.proofs.Common.{◌≡◌, ℕ, ◌+◌, ◌-◌, ◌<◌, ◌≤◌, inl, inr, ℤ, pos, Bool, true, false, List, ◌++◌, map, length, get_or, set, take, Option, Some, None, arith, refl, sym, ◌∙◌, ap, subst, length-append, length-set, length-take-le}
 use Rattle.std.specs.Prelude.{IsSome, slice_get}
 use Rattle.std.specs.List.{range_with_len}
 use Rattle.std.proofs.lemmas.Bool.{cases_lt, cases_eq, false≢true}

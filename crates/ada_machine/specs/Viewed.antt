@@ -1,5 +1,5 @@
 -- Where a view stands.
-use Rattle.std.specs.Prelude.{ℕ, Bool, List, map, Option}
+use Rattle.std.specs.Prelude.{Bool, List, map, Option}
 use Rattle.std.specs.List.{range_with_len}
 use Rattle.cell_strip.specs.Strips.{Block}
 use Rattle.cell_memory.specs.Sight.{Sight, cell_at, is_mine, lower_length}

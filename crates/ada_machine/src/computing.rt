@@ -34,7 +34,6 @@ pub struct Frames<'a> {
 /// Does an instruction that asks for no more than operands and cells. What computes with cells is made once for each kind of halt,
 /// since a compiler puts a function into its caller only where it is called from one place.
 #[inline(always)]
-#[tactic(auto, using(crate::proofs::Outcomes::outcome, crate::proofs::Outcomes::outcome_or, crate::proofs::Outcomes::outcome_plays, crate::proofs::Outcomes::outcome_plays_or, crate::proofs::Outcomes::outcome_copies))]
 pub fn compute<C: Cells, H: Halt>(
     code: &Code,
     instr: &Instr,

@@ -626,7 +626,7 @@ fn rare_effect<C: Cells, H: Halt>(
     }
 }
 
-// Does an instruction that asks for more than operands, cells and turns. The loop has those in itself that are met often.
+// Does an instruction that asks for more than operands, cells and turns. LLVM puts it into the loop; Rattle's own compiler doesn't.
 #[inline(always)]
 pub(crate) fn effect<C: Cells, H: Halt>(
     code: &Code,

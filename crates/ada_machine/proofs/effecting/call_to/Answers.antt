@@ -1,4 +1,4 @@
-use Rattle.std.proofs.Common.{◌≡◌, ◌<◌, ℤ, List, ◌∷◌, reverse, true, sym, ap, ◌∙◌, subst, arith, rules, SFits, w64, refl}
+use Rattle.std.proofs.Common.{◌≡◌, ◌<◌, ℤ, List, ◌∷◌, reverse, true, sym, ap, ◌∙◌, subst, arith, SFits, w64, refl}
 use Rattle.std.proofs.lemmas.Int.{to_z-of_z}
 use Rattle.std.proofs.lemmas.Option.{slice_get_within}
 use Rattle.stack_code.specs.declared.instr.Instr.TheVariants as instr
@@ -56,7 +56,7 @@ returns-then-m-ge-MOST_CALLS-clause-steps g c =
 
 pub returns-then-not-truth-clause-steps : goal.returns-then-not-truth-clause-steps
 returns-then-not-truth-clause-steps g c =
-    let in64 : SFits w64 c.take-fit.result = search rules in
+    let in64 : SFits w64 c.take-fit.result = record { sfits = c.take-fit.type_inv } in
     let code = c.args.code.now in
     let m = c.args.m.now in
     let cells = g.C.Cells.cells c.args.view.now in
@@ -71,7 +71,7 @@ returns-in-Ok-clause-steps g c =
     let cells = g.C.Cells.cells c.args.view.now in
     let b = c.args.back in
     let less : m.turns < c.args.limit = omega (arith, c.requires.within) in
-    let in64 : SFits w64 c.take-fit.result = search rules in
+    let in64 : SFits w64 c.take-fit.result = record { sfits = c.take-fit.type_inv } in
     let fit : truth c.take-fit.result ≡ true = ap truth (sym (to_z-of_z w64 c.take-fit.result in64)) ∙ sym c.truth.ensures ∙ c.if-not-truth.false in
     doings.window_goes c.args.limit code m cells c.requires.calm _ _ _ _ _ _ _ (return_by code m b.sub b.cell b.to c.sub_of-callee.result c.take-fit.result (reverse c.take-fit.new.stack.items) c.requires.at c.sub_of-callee.ensures c.take-fit.ensures.top) c.requires.ready c.requires.within _ (g.C.Cells.cells c.enter_at.new.view) less (omega arith) fit c.in-Ok.ensures.ok c.in-Ok.ensures.fits c.in-Ok.ensures.near (omega (arith, c.enter_at.ensures.room, c.take-fit.ensures.room))
 
@@ -81,7 +81,7 @@ returns-in-Err-clause-steps g c =
     let cells = g.C.Cells.cells c.args.view.now in
     let b = c.args.back in
     let v : ℤ = c.take-fit.result in
-    let in64 : SFits w64 v = search rules in
+    let in64 : SFits w64 v = record { sfits = c.take-fit.type_inv } in
     let fit : truth v ≡ true = ap truth (sym (to_z-of_z w64 v in64)) ∙ sym c.truth.ensures ∙ c.if-not-truth.false in
     let under : reverse c.enter_at.new.m.stack.items ≡ reverse c.take-fit.new.stack.items = ap (λ (s : State). s.stack) c.in-Err.ensures.err in
     let all : reverse c.put.new.stack.items ≡ reverse m.stack.items = c.put.ensures.top ∙ ap (λ z. z ∷ reverse c.enter_at.new.m.stack.items) (to_z-of_z w64 v in64) ∙ ap (λ xs. v ∷ xs) under ∙ sym c.take-fit.ensures.top in

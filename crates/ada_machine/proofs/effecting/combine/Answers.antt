@@ -1,6 +1,6 @@
 use Rattle.std.proofs.Common.{◌≡◌, ◌+◌, ◌<◌, ◌≤◌, ◌∷◌, [], length, reverse, arith, ap, sym, ◌∙◌, refl, subst}
 use Rattle.stack_code.specs.Machine.{State}
-use Rattle.std.proofs.Common.{rules, ℤ, List, SFits, w64, ◌++◌}
+use Rattle.std.proofs.Common.{ℤ, List, SFits, w64, ◌++◌}
 use Rattle.std.proofs.lemmas.Int.{to_z-of_z}
 use Rattle.std.proofs.lemmas.Option.{slice_get_within}
 use Rattle.ada_machine.specs.States.{state_of, IsMore}
@@ -42,7 +42,7 @@ enter-requires-clause-takes g c =
 
 pub returns-in-Ok-clause-steps : goal.returns-in-Ok-clause-steps
 returns-in-Ok-clause-steps g c =
-    let fits : SFits w64 c.take_last-part.result = search rules in
+    let fits : SFits w64 c.take_last-part.result = record { sfits = c.take_last-part.type_inv } in
     let q = doings.last_first c.args.m.now.kept.items c.take_last-part.new.self.items c.take_last-part.result c.take_last-part.ensures.items in
     let less : c.args.m.now.turns < c.args.limit = omega (arith, c.requires.within) in
     let top : reverse c.put.new.stack.items ≡ c.take_last-part.result ∷ reverse c.args.m.now.stack.items = c.put.ensures.top ∙ ap (λ z. z ∷ reverse c.reserve.new.self.items) (to_z-of_z w64 c.take_last-part.result fits) ∙ ap (λ xs. c.take_last-part.result ∷ reverse xs) c.reserve.ensures.items in
@@ -51,7 +51,7 @@ returns-in-Ok-clause-steps g c =
 
 pub returns-in-Err-clause-steps : goal.returns-in-Err-clause-steps
 returns-in-Err-clause-steps g c =
-    let fits : SFits w64 c.take_last-part.result = search rules in
+    let fits : SFits w64 c.take_last-part.result = record { sfits = c.take_last-part.type_inv } in
     let cells = g.C.Cells.cells c.args.view.now in
     let st : reverse c.take.new.stack.items ≡ reverse c.args.m.now.stack.items = doings.untaken _ _ c.enter.new.m.stack.items c.put.new.stack.items c.take.new.stack.items c.reserve.new.self.items c.args.m.now.stack.items c.take.ensures.top c.in-Err.ensures.same.0 c.put.ensures.top c.reserve.ensures.items in
     let kept : c.push_reserved.new.self.items ≡ c.args.m.now.kept.items = c.push_reserved.ensures.items ∙ ap (λ z. c.enter.new.m.kept.items ++ (z ∷ [])) (to_z-of_z w64 c.take_last-part.result fits) ∙ ap (λ v. v.items ++ (c.take_last-part.result ∷ [])) c.in-Err.ensures.same.1 ∙ sym c.take_last-part.ensures.items in

@@ -1,4 +1,4 @@
-use Rattle.std.proofs.Common.{rules, ◌≡◌, ◌∷◌, [], pos, reverse, refl, ap, ◌∙◌, arith, SFits, w64}
+use Rattle.std.proofs.Common.{◌≡◌, ◌∷◌, [], pos, reverse, refl, ap, ◌∙◌, arith, SFits, w64}
 use Rattle.std.proofs.lemmas.Int.{to_z-of_z}
 use Rattle.stack_code.specs.declared.instr.Instr.TheVariants as instr
 use Rattle.stack_code.specs.Machine.{drawing, on}
@@ -24,7 +24,7 @@ pub returns-clause-steps : goal.returns-clause-steps
 returns-clause-steps c = λ cells r.
     let m = c.args.m.now in
     let part = c.take_last-part.result in
-    let fits : SFits w64 c.take_last-part.result = search rules in
+    let fits : SFits w64 c.take_last-part.result = record { sfits = c.take_last-part.type_inv } in
     let q = doings.last_first m.kept.items c.take_last-part.new.self.items part c.take_last-part.ensures.items in
     doings.writes c.args.limit c.args.code.now m c.put_drawn-2.new.m cells cells r c.requires.within c.requires.calm instr.Part _ c.requires.at
     (ap (λ ps. drawing c.args.limit ps (state_of m cells)) q)

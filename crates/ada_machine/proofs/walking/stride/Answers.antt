@@ -11,14 +11,14 @@ use Rattle.ada_machine.specs.declared.machine.Went.TheVariants as went
 use Rattle.ada_machine.specs.Played.{Exceeds, Overlaps, IsClear, Onward, Raised, plays}
 use Rattle.ada_machine.specs.States.{state_of, Steps}
 use Rattle.ada_machine.proofs.Keeping.{stays_on, topped_one}
-use Rattle.ada_machine.proofs.Looking.{none_looks, same_looks, quiet_looks, window_looks, onward_none, raised_none, looked_none, looked_step}
+use Rattle.ada_machine.proofs.Looking.{none_looks, same_looks, onward_none, raised_none, looked_none, looked_step}
 use Rattle.ada_machine.proofs.Readies.{fine_here}
 use Rattle.ada_machine.proofs.Steps.{clear_here, step_plays, step_raises, steps_stopped}
 use Rattle.ada_machine.proofs.Unmoved.{Came, came_still, beyond_still, raises_there, stops_there, looks_raised, looks_stopped, handed_on}
 use Rattle.ada_machine.proofs.Walks.{goes_same, raises_same, turn_on, turn_looks, turn_spent, machine_here}
 use Rattle.ada_machine.proofs.Heeding.{unheard, heeds_later}
 use Rattle.leave_board.specs.Halts.{Heeds}
-use Rattle.leave_board.proofs.Heeding.{heeds_on, heeds_same}
+use Rattle.leave_board.proofs.Heeding.{heeds_on}
 use Rattle.ada_machine.proofs.walking.stride.Goals as goal
 
 -- a machine that a stretch wrote back to

@@ -1,4 +1,4 @@
-use Rattle.std.proofs.Common.{rules, ap, sym, ◌∙◌}
+use Rattle.std.proofs.Common.{ap, sym, ◌∙◌}
 use Rattle.std.specs.Prelude.{Some}
 use Rattle.std.proofs.lemmas.Int.{to_z-of_z}
 use mir.Syntax.{w64}
@@ -11,5 +11,5 @@ get-requires c = may_read c.args.self.now c.args.at c.requires
 
 pub returns : goal.returns
 returns c =
-    let fits : SFits w64 c.get.result = search rules in
+    let fits : SFits w64 c.get.result = record { sfits = c.get.type_inv } in
     reads c.args.self.now c.args.at _ c.requires c.get.ensures ∙ ap (λ v. Some v) (sym (to_z-of_z w64 c.get.result fits))
