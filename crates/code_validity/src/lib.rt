@@ -1,7 +1,13 @@
-//! The test that code fits together: its instructions where they stand, and its tables.
+//! The test that code fits together: what an instruction takes, gives and leads to, and where it may stand; what the tables
+//! hold, and what unwind entries guard.
 #![tactic(auto)]
 
-pub mod spots;
+pub mod belonging;
+pub mod bodies;
+pub mod fitting;
+pub mod operands;
+pub mod slack;
+pub mod tables;
 pub mod validity;
 
 pub use validity::validate;

@@ -1,8 +1,9 @@
 ghost use Rattle.std.specs.Prelude.{◌≡◌, ◌<◌, ◌↔◌, IsTrue};
 ghost use Rattle.stack_code.specs.Valid.{Each, Has, IsValid, SpotFits};
 
-use crate::spots::spot_fits;
-use code_rules::{guards_fit, handlers_fit, has_main, sites_fit, subs_fit};
+use crate::fitting::spot_fits;
+use crate::slack::guards_fit;
+use crate::tables::{handlers_fit, has_main, sites_fit, subs_fit};
 use stack_code::{Code, Instr};
 
 fn instr_fits(code: &Code, at: usize, instr: Instr) -> bool

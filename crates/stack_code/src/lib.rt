@@ -8,6 +8,7 @@ pub mod laws;
 pub mod operators;
 pub mod path;
 pub mod reasons;
+pub mod spots;
 
 pub use code::{
     Around, Code, CodeSite, CodeSub, Lease, Reducer, SiteKind, Spot, Step, Unwind, Words,
@@ -18,3 +19,4 @@ pub use laws::{cut_law, frame_law, look_law, standing_law, top_law};
 pub use operators::{Digits, Relation};
 pub use path::{Asked, Gave, Io, Leave};
 pub use reasons::reason_number;
+pub use spots::{leads, names_holder};
