@@ -26,6 +26,7 @@ pub enum Computed {
 pub(crate) fn put(stack: &mut Vec<i64>, value: i64)
     requires { vec_len stack.old < vec_capacity stack.old }
     ensures top { reverse stack.new.items ≡ value ∷ reverse stack.old.items }
+    ensures len { vec_len stack.new ≡ vec_len stack.old + 1 }
     ensures room { vec_capacity stack.new ≡ vec_capacity stack.old }
 {
     stack.push_reserved(value);
@@ -141,7 +142,6 @@ fn difference(base: Base, x: i64, y: i64) -> Option<i64>
 
 // The product of two numbers of 32 bits is one of 64, for which nothing is to be tested.
 #[inline(always)]
-#[tactic(auto, using(crate::proofs::Narrows::narrow_in, crate::proofs::Narrows::narrow_product))]
 fn product(base: Base, x: i64, y: i64) -> Option<i64>
     ensures { result ≡ applied Op.Mul base x y }
 {

@@ -1,6 +1,6 @@
 use Rattle.std.proofs.Common.{◌*ℤ◌, sym, ◌∙◌, w64}
 use Rattle.std.proofs.lemmas.Int.{to_z-of_z}
-use Rattle.ada_machine.proofs.Narrows.{narrow_product}
+use Rattle.ada_machine.proofs.Narrows.{narrow_in, narrow_product}
 use Rattle.ada_machine.proofs.operands.product.Goals as goal
 
 pub returns-else-is_narrow-3 : goal.returns-else-is_narrow-3
@@ -9,3 +9,17 @@ returns-else-is_narrow-3 c =
     let y = to_z-of_z w64 c.args.y c.ranges.y in
     let fits = narrow_product c.args.x c.args.y (sym (simp x at c.is_narrow.ensures) ∙ c.if-is_narrow.true) (sym (simp y at c.is_narrow-then-is_narrow.ensures) ∙ c.if-is_narrow-2.true) in
     simp (x, y, to_z-of_z w64 (c.args.x *ℤ c.args.y) fits) at c.within.ensures
+
+pub overflow_mul-near : goal.overflow_mul-near
+overflow_mul-near c =
+    let x = to_z-of_z w64 c.args.x c.ranges.x in
+    let y = to_z-of_z w64 c.args.y c.ranges.y in
+    simp (x, y) (narrow_product c.args.x c.args.y (sym (simp x at c.is_narrow.ensures) ∙ c.if-is_narrow.true) (sym (simp y at c.is_narrow-then-is_narrow.ensures) ∙ c.if-is_narrow-2.true))
+
+pub returns-then-is_narrow-3 : goal.returns-then-is_narrow-3
+returns-then-is_narrow-3 c =
+    let x = to_z-of_z w64 c.args.x c.ranges.x in
+    let y = to_z-of_z w64 c.args.y c.ranges.y in
+    let fits = narrow_product c.args.x c.args.y (sym (simp x at c.is_narrow.ensures) ∙ c.if-is_narrow.true) (sym (simp y at c.is_narrow-then-is_narrow.ensures) ∙ c.if-is_narrow-2.true) in
+    let near = to_z-of_z w64 (c.args.x *ℤ c.args.y) fits in
+    simp (x, y, near) (sym (narrow_in c.args.base (c.args.x *ℤ c.args.y) (sym (simp (x, y, near) at c.is_narrow-then-is_narrow-2.ensures) ∙ c.if-is_narrow-3.true)))
