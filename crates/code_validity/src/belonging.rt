@@ -1,3 +1,5 @@
+//! Whether an instruction may stand in its body: the cells, subprograms and sites that it names, and what has to stand before it.
+
 ghost use Rattle.std.specs.Prelude.{◌≡◌, ◌<◌, ◌↔◌, true, slice_get, Some, IsTrue, IsSomeAnd};
 ghost use Rattle.stack_code.specs.Valid.{Has, CallsFunction, ForksFold, FollowsFold, Belongs, HasFrame, outward};
 

@@ -1,3 +1,5 @@
+//! What a body of code has: its frame and its stack in cells, whether it is a thread or may be called, and which body is around it.
+
 ghost use Rattle.std.specs.Prelude.{◌≡◌, ◌<◌, ◌≤◌, ◌↔◌, Some, IsTrue};
 ghost use Rattle.stack_code.specs.Valid.{HasFrame, HasStack, IsThread, IsCallee, outward, step_out};
 

@@ -1,3 +1,5 @@
+//! Whether an instruction keeps the rules at its place.
+
 ghost use Rattle.std.specs.Prelude.{◌<◌, ◌↔◌, IsTrue};
 ghost use Rattle.stack_code.specs.Valid.{SpotFits};
 

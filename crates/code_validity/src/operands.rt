@@ -1,3 +1,5 @@
+//! What an instruction takes from the stack and gives to it, and where control goes behind it.
+
 ghost use Rattle.std.specs.Prelude.{◌≡◌, ◌+◌, ◌-◌, ◌≤◌, ℕ, slice_get};
 ghost use Rattle.stack_code.specs.Operands.{takes, pushes, ends_of, nest_after, flow_of, is_reduction};
 

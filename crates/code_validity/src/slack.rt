@@ -1,3 +1,5 @@
+//! Whether unwind entries guard what they hold, from what each stretch of instructions leaves to them.
+
 ghost use Rattle.std.specs.Prelude.{◌≡◌, ◌+◌, ◌<◌, ◌≤◌, ◌↔◌, ℕ, length, slice_get, Some, IsTrue};
 ghost use Rattle.stack_code.specs.declared.code.Unwind.{Unwind};
 ghost use Rattle.stack_code.specs.Operands.{takes};

@@ -1,3 +1,5 @@
+//! Whether the tables of sites, subprograms and unwind entries fit the code.
+
 ghost use Rattle.std.specs.Prelude.{◌↔◌, IsTrue};
 ghost use Rattle.stack_code.specs.Valid.{Each, HandlerFits, HasMain, IsEarlier, Lands, LeaseFits, SiteFits, SubFits};
 

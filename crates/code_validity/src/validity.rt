@@ -1,3 +1,5 @@
+//! Whether code is valid: each instruction at its place, and all tables.
+
 ghost use Rattle.std.specs.Prelude.{◌≡◌, ◌<◌, ◌↔◌, IsTrue};
 ghost use Rattle.stack_code.specs.Valid.{Each, Has, IsValid, SpotFits};
 
