@@ -389,9 +389,6 @@ empty (x ∷ xs) e = absurd (omega (arith, e))
 pub last_first : (xs rest : List ℤ) (x : ℤ) → xs ≡ rest ++ x ∷ [] → reverse xs ≡ x ∷ reverse rest
 last_first xs rest x e = ap reverse e ∙ reverse-append rest (x ∷ [])
 
-pub two_on_top : (n : ℕ) (new mid old : List ℤ) (v : ℤ) → reverse new ≡ v ∷ reverse mid → mid ≡ old → 1 ≤ length old → n ≡ 2 → n ≤ length new
-two_on_top n new mid old v e f l t = omega (arith, length-reverse new, length-reverse mid, ap length e, ap length f, l, t)
-
 pub untaken : (v w : ℤ) (from new rest mid old : List ℤ) → reverse from ≡ v ∷ reverse rest → from ≡ new → reverse new ≡ w ∷ reverse mid → mid ≡ old → reverse rest ≡ reverse old
 untaken v w from new rest mid old e f g h =
     let all : v ∷ reverse rest ≡ w ∷ reverse old = sym e ∙ ap reverse f ∙ g ∙ ap (λ xs. w ∷ reverse xs) h in

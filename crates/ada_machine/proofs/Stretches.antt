@@ -42,6 +42,20 @@ fill_there cells n (pos k) v l h = refl
 fill_there cells zero (negsuc k) v l h = absurd (omega (arith, l))
 fill_there cells (suc n) (negsuc k) v l h = absurd h
 
+module _ (cells : List Cell) (n from : ℕ) (a v : ℤ) (l : 0 < n) (e : from ≡ cell_of a) (h : IsClear (stores_all (replicate n v) a Lacks) cells) where
+  fills_from : a ≡ pos from
+  fills_from = fill_there cells n a v l h ∙ ap pos (sym e)
+
+  -- the end of the block in 64 bits
+  pub fill_near : FitsSigned w64 a → n < 2 ^ 32 → from + n < 2 ^ 64
+  fill_near p r = let g : FitsSigned w64 (pos from) = subst (FitsSigned w64) fills_from p in omega (arith, g, r)
+
+  pub fill_moved : IsClear (stores_all (replicate n v) (pos from) Lacks) cells
+  fill_moved = subst (λ z. IsClear (stores_all (replicate n v) z Lacks) cells) fills_from h
+
+  pub filled_moved : (cells' : List Cell) → ((d : Deed) → plays (stores_all (replicate n v) (pos from) d) cells ≡ plays d cells') → (d : Deed) → plays (stores_all (replicate n v) a d) cells ≡ plays d cells'
+  filled_moved cells' g d = ap (λ z. plays (stores_all (replicate n v) z d) cells) fills_from ∙ g d
+
 -- ---- copying
 
 other_cell : (cells : List Cell) (t a : ℕ) (c : Cell) → (a ≡ t → ⊥) → slice_get (set cells t c) a ≡ slice_get cells a

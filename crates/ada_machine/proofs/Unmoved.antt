@@ -74,6 +74,14 @@ module _ (limit : ℕ) (c : Code) (m m' : Machine) (cells cells' : List Cell) (e
   pub beyond_still : vec_capacity m'.stack ≡ vec_capacity m.stack → Ready c m cells → m.turns ≤ limit → m.raising ≡ None → (i : Instr) → slice_get c.instrs m.pc ≡ Some i → Exceeds (deed_of c m.pc (reverse m.stack.items) m.base m.outward.items i) cells ⊎ Overlaps i (reverse m.stack.items) → Steps limit c (went.Stopped stop.NoMemory) m cells m' cells'
   beyond_still v r w n i at x = record { goes = (e, (n, i, at, inr x)); ready = ready_still v r; within = subst (λ s. s.turns ≤ limit) (sym e) w; falls = tt }
 
+-- nor what its stack holds
+module _ (limit : ℕ) (c : Code) (m n q : Machine) (cells cells' : List Cell) (e : q ≡ n) (f : n ≡ record m { stack = n.stack }) (d : n.stack.items ≡ m.stack.items) (k : cells' ≡ cells) where
+  pub same_kept : state_of q cells' ≡ state_of m cells
+  same_kept = ap (λ (x : Machine). state_of x cells') (e ∙ f) ∙ ap (λ st. record (state_of m cells') { stack = reverse st }) d ∙ ap (λ w. state_of m w) k
+
+  pub came_kept : (m0 : Machine) (cells0 : List Cell) (low low' : ℕ) (i : Instr) → vec_capacity n.stack ≡ vec_capacity m.stack → low' ≡ low → Came limit c m0 cells0 low i m cells → Came limit c m0 cells0 low' i q cells'
+  came_kept m0 cells0 low low' i v l a = came_still limit c m q cells cells' same_kept m0 cells0 low low' i (ap (λ (x : Machine). vec_capacity x.stack) e ∙ v) l (ap (λ (x : Machine). x.looks) (e ∙ f)) a
+
 -- what a stretch comes to by the instruction that it came to
 module _ (limit : ℕ) (c : Code) (m0 : Machine) (cells0 : List Cell) (low : ℕ) (i : Instr) (m : Machine) (cells : List Cell) (a : Came limit c m0 cells0 low i m cells) (m' : Machine) (cells' : List Cell) where
   pub raises_there : Steps limit c went.Raising m cells m' cells' → Strides limit c None m0 cells0 m' cells'

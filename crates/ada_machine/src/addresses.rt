@@ -1,12 +1,12 @@
-// Cells of frames outward.
-ghost use Rattle.std.specs.Prelude.{◌≡◌, ◌+◌, ◌-◌, ◌^◌, ◌<◌, ◌≤◌, ◌∷◌, reverse, length, vec_len, vec_capacity, Some, pos, slice_get, slice_index, EachIndex};
-ghost use Rattle.stack_code.specs.Deeds.{cell_of_frame, load_of_frame, store_of_frame};
+// Addresses: cells of frames outward, and a record's fields.
+ghost use Rattle.std.specs.Prelude.{◌≡◌, ◌+◌, ◌-◌, ◌^◌, ◌<◌, ◌≤◌, ◌+ℤ◌, ◌∷◌, reverse, length, vec_len, vec_capacity, Some, pos, slice_get, slice_index, EachIndex};
+ghost use Rattle.stack_code.specs.Deeds.{cell_of_frame, load_of_frame, store_of_frame, unary};
 ghost use Rattle.ada_machine.specs.Places.{Stays};
-ghost use Rattle.ada_machine.specs.Played.{IsClear, Computes, Plays};
+ghost use Rattle.ada_machine.specs.Played.{IsClear, Computes, ComputesOr, Plays};
 
 use crate::cells::Cells;
 use crate::memory::{load_cell, store_cell};
-use crate::operands::{Computed, push_local};
+use crate::operands::{Computed, push_local, put, take};
 
 #[inline(always)]
 #[tactic(auto, using(crate::proofs::Frames::frame_there, crate::proofs::Frames::frame_near))]
@@ -85,4 +85,25 @@ pub(crate) fn store_outer<C: Cells>(
 {
     let base = frame_at(outward, steps);
     store_cell(stack, pc, view, base + u64::from(cell))
+}
+
+#[inline(always)]
+#[tactic(auto, using(crate::proofs::Memories::unary_far))]
+pub(crate) fn select(stack: &mut Vec<i64>, pc: usize, field: u32) -> Computed
+    requires one { 1 ≤ vec_len stack.old }
+    requires next { pc < usize.MAX }
+    ensures deed { ComputesOr (unary pc (reverse stack.old.items) (λ a. Some (a +ℤ pos field))) result stack.old.items stack.new.items }
+    ensures room { vec_capacity stack.new ≡ vec_capacity stack.old }
+{
+    let address = take(stack);
+    match address.checked_add(i64::from(field)) {
+        Some(moved) => {
+            put(stack, moved);
+            Computed::To(pc + 1)
+        }
+        None => {
+            put(stack, address);
+            Computed::Beyond
+        }
+    }
 }

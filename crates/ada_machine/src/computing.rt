@@ -5,7 +5,7 @@ ghost use Rattle.stack_code.specs.Operands.{takes, pushes};
 ghost use Rattle.ada_machine.specs.Places.{Stays};
 ghost use Rattle.ada_machine.specs.Played.{IsClear, Outcome};
 
-use crate::addresses::{load_outer, push_outer, store_outer};
+use crate::addresses::{load_outer, push_outer, select, store_outer};
 use crate::blocks::{copy, fill};
 use crate::cells::Cells;
 use crate::memory::{
@@ -16,7 +16,7 @@ use crate::operands::{
     Computed, add, add_constant, check_range, combine_digits, compare, differ, divide, double,
     exchange, flip, greater, invert, jump_if_false, jump_if_true, jump_unless, lesser,
     make_absolute, multiply, multiply_by_constant, negate, pop, push, push_local, push_number,
-    raise_again, raise_to, reduce, reduce_by_constant, remain, select, subtract, subtract_constant,
+    raise_again, raise_to, reduce, reduce_by_constant, remain, subtract, subtract_constant,
 };
 use leave_board::Halt;
 use stack_code::{Code, Digits, Instr, Relation};
@@ -174,31 +174,6 @@ pub fn compute<C: Cells, H: Halt>(
         }
         Instr::Flip => flip(stack, pc),
         Instr::Differ => differ(stack, pc),
-        Instr::Turn
-        | Instr::Call(_)
-        | Instr::CallAt(_, _)
-        | Instr::CallTo(_, _, _)
-        | Instr::Part
-        | Instr::Repeat(_)
-        | Instr::Again(_)
-        | Instr::Ret
-        | Instr::RetV
-        | Instr::Exit(_)
-        | Instr::Leave
-        | Instr::LeaveV
-        | Instr::Fork(_)
-        | Instr::Nest
-        | Instr::Unnest
-        | Instr::Words(_)
-        | Instr::Img
-        | Instr::Bool
-        | Instr::Wide(_)
-        | Instr::Send
-        | Instr::SendLn
-        | Instr::Get
-        | Instr::End
-        | Instr::EndV
-        | Instr::Halt
-        | Instr::Combine(_) => Computed::Other,
+        _ => Computed::Other,
     }
 }

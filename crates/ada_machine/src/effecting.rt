@@ -1,11 +1,11 @@
 // The instructions that ask for more than operands and cells.
-ghost use Rattle.std.specs.Prelude.{◌≡◌, ◌+◌, ◌-◌, ◌^◌, ◌<◌, ◌≤◌, ◌∷◌, ℕ, ℤ, pos, List, Some, None, length, reverse, slice_get, vec_len, vec_capacity};
+ghost use Rattle.std.specs.Prelude.{◌≡◌, ◌+◌, ◌-◌, ◌^◌, ◌<◌, ◌≤◌, ◌∷◌, ℕ, ℤ, pos, List, Some, None, length, reverse, slice_get, vec_len, vec_capacity, OnOk, OnErr};
 ghost use Rattle.ada_base.specs.Cells.{Cell};
 ghost use Rattle.stack_code.specs.Runs.{NeverStuck};
 ghost use Rattle.stack_code.specs.Tops.{IsTopped};
 ghost use Rattle.ada_machine.specs.Places.{Stays};
 ghost use Rattle.stack_code.specs.Looks.{looks_of, kept_looks};
-ghost use Rattle.stack_code.specs.Machine.{failed, on};
+ghost use Rattle.stack_code.specs.Machine.{entered, failed, on};
 ghost use Rattle.ada_machine.specs.States.{state_of, more, Ready, Steps, LooksBy, HeedsBy};
 ghost use Rattle.ada_machine.specs.Strides.{IsHandedOn, IsRare};
 
@@ -18,6 +18,7 @@ use crate::operands::{put, take, truth};
 use ada_base::Reason;
 use leave_board::Halt;
 use stack_code::{Code, CodeSub, Instr, Io, Leave};
+use std::alloc::AllocError;
 
 // Calls and constructs that may be active (13.7).
 const MOST_CALLS: u32 = 1000;
@@ -516,6 +517,35 @@ fn again(code: &Code, m: &mut Machine, limit: u64, to: u32) -> Went
     Went::On
 }
 
+// The call of a function with the next accumulator that is kept, which comes back to where it stands; an Err leaves all as it was.
+fn enter_next<C: Cells>(m: &mut Machine, view: &mut C, callee: CodeSub) -> Result<(), AllocError>
+    requires kept { 0 < vec_len m.old.kept }
+    requires takes { callee.takes ≤ vec_len m.old.stack + 1 }
+    requires turns { m.old.turns < 2 ^ 64 - 1 }
+    requires calls { m.old.calls < 1000 }
+    requires whole { C.whole view.old }
+    ensures ok { OnOk result ((part : ℤ) × (parts : List ℤ) × (reverse m.old.kept.items ≡ part ∷ parts) × (state_of m.new (C.cells view.new) ≡ entered callee m.old.pc parts (record (state_of m.old (C.cells view.old)) { turns = m.old.turns + 1; stack = part ∷ reverse m.old.stack.items }))) }
+    ensures fits { OnOk result (m.new.floor + callee.stack ≤ vec_capacity m.new.stack) }
+    ensures near { OnOk result (m.new.base ≤ 2 ^ 62) }
+    ensures err { OnErr result (state_of m.new (C.cells view.new) ≡ state_of m.old (C.cells view.old)) }
+    ensures room { vec_capacity m.old.stack ≤ vec_capacity m.new.stack }
+    ensures stays { Stays C.floor C.whole C.place view.old view.new }
+    ensures looks { m.new.looks ≡ m.old.looks }
+{
+    m.stack.reserve(1)?;
+    let part = m.kept.take_last();
+    put(&mut m.stack, part);
+    let to = m.pc;
+    match enter(m, view, callee, to) {
+        Ok(()) => Ok(()),
+        Err(error) => {
+            let _ = take(&mut m.stack);
+            m.kept.push_reserved(part);
+            Err(error)
+        }
+    }
+}
+
 fn combine<C: Cells, H: Halt>(
     code: &Code,
     m: &mut Machine,
@@ -556,22 +586,12 @@ fn combine<C: Cells, H: Halt>(
         fail(m, Reason::StorageError, height);
         return Went::Raising;
     }
-    if m.stack.reserve(1).is_err() {
-        return Went::Stopped(Stop::NoMemory);
-    }
-    let part = m.kept.take_last();
-    put(&mut m.stack, part);
-    let to = m.pc;
-    match enter(m, view, callee, to) {
+    match enter_next(m, view, callee) {
         Ok(()) => {
             m.looks = m.looks.saturating_add(1);
             Went::On
         }
-        Err(_) => {
-            let _ = take(&mut m.stack);
-            m.kept.push_reserved(part);
-            Went::Stopped(Stop::NoMemory)
-        }
+        Err(_) => Went::Stopped(Stop::NoMemory),
     }
 }
 

@@ -779,24 +779,3 @@ pub(crate) fn flip(stack: &mut Vec<i64>, pc: usize) -> Computed
         }
     }
 }
-
-#[inline(always)]
-#[tactic(auto, using(crate::proofs::Memories::unary_far))]
-pub(crate) fn select(stack: &mut Vec<i64>, pc: usize, field: u32) -> Computed
-    requires one { 1 ≤ vec_len stack.old }
-    requires next { pc < usize.MAX }
-    ensures deed { ComputesOr (unary pc (reverse stack.old.items) (λ a. Some (a +ℤ pos field))) result stack.old.items stack.new.items }
-    ensures room { vec_capacity stack.new ≡ vec_capacity stack.old }
-{
-    let address = take(stack);
-    match address.checked_add(i64::from(field)) {
-        Some(moved) => {
-            put(stack, moved);
-            Computed::To(pc + 1)
-        }
-        None => {
-            put(stack, address);
-            Computed::Beyond
-        }
-    }
-}

@@ -19,3 +19,39 @@ returns-clause-ok g c =
     let m = c.args.m.now in
     c.begin_body.ensures.state cells' ∙ ap (begins c.args.callee _) (c.make_room.ensures.state cells')
     ∙ begins_entered c.args.callee _ c.args.to (state_of m cells) cells' refl (omega (arith, length-reverse m.stack.items, ap length c.make_room.ensures.same.3)) c.len-base.ensures.len ok.0 ok.1
+
+pub returns-in_err-top-clause-room : goal.returns-in_err-top-clause-room
+returns-in_err-top-clause-room g c = c.make_room.ensures.room
+
+pub returns-in_err-top-clause-stays : goal.returns-in_err-top-clause-stays
+returns-in_err-top-clause-stays g c = c.make_room.ensures.stays
+
+pub returns-in_err-top-clause-looks : goal.returns-in_err-top-clause-looks
+returns-in_err-top-clause-looks g c = c.make_room.ensures.looks
+
+pub returns-in_err-aside-clause-err : goal.returns-in_err-aside-clause-err
+returns-in_err-aside-clause-err g c = on_err c.from_residual.result _ refl
+
+pub begin_body-requires-clause-turns : goal.begin_body-requires-clause-turns
+begin_body-requires-clause-turns g c = omega (arith, c.make_room.ensures.same.0, c.requires.turns)
+
+pub begin_body-requires-clause-calls : goal.begin_body-requires-clause-calls
+begin_body-requires-clause-calls g c = omega (arith, c.make_room.ensures.same.1, c.requires.calls)
+
+pub begin_body-requires-clause-room : goal.begin_body-requires-clause-room
+begin_body-requires-clause-room g c = c.in_ok-top.ensures.ok.3
+
+pub returns-clause-room : goal.returns-clause-room
+returns-clause-room g c = omega (arith, c.begin_body.ensures.room, c.make_room.ensures.room)
+
+pub returns-clause-stays : goal.returns-clause-stays
+returns-clause-stays g c = c.make_room.ensures.stays
+
+pub returns-clause-looks : goal.returns-clause-looks
+returns-clause-looks g c = c.begin_body.ensures.looks ∙ c.make_room.ensures.looks
+
+pub returns-in_err-top-clause-same : goal.returns-in_err-top-clause-same
+returns-in_err-top-clause-same g c = on_err c.from_residual-in_err-top.result _ (c.make_room.ensures.same.3, c.make_room.ensures.same.4)
+
+pub returns-in_err-aside-clause-same : goal.returns-in_err-aside-clause-same
+returns-in_err-aside-clause-same g c = on_err c.from_residual.result _ (refl, refl)

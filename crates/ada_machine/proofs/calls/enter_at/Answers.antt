@@ -21,3 +21,33 @@ returns-clause-ok g c =
     let at : Entry = record { to = c.args.to; floor = c.len-floor.result; base = m.base + c.from.result; top = c.in_ok-top.top } in
     c.begin_body.ensures.state cells' ∙ ap (begins c.args.callee at) (c.make_room.ensures.state cells')
     ∙ begins_entered_at c.args.callee at c.args.cell c.args.to _ (state_of m cells) cells' refl (omega (arith, length-reverse m.stack.items, ap length c.make_room.ensures.same.3)) (ap (λ n. m.base + n) c.from.ensures) ok.0 (omega arith) ok.1
+
+pub returns-in_err-top-clause-room : goal.returns-in_err-top-clause-room
+returns-in_err-top-clause-room g c = c.make_room.ensures.room
+
+pub returns-in_err-top-clause-stays : goal.returns-in_err-top-clause-stays
+returns-in_err-top-clause-stays g c = c.make_room.ensures.stays
+
+pub returns-in_err-top-clause-looks : goal.returns-in_err-top-clause-looks
+returns-in_err-top-clause-looks g c = c.make_room.ensures.looks
+
+pub returns-in_err-aside-clause-err : goal.returns-in_err-aside-clause-err
+returns-in_err-aside-clause-err g c = on_err c.from_residual.result _ refl
+
+pub begin_body-requires-clause-turns : goal.begin_body-requires-clause-turns
+begin_body-requires-clause-turns g c = omega (arith, c.make_room.ensures.same.0, c.requires.turns)
+
+pub begin_body-requires-clause-calls : goal.begin_body-requires-clause-calls
+begin_body-requires-clause-calls g c = omega (arith, c.make_room.ensures.same.1, c.requires.calls)
+
+pub begin_body-requires-clause-room : goal.begin_body-requires-clause-room
+begin_body-requires-clause-room g c = c.in_ok-top.ensures.ok.3
+
+pub returns-clause-room : goal.returns-clause-room
+returns-clause-room g c = omega (arith, c.begin_body.ensures.room, c.make_room.ensures.room)
+
+pub returns-clause-stays : goal.returns-clause-stays
+returns-clause-stays g c = c.make_room.ensures.stays
+
+pub returns-clause-looks : goal.returns-clause-looks
+returns-clause-looks g c = c.begin_body.ensures.looks ∙ c.make_room.ensures.looks

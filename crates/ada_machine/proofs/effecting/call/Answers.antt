@@ -1,5 +1,6 @@
-use Rattle.std.proofs.Common.{◌<◌, arith, refl}
+use Rattle.std.proofs.Common.{◌<◌, arith, refl, ap, ◌∙◌}
 use Rattle.stack_code.specs.declared.instr.Instr.TheVariants as instr
+use Rattle.ada_machine.specs.States.{more}
 use Rattle.ada_machine.proofs.Doings as doings
 use Rattle.ada_machine.proofs.Doings.{fine_at, sub_there}
 use Rattle.ada_machine.proofs.Heeding.{unheard}
@@ -97,3 +98,18 @@ returns-in-Err-clause-halts g c = (c.asked.ensures.kept, c.asked.ensures.stays)
 
 pub returns-in-Err-clause-stays : goal.returns-in-Err-clause-stays
 returns-in-Err-clause-stays g c = c.enter.ensures.stays
+
+pub returns-then-asked-clause-looks : goal.returns-then-asked-clause-looks
+returns-then-asked-clause-looks g c = refl
+
+pub returns-then-m-limit-clause-looks : goal.returns-then-m-limit-clause-looks
+returns-then-m-limit-clause-looks g c = c.saturating_add-m.ensures
+
+pub returns-then-m-ge-MOST_CALLS-clause-looks : goal.returns-then-m-ge-MOST_CALLS-clause-looks
+returns-then-m-ge-MOST_CALLS-clause-looks g c = c.fail.ensures.looks ∙ c.saturating_add-m-then-m-ge-MOST_CALLS.ensures
+
+pub returns-in-Ok-clause-looks : goal.returns-in-Ok-clause-looks
+returns-in-Ok-clause-looks g c = c.saturating_add-m-in-Ok.ensures ∙ ap (λ n. more n 1) c.enter.ensures.looks
+
+pub returns-in-Err-clause-looks : goal.returns-in-Err-clause-looks
+returns-in-Err-clause-looks g c = c.enter.ensures.looks

@@ -1,8 +1,9 @@
-use Rattle.std.proofs.Common.{◌≡◌, ◌<◌, ℤ, List, ◌∷◌, reverse, true, sym, ap, ◌∙◌, subst, arith, SFits, w64, refl}
+use Rattle.std.proofs.Common.{◌≡◌, ◌<◌, ℤ, List, ◌∷◌, length, reverse, true, sym, ap, ◌∙◌, subst, arith, SFits, w64, refl}
 use Rattle.std.proofs.lemmas.Int.{to_z-of_z}
+use Rattle.std.proofs.lemmas.List.{length-reverse}
 use Rattle.std.proofs.lemmas.Option.{slice_get_within}
 use Rattle.stack_code.specs.declared.instr.Instr.TheVariants as instr
-use Rattle.ada_machine.specs.States.{state_of, IsTrueOnTop}
+use Rattle.ada_machine.specs.States.{state_of, more, IsTrueOnTop}
 use Rattle.stack_code.specs.Deeds.{truth}
 use Rattle.stack_code.specs.Machine.{State}
 use Rattle.ada_machine.proofs.Doings as doings
@@ -160,3 +161,26 @@ returns-in-Err-clause-halts g c = (c.asked.ensures.kept, c.asked.ensures.stays)
 
 pub returns-in-Err-clause-stays : goal.returns-in-Err-clause-stays
 returns-in-Err-clause-stays g c = c.enter_at.ensures.stays
+
+pub put-requires : goal.put-requires
+put-requires g c =
+    let under : reverse c.enter_at.new.m.stack.items ≡ reverse c.take-fit.new.stack.items = ap (λ (s : State). s.stack) c.in-Err.ensures.err in
+    omega (arith, ap length under, length-reverse c.enter_at.new.m.stack.items, length-reverse c.take-fit.new.stack.items, c.take-fit.ensures.len, c.take-fit.ensures.room, c.enter_at.ensures.room)
+
+pub returns-then-asked-clause-looks : goal.returns-then-asked-clause-looks
+returns-then-asked-clause-looks g c = refl
+
+pub returns-then-m-limit-clause-looks : goal.returns-then-m-limit-clause-looks
+returns-then-m-limit-clause-looks g c = c.saturating_add-m.ensures
+
+pub returns-then-m-ge-MOST_CALLS-clause-looks : goal.returns-then-m-ge-MOST_CALLS-clause-looks
+returns-then-m-ge-MOST_CALLS-clause-looks g c = c.raise_call.ensures.looks
+
+pub returns-then-not-truth-clause-looks : goal.returns-then-not-truth-clause-looks
+returns-then-not-truth-clause-looks g c = c.raise_call-then-not-truth.ensures.looks
+
+pub returns-in-Ok-clause-looks : goal.returns-in-Ok-clause-looks
+returns-in-Ok-clause-looks g c = c.saturating_add-m-in-Ok.ensures ∙ ap (λ n. more n 1) c.enter_at.ensures.looks
+
+pub returns-in-Err-clause-looks : goal.returns-in-Err-clause-looks
+returns-in-Err-clause-looks g c = c.enter_at.ensures.looks

@@ -1,10 +1,14 @@
-use Rattle.std.proofs.Common.{Some, None, refl, ap, ◌∙◌}
+use Rattle.std.proofs.Common.{◌≡◌, Some, None, refl, ap, ◌∙◌}
+use Rattle.stack_code.specs.declared.instr.Instr.{Instr}
 use Rattle.stack_code.specs.declared.instr.Instr.TheVariants as instr
 use Rattle.stack_code.specs.declared.path.Io.TheVariants as io
 use Rattle.stack_code.specs.declared.path.Leave.TheVariants as leave
 use Rattle.ada_machine.specs.declared.machine.Stop.TheVariants as stop
 use Rattle.ada_machine.specs.declared.machine.Went.TheVariants as went
 use Rattle.ada_machine.specs.States.{state_of}
+use Rattle.ada_machine.specs.Strides.{IsRare}
+use Rattle.ada_machine.proofs.Doings as doings
+use Rattle.ada_machine.proofs.Steps.{step_is, steps_stopped}
 use Rattle.ada_machine.proofs.Looking.{quiet_looks, same_looks, call_looks, return_looks, combine_looks}
 use Rattle.ada_machine.proofs.Heeding.{quiet_heeds}
 use Rattle.ada_machine.proofs.effecting.rare_effect.Goals as goal
@@ -476,3 +480,61 @@ returns-in-CallTo-clause-steps g c = c.call_to.ensures.steps
 
 pub returns-in-Combine-clause-steps : goal.returns-in-Combine-clause-steps
 returns-in-Combine-clause-steps g c = c.combine.ensures.steps
+
+pub returns-in-End-clause-steps : goal.returns-in-End-clause-steps
+returns-in-End-clause-steps g c =
+    let m = c.args.m.now in
+    let cells = g.C.Cells.cells c.args.view.now in
+    steps_stopped c.args.limit c.args.code.now m cells c.requires.ready c.requires.within m cells (stop.Done None) (step_is c.args.limit c.args.code.now (state_of m cells) (instr.End) c.requires.calm (c.requires.at ∙ ap Some c.in-End.is)) tt c.requires.within
+
+pub returns-in-Halt-clause-steps : goal.returns-in-Halt-clause-steps
+returns-in-Halt-clause-steps g c =
+    let m = c.args.m.now in
+    let cells = g.C.Cells.cells c.args.view.now in
+    steps_stopped c.args.limit c.args.code.now m cells c.requires.ready c.requires.within m cells (stop.Done None) (step_is c.args.limit c.args.code.now (state_of m cells) (instr.Halt) c.requires.calm (c.requires.at ∙ ap Some c.in-Halt.is)) tt c.requires.within
+
+pub returns-in-Exit-clause-steps : goal.returns-in-Exit-clause-steps
+returns-in-Exit-clause-steps g c =
+    let m = c.args.m.now in
+    let cells = g.C.Cells.cells c.args.view.now in
+    steps_stopped c.args.limit c.args.code.now m cells c.requires.ready c.requires.within m cells (stop.Left (leave.Exit c.in-Exit.number)) (step_is c.args.limit c.args.code.now (state_of m cells) (instr.Exit c.in-Exit.number) c.requires.calm (c.requires.at ∙ ap Some c.in-Exit.is)) tt c.requires.within
+
+pub returns-in-Leave-clause-steps : goal.returns-in-Leave-clause-steps
+returns-in-Leave-clause-steps g c =
+    let m = c.args.m.now in
+    let cells = g.C.Cells.cells c.args.view.now in
+    steps_stopped c.args.limit c.args.code.now m cells c.requires.ready c.requires.within m cells (stop.Left (leave.Return None)) (step_is c.args.limit c.args.code.now (state_of m cells) (instr.Leave) c.requires.calm (c.requires.at ∙ ap Some c.in-Leave.is)) tt c.requires.within
+
+pub returns-in-Get-clause-steps : goal.returns-in-Get-clause-steps
+returns-in-Get-clause-steps g c =
+    let m = c.args.m.now in
+    let cells = g.C.Cells.cells c.args.view.now in
+    steps_stopped c.args.limit c.args.code.now m cells c.requires.ready c.requires.within m cells (stop.Ask io.Take) (step_is c.args.limit c.args.code.now (state_of m cells) (instr.Get) c.requires.calm (c.requires.at ∙ ap Some c.in-Get.is)) (doings.awaits_get c.args.limit c.args.code.now m m cells cells c.requires.ready c.requires.within c.requires.calm (c.requires.at ∙ ap Some c.in-Get.is)) c.requires.within
+
+pub returns-in_default : goal.returns-in_default
+returns-in_default g c = absurd (none c.args.instr refl c.requires.more)
+  where
+    none : (i : Instr) → c.args.instr ≡ i → IsRare i → ⊥
+    none (instr.Call x) e h = c.in_default.not-Call x e
+    none (instr.CallTo x y z) e h = c.in_default.not-CallTo x y z e
+    none instr.Part e h = c.in_default.not-Part e
+    none (instr.Repeat x) e h = c.in_default.not-Repeat x e
+    none (instr.Again x) e h = c.in_default.not-Again x e
+    none (instr.Exit x) e h = c.in_default.not-Exit x e
+    none instr.Leave e h = c.in_default.not-Leave e
+    none instr.LeaveV e h = c.in_default.not-LeaveV e
+    none (instr.Fork x) e h = c.in_default.not-Fork x e
+    none instr.Nest e h = c.in_default.not-Nest e
+    none instr.Unnest e h = c.in_default.not-Unnest e
+    none (instr.Words x) e h = c.in_default.not-Words x e
+    none instr.Img e h = c.in_default.not-Img e
+    none instr.Bool e h = c.in_default.not-Bool e
+    none (instr.Wide x) e h = c.in_default.not-Wide x e
+    none instr.Send e h = c.in_default.not-Send e
+    none instr.SendLn e h = c.in_default.not-SendLn e
+    none instr.Get e h = c.in_default.not-Get e
+    none instr.End e h = c.in_default.not-End e
+    none instr.EndV e h = c.in_default.not-EndV e
+    none instr.Halt e h = c.in_default.not-Halt e
+    none (instr.Combine x) e h = c.in_default.not-Combine x e
+    none i e h = h

@@ -1,6 +1,9 @@
-use Rattle.std.proofs.Common.{refl, sym, ap, ◌∙◌, arith}
+use Rattle.std.proofs.Common.{Some, refl, sym, ap, ◌∙◌, arith}
 use Rattle.stack_code.specs.Looks.{raise_looks}
-use Rattle.ada_machine.specs.States.{more}
+use Rattle.stack_code.specs.Machine.{State, stepped, raised}
+use Rattle.ada_machine.specs.declared.machine.Stop.TheVariants as stop
+use Rattle.ada_machine.specs.States.{state_of, more}
+use Rattle.ada_machine.proofs.Steps.{steps_stopped}
 use Rattle.ada_machine.proofs.Walks.{raises_same, handled_on, handled_depth, handled_room, handled_nest, raising_floor, unwound_ready}
 use Rattle.leave_board.proofs.Heeding.{heeds_same}
 use Rattle.ada_machine.proofs.Heeding.{unheard}
@@ -48,3 +51,62 @@ returns-then-is_empty-clause-heeds g c = λ t. (t, refl)
 
 pub returns-else-is_empty-clause-heeds : goal.returns-else-is_empty-clause-heeds
 returns-else-is_empty-clause-heeds g c = heeds_same _ _ _ c.unwind_to.ensures.looks
+
+pub returns-then-asked-clause-steps : goal.returns-then-asked-clause-steps
+returns-then-asked-clause-steps g c =
+    let m = c.args.m.now in
+    let cells = g.C.Cells.cells c.args.view.now in
+    let s : State = record (state_of m cells) { left = Some 0 } in
+    steps_stopped c.args.limit c.args.code.now m cells c.requires.ready c.requires.within m cells stop.Paused
+    (refl, ap (λ o. stepped c.args.limit c.args.code.now o s) c.requires.raising ∙ ap (λ x. raised c.args.reason x s) (sym c.holder.ensures ∙ c.in-Some.is)) c.requires.ready c.requires.within
+
+pub handle-requires-clause-nested : goal.handle-requires-clause-nested
+handle-requires-clause-nested g c = c.requires.ready.stands.within
+
+pub unwind_to-requires-clause-within : goal.unwind_to-requires-clause-within
+unwind_to-requires-clause-within g c = c.requires.ready.stands.within
+
+pub unwind_to-requires-clause-tops : goal.unwind_to-requires-clause-tops
+unwind_to-requires-clause-tops g c = c.requires.tops
+
+pub unwind_to-requires-clause-whole : goal.unwind_to-requires-clause-whole
+unwind_to-requires-clause-whole g c = c.requires.whole
+
+pub returns-then-asked-clause-looks : goal.returns-then-asked-clause-looks
+returns-then-asked-clause-looks g c = refl
+
+pub returns-then-asked-clause-paused : goal.returns-then-asked-clause-paused
+returns-then-asked-clause-paused g c = λ e. c.asked.ensures.told c.if-asked.true
+
+pub returns-then-asked-clause-halts : goal.returns-then-asked-clause-halts
+returns-then-asked-clause-halts g c = (c.asked.ensures.kept, c.asked.ensures.stays)
+
+pub returns-then-asked-clause-stays : goal.returns-then-asked-clause-stays
+returns-then-asked-clause-stays g c = (refl, λ w. w, refl)
+
+pub returns-else-asked-clause-paused : goal.returns-else-asked-clause-paused
+returns-else-asked-clause-paused g c = λ e. cc
+
+pub returns-else-asked-clause-halts : goal.returns-else-asked-clause-halts
+returns-else-asked-clause-halts g c = (c.asked.ensures.kept, c.asked.ensures.stays)
+
+pub returns-else-asked-clause-stays : goal.returns-else-asked-clause-stays
+returns-else-asked-clause-stays g c = (refl, λ w. w, refl)
+
+pub returns-then-is_empty-clause-paused : goal.returns-then-is_empty-clause-paused
+returns-then-is_empty-clause-paused g c = λ e. cc
+
+pub returns-then-is_empty-clause-halts : goal.returns-then-is_empty-clause-halts
+returns-then-is_empty-clause-halts g c = (refl, λ t. t)
+
+pub returns-then-is_empty-clause-stays : goal.returns-then-is_empty-clause-stays
+returns-then-is_empty-clause-stays g c = (refl, λ w. w, refl)
+
+pub returns-else-is_empty-clause-paused : goal.returns-else-is_empty-clause-paused
+returns-else-is_empty-clause-paused g c = λ e. cc
+
+pub returns-else-is_empty-clause-halts : goal.returns-else-is_empty-clause-halts
+returns-else-is_empty-clause-halts g c = (refl, λ t. t)
+
+pub returns-else-is_empty-clause-stays : goal.returns-else-is_empty-clause-stays
+returns-else-is_empty-clause-stays g c = c.unwind_to.ensures.stays

@@ -14,7 +14,7 @@ use Rattle.ada_machine.proofs.Keeping.{stays_on, topped_one}
 use Rattle.ada_machine.proofs.Looking.{none_looks, same_looks, onward_none, raised_none, looked_none, looked_step}
 use Rattle.ada_machine.proofs.Readies.{fine_here}
 use Rattle.ada_machine.proofs.Steps.{clear_here, step_plays, step_raises, steps_stopped}
-use Rattle.ada_machine.proofs.Unmoved.{Came, came_still, beyond_still, raises_there, stops_there, looks_raised, looks_stopped, handed_on}
+use Rattle.ada_machine.proofs.Unmoved.{Came, came_kept, beyond_still, raises_there, stops_there, looks_raised, looks_stopped, handed_on}
 use Rattle.ada_machine.proofs.Walks.{goes_same, raises_same, turn_on, turn_looks, turn_spent, machine_here}
 use Rattle.ada_machine.proofs.Heeding.{unheard, heeds_later}
 use Rattle.leave_board.specs.Halts.{Heeds}
@@ -43,8 +43,7 @@ returns-then-asked g c =
     let m = record was { stack = c.compute.new.stack } in
     let at = ap (λ l. slice_get l c.loop-to.pc) (sym c.as_slice-instrs.ensures) ∙ c.instr_at-instr.ensures.instr ∙ ap Some c.in-Turn.is in
     let d = c.in-Other.ensures.deed in
-    let same : state_of m cells' ≡ state_of was cells = ap (λ st. record (state_of was cells') { stack = reverse st }) d.1 ∙ ap (λ w. state_of was w) d.2 in
-    let b : Came c.args.limit c.args.code.now c.args.m.now (g.C.Cells.cells c.args.view.now) (g.C.Cells.floor c.compute.new.view) instr.Turn m cells' = came_still c.args.limit c.args.code.now was m cells cells' same _ _ _ _ _ c.compute.ensures.room c.compute.ensures.stays.0 refl
+    let b : Came c.args.limit c.args.code.now c.args.m.now (g.C.Cells.cells c.args.view.now) (g.C.Cells.floor c.compute.new.view) instr.Turn m cells' = came_kept c.args.limit c.args.code.now was m m cells cells' refl refl d.1 d.2 _ _ _ _ _ c.compute.ensures.room c.compute.ensures.stays.0
     (record { came = i.came; ready = i.ready; calm = i.calm; clear = i.clear; within = i.within; at = at; tops = i.tops; looks = i.looks; falls = i.falls }) in
     let last = c.keep-then-asked.new.m in
     let e : last ≡ m = kept_at (record c.loop-to.m { stack = c.compute.new.stack }) last c.loop-to.pc c.loop-to.turns c.loop-to.looks c.loop-to.base c.keep-then-asked.ensures i.base in
@@ -68,8 +67,7 @@ returns-then-turns-limit g c =
     let m = record was { stack = c.compute.new.stack } in
     let at = ap (λ l. slice_get l c.loop-to.pc) (sym c.as_slice-instrs.ensures) ∙ c.instr_at-instr.ensures.instr ∙ ap Some c.in-Turn.is in
     let d = c.in-Other.ensures.deed in
-    let same : state_of m cells' ≡ state_of was cells = ap (λ st. record (state_of was cells') { stack = reverse st }) d.1 ∙ ap (λ w. state_of was w) d.2 in
-    let b : Came c.args.limit c.args.code.now c.args.m.now (g.C.Cells.cells c.args.view.now) (g.C.Cells.floor c.compute.new.view) instr.Turn m cells' = came_still c.args.limit c.args.code.now was m cells cells' same _ _ _ _ _ c.compute.ensures.room c.compute.ensures.stays.0 refl
+    let b : Came c.args.limit c.args.code.now c.args.m.now (g.C.Cells.cells c.args.view.now) (g.C.Cells.floor c.compute.new.view) instr.Turn m cells' = came_kept c.args.limit c.args.code.now was m m cells cells' refl refl d.1 d.2 _ _ _ _ _ c.compute.ensures.room c.compute.ensures.stays.0
     (record { came = i.came; ready = i.ready; calm = i.calm; clear = i.clear; within = i.within; at = at; tops = i.tops; looks = i.looks; falls = i.falls }) in
     let last = c.keep-then-turns-limit.new.m in
     let e : last ≡ record m { looks = c.saturating_add-looks.result } = kept_at (record c.loop-to.m { stack = c.compute.new.stack }) last c.loop-to.pc c.loop-to.turns c.saturating_add-looks.result c.loop-to.base c.keep-then-turns-limit.ensures i.base in
@@ -93,8 +91,7 @@ loop-to-preserved-in-Turn g c =
     let m = record was { stack = c.compute.new.stack } in
     let at = ap (λ l. slice_get l c.loop-to.pc) (sym c.as_slice-instrs.ensures) ∙ c.instr_at-instr.ensures.instr ∙ ap Some c.in-Turn.is in
     let d = c.in-Other.ensures.deed in
-    let same : state_of m cells' ≡ state_of was cells = ap (λ st. record (state_of was cells') { stack = reverse st }) d.1 ∙ ap (λ w. state_of was w) d.2 in
-    let b : Came c.args.limit c.args.code.now c.args.m.now (g.C.Cells.cells c.args.view.now) (g.C.Cells.floor c.compute.new.view) instr.Turn m cells' = came_still c.args.limit c.args.code.now was m cells cells' same _ _ _ _ _ c.compute.ensures.room c.compute.ensures.stays.0 refl
+    let b : Came c.args.limit c.args.code.now c.args.m.now (g.C.Cells.cells c.args.view.now) (g.C.Cells.floor c.compute.new.view) instr.Turn m cells' = came_kept c.args.limit c.args.code.now was m m cells cells' refl refl d.1 d.2 _ _ _ _ _ c.compute.ensures.room c.compute.ensures.stays.0
     (record { came = i.came; ready = i.ready; calm = i.calm; clear = i.clear; within = i.within; at = at; tops = i.tops; looks = i.looks; falls = i.falls }) in
     let m' = record m { pc = c.loop-to.pc + 1; turns = c.loop-to.turns + 1; looks = c.saturating_add-looks.result } in
     let l : m.turns < c.args.limit = omega (arith, i.within) in
@@ -125,7 +122,7 @@ loop-to-smaller-in-Turn g c =
     let at = ap (λ l. slice_get l c.loop-to.pc) (sym c.as_slice-instrs.ensures) ∙ c.instr_at-instr.ensures.instr ∙ ap Some c.in-Turn.is in
     let d = c.in-Other.ensures.deed in
     let same : state_of m cells' ≡ state_of was cells = ap (λ st. record (state_of was cells') { stack = reverse st }) d.1 ∙ ap (λ w. state_of was w) d.2 in
-    let b : Came c.args.limit c.args.code.now c.args.m.now (g.C.Cells.cells c.args.view.now) (g.C.Cells.floor c.compute.new.view) instr.Turn m cells' = came_still c.args.limit c.args.code.now was m cells cells' same _ _ _ _ _ c.compute.ensures.room c.compute.ensures.stays.0 refl
+    let b : Came c.args.limit c.args.code.now c.args.m.now (g.C.Cells.cells c.args.view.now) (g.C.Cells.floor c.compute.new.view) instr.Turn m cells' = came_kept c.args.limit c.args.code.now was m m cells cells' refl refl d.1 d.2 _ _ _ _ _ c.compute.ensures.room c.compute.ensures.stays.0
     (record { came = i.came; ready = i.ready; calm = i.calm; clear = i.clear; within = i.within; at = at; tops = i.tops; looks = i.looks; falls = i.falls }) in
     let m' = record m { pc = c.loop-to.pc + 1; turns = c.loop-to.turns + 1; looks = c.saturating_add-looks.result } in
     let l : m.turns < c.args.limit = omega (arith, i.within) in
@@ -251,8 +248,7 @@ effect-requires g c =
     let e : last ≡ record m { stack = c.compute.new.stack } = kept_at (record c.loop-to.m { stack = c.compute.new.stack }) last c.loop-to.pc c.loop-to.turns c.loop-to.looks c.loop-to.base c.keep-in_default.ensures i.base in
     let looks : last.looks ≡ m.looks = ap (λ (q : Machine). q.looks) e in
     let d = c.in-Other.ensures.deed in
-    let same : state_of last cells' ≡ state_of m cells = ap (λ (q : Machine). state_of q cells') e ∙ ap (λ st. record (state_of m cells') { stack = reverse st }) d.1 ∙ ap (λ w. state_of m w) d.2 in
-    let b : Came c.args.limit c.args.code.now c.args.m.now (g.C.Cells.cells c.args.view.now) (g.C.Cells.floor c.compute.new.view) c.instr_at-instr.result.now last cells' = came_still c.args.limit c.args.code.now m last cells cells' same _ _ _ _ _ (ap (λ (q : Machine). vec_capacity q.stack) e ∙ c.compute.ensures.room) c.compute.ensures.stays.0 looks a in
+    let b : Came c.args.limit c.args.code.now c.args.m.now (g.C.Cells.cells c.args.view.now) (g.C.Cells.floor c.compute.new.view) c.instr_at-instr.result.now last cells' = came_kept c.args.limit c.args.code.now m (record m { stack = c.compute.new.stack }) last cells cells' e refl d.1 d.2 _ _ _ _ _ c.compute.ensures.room c.compute.ensures.stays.0 a in
     record {
       ready = b.ready;
       calm = b.calm;
@@ -276,8 +272,7 @@ loop-to-preserved g c =
     let e : last ≡ record m { stack = c.compute.new.stack } = kept_at (record c.loop-to.m { stack = c.compute.new.stack }) last c.loop-to.pc c.loop-to.turns c.loop-to.looks c.loop-to.base c.keep-in_default.ensures i.base in
     let looks : last.looks ≡ m.looks = ap (λ (q : Machine). q.looks) e in
     let d = c.in-Other.ensures.deed in
-    let same : state_of last cells' ≡ state_of m cells = ap (λ (q : Machine). state_of q cells') e ∙ ap (λ st. record (state_of m cells') { stack = reverse st }) d.1 ∙ ap (λ w. state_of m w) d.2 in
-    let b : Came c.args.limit c.args.code.now c.args.m.now (g.C.Cells.cells c.args.view.now) (g.C.Cells.floor c.compute.new.view) c.instr_at-instr.result.now last cells' = came_still c.args.limit c.args.code.now m last cells cells' same _ _ _ _ _ (ap (λ (q : Machine). vec_capacity q.stack) e ∙ c.compute.ensures.room) c.compute.ensures.stays.0 looks a in
+    let b : Came c.args.limit c.args.code.now c.args.m.now (g.C.Cells.cells c.args.view.now) (g.C.Cells.floor c.compute.new.view) c.instr_at-instr.result.now last cells' = came_kept c.args.limit c.args.code.now m (record m { stack = c.compute.new.stack }) last cells cells' e refl d.1 d.2 _ _ _ _ _ c.compute.ensures.room c.compute.ensures.stays.0 a in
     let s = c.in-On.ensures.steps in
     let one = comes_one c.args.limit c.args.code.now _ _ s.goes.0 in
     record {
@@ -297,18 +292,13 @@ loop-to-preserved g c =
 
 pub loop-to-smaller : goal.loop-to-smaller
 loop-to-smaller g c =
-    let i = c.loop-to.invariant in
     let cells = g.C.Cells.cells c.loop-to.view in
     let m = record c.loop-to.m { pc = c.loop-to.pc; turns = c.loop-to.turns; looks = c.loop-to.looks; base = c.loop-to.base } in
     let cells' = g.C.Cells.cells c.compute.new.view in
-    let at = ap (λ l. slice_get l c.loop-to.pc) (sym c.as_slice-instrs.ensures) ∙ c.instr_at-instr.ensures.instr in
-    let a : Came c.args.limit c.args.code.now c.args.m.now (g.C.Cells.cells c.args.view.now) (g.C.Cells.floor c.loop-to.view) c.instr_at-instr.result.now m cells = record { came = i.came; ready = i.ready; calm = i.calm; clear = i.clear; within = i.within; at = at; tops = i.tops; looks = i.looks; falls = i.falls } in
     let last = c.keep-in_default.new.m in
-    let e : last ≡ record m { stack = c.compute.new.stack } = kept_at (record c.loop-to.m { stack = c.compute.new.stack }) last c.loop-to.pc c.loop-to.turns c.loop-to.looks c.loop-to.base c.keep-in_default.ensures i.base in
-    let looks : last.looks ≡ m.looks = ap (λ (q : Machine). q.looks) e in
+    let e : last ≡ record m { stack = c.compute.new.stack } = kept_at (record c.loop-to.m { stack = c.compute.new.stack }) last c.loop-to.pc c.loop-to.turns c.loop-to.looks c.loop-to.base c.keep-in_default.ensures c.loop-to.invariant.base in
     let d = c.in-Other.ensures.deed in
     let same : state_of last cells' ≡ state_of m cells = ap (λ (q : Machine). state_of q cells') e ∙ ap (λ st. record (state_of m cells') { stack = reverse st }) d.1 ∙ ap (λ w. state_of m w) d.2 in
-    let b : Came c.args.limit c.args.code.now c.args.m.now (g.C.Cells.cells c.args.view.now) (g.C.Cells.floor c.compute.new.view) c.instr_at-instr.result.now last cells' = came_still c.args.limit c.args.code.now m last cells cells' same _ _ _ _ _ (ap (λ (q : Machine). vec_capacity q.stack) e ∙ c.compute.ensures.room) c.compute.ensures.stays.0 looks a in
     subst (λ s. rank c.args.code.now c.args.limit (state_of c.effect.new.m (g.C.Cells.cells c.effect.new.view)) < rank c.args.code.now c.args.limit s) same c.in-On.ensures.steps.falls
 
 pub returns-in-Raising : goal.returns-in-Raising
@@ -323,8 +313,7 @@ returns-in-Raising g c =
     let e : last ≡ record m { stack = c.compute.new.stack } = kept_at (record c.loop-to.m { stack = c.compute.new.stack }) last c.loop-to.pc c.loop-to.turns c.loop-to.looks c.loop-to.base c.keep-in_default.ensures i.base in
     let looks : last.looks ≡ m.looks = ap (λ (q : Machine). q.looks) e in
     let d = c.in-Other.ensures.deed in
-    let same : state_of last cells' ≡ state_of m cells = ap (λ (q : Machine). state_of q cells') e ∙ ap (λ st. record (state_of m cells') { stack = reverse st }) d.1 ∙ ap (λ w. state_of m w) d.2 in
-    let b : Came c.args.limit c.args.code.now c.args.m.now (g.C.Cells.cells c.args.view.now) (g.C.Cells.floor c.compute.new.view) c.instr_at-instr.result.now last cells' = came_still c.args.limit c.args.code.now m last cells cells' same _ _ _ _ _ (ap (λ (q : Machine). vec_capacity q.stack) e ∙ c.compute.ensures.room) c.compute.ensures.stays.0 looks a in
+    let b : Came c.args.limit c.args.code.now c.args.m.now (g.C.Cells.cells c.args.view.now) (g.C.Cells.floor c.compute.new.view) c.instr_at-instr.result.now last cells' = came_kept c.args.limit c.args.code.now m (record m { stack = c.compute.new.stack }) last cells cells' e refl d.1 d.2 _ _ _ _ _ c.compute.ensures.room c.compute.ensures.stays.0 a in
     let s = c.in-Raising.ensures.steps in
     record {
       strides = raises_there c.args.limit c.args.code.now _ _ _ _ last cells' b c.effect.new.m (g.C.Cells.cells c.effect.new.view) s;
@@ -347,8 +336,7 @@ returns-in-Stopped g c =
     let e : last ≡ record m { stack = c.compute.new.stack } = kept_at (record c.loop-to.m { stack = c.compute.new.stack }) last c.loop-to.pc c.loop-to.turns c.loop-to.looks c.loop-to.base c.keep-in_default.ensures i.base in
     let looks : last.looks ≡ m.looks = ap (λ (q : Machine). q.looks) e in
     let d = c.in-Other.ensures.deed in
-    let same : state_of last cells' ≡ state_of m cells = ap (λ (q : Machine). state_of q cells') e ∙ ap (λ st. record (state_of m cells') { stack = reverse st }) d.1 ∙ ap (λ w. state_of m w) d.2 in
-    let b : Came c.args.limit c.args.code.now c.args.m.now (g.C.Cells.cells c.args.view.now) (g.C.Cells.floor c.compute.new.view) c.instr_at-instr.result.now last cells' = came_still c.args.limit c.args.code.now m last cells cells' same _ _ _ _ _ (ap (λ (q : Machine). vec_capacity q.stack) e ∙ c.compute.ensures.room) c.compute.ensures.stays.0 looks a in
+    let b : Came c.args.limit c.args.code.now c.args.m.now (g.C.Cells.cells c.args.view.now) (g.C.Cells.floor c.compute.new.view) c.instr_at-instr.result.now last cells' = came_kept c.args.limit c.args.code.now m (record m { stack = c.compute.new.stack }) last cells cells' e refl d.1 d.2 _ _ _ _ _ c.compute.ensures.room c.compute.ensures.stays.0 a in
     let s = c.in-Stopped.ensures.steps in
     record {
       strides = stops_there c.args.limit c.args.code.now _ _ _ _ last cells' b c.effect.new.m (g.C.Cells.cells c.effect.new.view) c.in-Stopped.stop s;
