@@ -111,35 +111,7 @@ pub(crate) fn takes_of(code: &Code, instr: Instr) -> u32
         | Instr::Xor => 2,
         Instr::Fork(_) => 5,
         Instr::Call(sub) => taken_by(code, sub),
-        Instr::Push(_)
-        | Instr::Local(_)
-        | Instr::Outer(_, _)
-        | Instr::Global(_)
-        | Instr::CallAt(_, _)
-        | Instr::Part
-        | Instr::Repeat(_)
-        | Instr::Again(_)
-        | Instr::Jump(_)
-        | Instr::Turn
-        | Instr::Ret
-        | Instr::Raise(_)
-        | Instr::Exit(_)
-        | Instr::Leave
-        | Instr::Nest
-        | Instr::Unnest
-        | Instr::Words(_)
-        | Instr::Send
-        | Instr::SendLn
-        | Instr::Get
-        | Instr::End
-        | Instr::Halt
-        | Instr::LoadL(_)
-        | Instr::LoadO(_, _)
-        | Instr::LoadG(_)
-        | Instr::IndexG(_, _, _, _, _)
-        | Instr::ItemG(_, _, _, _, _)
-        | Instr::Next(_, _, _)
-        | Instr::Prior(_, _, _) => 0,
+        _ => 0,
     }
 }
 
@@ -197,46 +169,7 @@ pub(crate) fn pushes_of(code: &Code, instr: Instr) -> u32
         Instr::Dup | Instr::Swap | Instr::Part => 2,
         Instr::Call(sub) | Instr::CallAt(sub, _) | Instr::CallTo(sub, _, _) => given_by(code, sub),
         Instr::Fork(site) => answered_by(code, site),
-        Instr::Pop
-        | Instr::Store
-        | Instr::Copy(_)
-        | Instr::Fill(_, _)
-        | Instr::Jump(_)
-        | Instr::JFalse(_)
-        | Instr::JTrue(_)
-        | Instr::Turn
-        | Instr::Ret
-        | Instr::RetV
-        | Instr::Raise(_)
-        | Instr::Reraise
-        | Instr::Exit(_)
-        | Instr::Leave
-        | Instr::LeaveV
-        | Instr::Nest
-        | Instr::Unnest
-        | Instr::Words(_)
-        | Instr::Img
-        | Instr::Bool
-        | Instr::Wide(_)
-        | Instr::Send
-        | Instr::SendLn
-        | Instr::End
-        | Instr::EndV
-        | Instr::Halt
-        | Instr::Repeat(_)
-        | Instr::Again(_)
-        | Instr::StoreL(_)
-        | Instr::StoreO(_, _)
-        | Instr::StoreG(_)
-        | Instr::SetL(_, _, _)
-        | Instr::JfEq(_)
-        | Instr::JfNe(_)
-        | Instr::JfLt(_)
-        | Instr::JfLe(_)
-        | Instr::JfGt(_)
-        | Instr::JfGe(_)
-        | Instr::Next(_, _, _)
-        | Instr::Prior(_, _, _) => 0,
+        _ => 0,
     }
 }
 

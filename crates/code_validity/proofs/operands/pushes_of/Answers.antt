@@ -1,0 +1,63 @@
+use Rattle.std.proofs.Common.{◌≡◌, refl}
+use Rattle.stack_code.specs.Operands.{pushes}
+use Rattle.stack_code.specs.declared.instr.Instr.{Instr}
+use Rattle.stack_code.specs.declared.instr.Instr.TheVariants.{Push, Local, Outer, Global, Index, Field, Load, Add, Sub, Mul, Div, Mod, Rem, Pow, Neg, Abs, Max, Min, Eq, Ne, Lt, Le, Gt, Ge, And, Or, Xor, Not, Range, Get, Combine, LoadL, LoadO, LoadG, AddI, SubI, MulI, ModI, IndexL, Item, ItemL, IndexG, ItemG, Flip, Differ, Dup, Swap, Part, Call, CallAt, CallTo, Fork}
+use Rattle.code_validity.proofs.operands.pushes_of.Goals as goal
+
+pub returns-in_default-clause-same : goal.returns-in_default-clause-same
+returns-in_default-clause-same c = rest c.args.instr refl
+  where
+    rest : (i : Instr) → c.args.instr ≡ i → 0 ≡ pushes c.args.code.now i
+    rest (Push x) e = absurd (c.in_default.not-Push x e)
+    rest (Local x) e = absurd (c.in_default.not-Local x e)
+    rest (Outer x y) e = absurd (c.in_default.not-Outer x y e)
+    rest (Global x) e = absurd (c.in_default.not-Global x e)
+    rest (Index x y z) e = absurd (c.in_default.not-Index x y z e)
+    rest (Field x) e = absurd (c.in_default.not-Field x e)
+    rest Load e = absurd (c.in_default.not-Load e)
+    rest (Add x) e = absurd (c.in_default.not-Add x e)
+    rest (Sub x) e = absurd (c.in_default.not-Sub x e)
+    rest (Mul x) e = absurd (c.in_default.not-Mul x e)
+    rest (Div x) e = absurd (c.in_default.not-Div x e)
+    rest (Mod x) e = absurd (c.in_default.not-Mod x e)
+    rest (Rem x) e = absurd (c.in_default.not-Rem x e)
+    rest (Pow x) e = absurd (c.in_default.not-Pow x e)
+    rest (Neg x) e = absurd (c.in_default.not-Neg x e)
+    rest (Abs x) e = absurd (c.in_default.not-Abs x e)
+    rest Max e = absurd (c.in_default.not-Max e)
+    rest Min e = absurd (c.in_default.not-Min e)
+    rest Eq e = absurd (c.in_default.not-Eq e)
+    rest Ne e = absurd (c.in_default.not-Ne e)
+    rest Lt e = absurd (c.in_default.not-Lt e)
+    rest Le e = absurd (c.in_default.not-Le e)
+    rest Gt e = absurd (c.in_default.not-Gt e)
+    rest Ge e = absurd (c.in_default.not-Ge e)
+    rest And e = absurd (c.in_default.not-And e)
+    rest Or e = absurd (c.in_default.not-Or e)
+    rest Xor e = absurd (c.in_default.not-Xor e)
+    rest Not e = absurd (c.in_default.not-Not e)
+    rest (Range x y) e = absurd (c.in_default.not-Range x y e)
+    rest Get e = absurd (c.in_default.not-Get e)
+    rest (Combine x) e = absurd (c.in_default.not-Combine x e)
+    rest (LoadL x) e = absurd (c.in_default.not-LoadL x e)
+    rest (LoadO x y) e = absurd (c.in_default.not-LoadO x y e)
+    rest (LoadG x) e = absurd (c.in_default.not-LoadG x e)
+    rest (AddI x y) e = absurd (c.in_default.not-AddI x y e)
+    rest (SubI x y) e = absurd (c.in_default.not-SubI x y e)
+    rest (MulI x y) e = absurd (c.in_default.not-MulI x y e)
+    rest (ModI x y) e = absurd (c.in_default.not-ModI x y e)
+    rest (IndexL x y z u) e = absurd (c.in_default.not-IndexL x y z u e)
+    rest (Item x y z) e = absurd (c.in_default.not-Item x y z e)
+    rest (ItemL x y z u) e = absurd (c.in_default.not-ItemL x y z u e)
+    rest (IndexG x y z u w) e = absurd (c.in_default.not-IndexG x y z u w e)
+    rest (ItemG x y z u w) e = absurd (c.in_default.not-ItemG x y z u w e)
+    rest Flip e = absurd (c.in_default.not-Flip e)
+    rest Differ e = absurd (c.in_default.not-Differ e)
+    rest Dup e = absurd (c.in_default.not-Dup e)
+    rest Swap e = absurd (c.in_default.not-Swap e)
+    rest Part e = absurd (c.in_default.not-Part e)
+    rest (Call x) e = absurd (c.in_default.not-Call x e)
+    rest (CallAt x y) e = absurd (c.in_default.not-CallAt x y e)
+    rest (CallTo x y z) e = absurd (c.in_default.not-CallTo x y z e)
+    rest (Fork x) e = absurd (c.in_default.not-Fork x e)
+    rest i e = refl
