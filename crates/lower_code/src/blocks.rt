@@ -68,7 +68,7 @@ fn declare(env: &Env<'_>, constant: bool, object: u32, initial: u32, rest: Rest,
 {
     let cells = width(env, initial, out);
     let free = out.sum(env.free, cells);
-    put_into(&Env { free, ..*env }, 0, env.free, initial, out);
+    put_into(&env.with_free(free), 0, env.free, initial, out);
     let names = Names::Object {
         outer: &env.names,
         constant,
@@ -79,17 +79,12 @@ fn declare(env: &Env<'_>, constant: bool, object: u32, initial: u32, rest: Rest,
             cells,
         },
     };
-    block(
-        &Env {
-            names,
-            free,
-            ..*env
-        },
-        rest.decls,
-        rest.stmts,
-        rest.handlers,
-        out,
-    );
+    let inner = Env {
+        names,
+        free,
+        ..*env
+    };
+    block(&inner, rest.decls, rest.stmts, rest.handlers, out);
 }
 
 #[cycle(stmt)]
@@ -110,17 +105,12 @@ fn declare_default(env: &Env<'_>, object: u32, rest: Rest, out: &mut Emitter)
             cells,
         },
     };
-    block(
-        &Env {
-            names,
-            free,
-            ..*env
-        },
-        rest.decls,
-        rest.stmts,
-        rest.handlers,
-        out,
-    );
+    let inner = Env {
+        names,
+        free,
+        ..*env
+    };
+    block(&inner, rest.decls, rest.stmts, rest.handlers, out);
 }
 
 fn no_handler(env: &Env<'_>, id: u32) -> bool

@@ -22,7 +22,7 @@ use crate::defaults::defaulted;
 use ada_base::{Items, Reason};
 use lower_emission::types::{Leaving, Level, Named, Need, Where};
 use lower_tables::bodies::Start;
-use lower_values::aggregates::own;
+use lower_values::aggregates::held;
 use lower_values::cells::{cells_from, object_cells, width};
 use lower_values::exprs::put_into;
 use lower_values::types::{Emitter, Env, Names};
@@ -84,17 +84,9 @@ fn with_formals(env: &Env<'_>, id: u32, cell: u32, sub: Sub, out: &mut Emitter)
                 let cells = object_cells(env, formal.object, out);
                 let first = out.sum(cell, lead(formal.mode));
                 let next = out.sum(first, cells);
-                let names = Names::Object {
-                    outer: &env.names,
-                    constant: is_in(formal.mode),
-                    object: formal.object,
-                    named: Named {
-                        through: false,
-                        place: own(first),
-                        cells,
-                    },
-                };
-                with_formals(&Env { names, ..*env }, found.rest, next, sub, out);
+                let held = held(first, cells);
+                let inner = env.with_object(is_in(formal.mode), formal.object, held, env.free);
+                with_formals(&inner, found.rest, next, sub, out);
             }
             _ => with_formals(env, found.rest, cell, sub, out),
         },
@@ -229,7 +221,7 @@ fn declare(
 {
     let cells = width(env, initial, out);
     let free = out.sum(env.free, cells);
-    put_into(&Env { free, ..*env }, 0, env.free, initial, out);
+    put_into(&env.with_free(free), 0, env.free, initial, out);
     let names = Names::Object {
         outer: &env.names,
         constant: declared.constant,

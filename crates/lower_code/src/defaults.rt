@@ -25,7 +25,7 @@ pub fn defaulted(env: &Env<'_>, t: u32, object: u32, out: &mut Emitter)
         let cells = object_cells(env, object, out);
         let free = out.sum(env.free, cells);
         within(
-            &Env { free, ..*env },
+            &env.with_free(free),
             env.typed.subtypes.len(),
             t,
             found.subtype,

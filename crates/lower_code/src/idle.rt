@@ -9,25 +9,16 @@ ghost use Rattle.lower_tables.specs.Bodies.{fork_flags};
 ghost use Rattle.lower_values.specs.Words.{env_of, tables, Emits};
 
 use ada_base::Reason;
-use lower_emission::types::Leaving;
 use lower_tables::forks::forks_of;
-use lower_values::types::{Emitter, Env, Names};
-use stack_code::{Around, Instr, SiteKind};
+use lower_values::types::{Emitter, Env};
+use stack_code::{Instr, SiteKind};
 use std::alloc::Global;
 
 /// The threads of a construct that nothing begins: they raise.
 fn idle_threads(env: &Env<'_>, site: u32, out: &mut Emitter)
     ensures { Emits (programs.idle_threads (env_of env.now) site) out.old out.new }
 {
-    let thread = Env {
-        names: Names::Thread { outer: &env.names },
-        free: 0,
-        entry: None,
-        leaving: Leaving::ByLeave,
-        body: Around::Site(site),
-        nest: 0,
-        ..*env
-    };
+    let thread = env.in_threads(site, 0);
     out.put(&thread, 0, Instr::Raise(Reason::ProgramError));
 }
 
@@ -36,7 +27,7 @@ fn idle_fork(env: &Env<'_>, site: u32, out: &mut Emitter)
     ensures { Emits (programs.idle_fork (env_of env.now) site) out.old out.new }
 {
     let nest = out.sum(env.nest, 1);
-    let inside = Env { nest, ..*env };
+    let inside = env.with_nest(nest);
     out.fork(&inside, 5, SiteKind::Loop, site);
     let over = out.gap(&inside, 2);
     idle_threads(env, site, out);

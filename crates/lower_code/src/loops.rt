@@ -9,14 +9,13 @@ ghost use Rattle.lower_values.specs.Words.{env_of, nodes, tables, Emits};
 ghost use Rattle.stack_code.specs.declared.instr.Instr.TheVariants as i;
 
 use crate::stmts::all;
-use lower_emission::types::Named;
-use lower_values::aggregates::{Steps, own, stepping};
+use lower_values::aggregates::{Steps, own, reached, stepping};
 use lower_values::exprs::emit;
 use lower_values::iterations::{
     Array, Counted, array_address, ascending, bounds, bounds_code, counting, first_parameter,
     positions,
 };
-use lower_values::types::{Emitter, Env, Names};
+use lower_values::types::{Emitter, Env};
 use stack_code::Instr;
 use typed_tree::Iteration;
 
@@ -128,25 +127,8 @@ fn range_turns(
     out.put(env, 0, Instr::Turn);
     let cell = first_parameter(counted, out);
     let free = out.sum(env.free, 2);
-    let inside = Names::Parameter {
-        outer: &env.names,
-        number: parameter,
-        place: own(cell),
-    };
-    let names = Names::Exit {
-        outer: &inside,
-        number,
-        to: leave,
-    };
-    turn(
-        &Env {
-            names,
-            free,
-            ..*env
-        },
-        turns,
-        out,
-    );
+    let inside = env.with_parameter(parameter, own(cell), free);
+    turn(&inside.with_exit(number, leave), turns, out);
     out.aim_at(env, 0, enter, head);
     counting(env, 0, counted, head, out);
     out.aim(env, 0, leave);
@@ -171,30 +153,9 @@ fn item_turns(env: &Env<'_>, number: u32, through: Through, turns: Turns, out: &
     let leave = out.gap(env, 0);
     let head = out.here();
     out.put(env, 0, Instr::Turn);
-    let inside = Names::Item {
-        outer: &env.names,
-        constant: through.constant,
-        number: through.item,
-        named: Named {
-            through: true,
-            place: own(env.free),
-            cells: through.stride,
-        },
-    };
-    let names = Names::Exit {
-        outer: &inside,
-        number,
-        to: leave,
-    };
-    turn(
-        &Env {
-            names,
-            free,
-            ..*env
-        },
-        turns,
-        out,
-    );
+    let reached = reached(env.free, through.stride);
+    let inside = env.with_item(through.constant, through.item, reached, free);
+    turn(&inside.with_exit(number, leave), turns, out);
     out.aim_at(env, 0, enter, head);
     let steps = Steps {
         address: env.free,

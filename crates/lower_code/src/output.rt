@@ -44,7 +44,7 @@ fn value_and_rest(env: &Env<'_>, value: u32, rest: u32, out: &mut Emitter)
 {
     keep_value(env, value, out);
     let free = out.sum(env.free, 1);
-    values(&Env { free, ..*env }, rest, out);
+    values(&env.with_free(free), rest, out);
 }
 
 /// The value of a piece goes to the first free cell.

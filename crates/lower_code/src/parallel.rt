@@ -16,15 +16,14 @@ ghost use Rattle.stack_code.specs.declared.instr.Instr.TheVariants as i;
 use crate::exits::{Left, left_returns, of_arms, of_stmts};
 use crate::loops::{Through, Turns, turn};
 use crate::stmts::all;
-use lower_emission::types::{Leaving, Named};
-use lower_values::aggregates::{Components, Steps, own, stepping};
+use lower_values::aggregates::{Components, Steps, own, reached, stepping};
 use lower_values::iterations::{
     Counted, all_threads, ascending, chunk_code, chunk_env, counting, course_code, ends_code,
     first_item, thread_numbers,
 };
 use lower_values::kinds::loop_kind;
-use lower_values::types::{Emitter, Env, Names};
-use stack_code::{Around, Instr, SiteKind};
+use lower_values::types::{Emitter, Env};
+use stack_code::{Instr, SiteKind};
 use typed_tree::Iteration;
 
 /// A parallel loop.
@@ -45,7 +44,7 @@ pub fn parallel_for(env: &Env<'_>, number: u32, forked: Forked, stmts: u32, out:
     forked_loop(env, forked, stmts, out);
     let free2 = out.sum(env.free, 2);
     let free = out.sum(free2, 2);
-    ways_of_loop(&Env { free, ..*env }, number, stmts, out);
+    ways_of_loop(&env.with_free(free), number, stmts, out);
 }
 
 /// A loop's fork, its threads, and the end of the construct.
@@ -57,7 +56,7 @@ fn forked_loop(env: &Env<'_>, forked: Forked, stmts: u32, out: &mut Emitter)
 {
     let nest = out.sum(env.nest, 1);
     out.put(env, 0, Instr::Nest);
-    let inside = Env { nest, ..*env };
+    let inside = env.with_nest(nest);
     forking(&inside, forked, out);
     let over = out.gap(&inside, 2);
     thread(env, forked, stmts, out);
@@ -72,7 +71,7 @@ fn forking(env: &Env<'_>, forked: Forked, out: &mut Emitter)
 {
     let free = out.sum(env.free, 2);
     chunk_code(env, 0, forked.chunk, out);
-    let course = Env { free, ..*env };
+    let course = env.with_free(free);
     course_code(&course, 0, forked.iteration, out);
     ends_code(&course, 0, forked.iteration, out);
     let kind = loop_kind(env.typed, forked.chunk);
@@ -141,15 +140,7 @@ fn thread(env: &Env<'_>, forked: Forked, stmts: u32, out: &mut Emitter)
 {
     let free1 = out.sum(env.free, 1);
     let around = out.sum(free1, 1);
-    let outer = Env {
-        names: Names::Thread { outer: &env.names },
-        free: 2,
-        entry: None,
-        leaving: Leaving::ByLeave,
-        body: Around::Site(forked.site),
-        nest: 0,
-        ..*env
-    };
+    let outer = env.in_threads(forked.site, 2);
     let inner = chunk_env(&outer, forked.chunk);
     match env.typed.nodes.iteration(forked.iteration) {
         Some(
@@ -199,17 +190,8 @@ fn range_thread(env: &Env<'_>, parameter: u32, turns: Turns, out: &mut Emitter)
     let leave = out.gap(env, 0);
     let head = out.here();
     out.put(env, 0, Instr::Turn);
-    let names = Names::Parameter {
-        outer: &env.names,
-        number: parameter,
-        place: own(env.free),
-    };
     turn(
-        &Env {
-            names,
-            free,
-            ..*env
-        },
+        &env.with_parameter(parameter, own(env.free), free),
         turns,
         out,
     );
@@ -254,25 +236,9 @@ fn item_turns(env: &Env<'_>, through: Through, turns: Turns, out: &mut Emitter)
     let leave = out.gap(env, 0);
     let head = out.here();
     out.put(env, 0, Instr::Turn);
-    let names = Names::Item {
-        outer: &env.names,
-        constant: through.constant,
-        number: through.item,
-        named: Named {
-            through: true,
-            place: own(free2),
-            cells: through.stride,
-        },
-    };
-    turn(
-        &Env {
-            names,
-            free,
-            ..*env
-        },
-        turns,
-        out,
-    );
+    let reached = reached(free2, through.stride);
+    let inner = env.with_item(through.constant, through.item, reached, free);
+    turn(&inner, turns, out);
     out.aim_at(env, 0, enter, head);
     let steps = Steps {
         address: free2,
@@ -292,7 +258,7 @@ pub fn parallel_block(env: &Env<'_>, site: u32, count: u32, arms: u32, out: &mut
 {
     forked_block(env, site, count, arms, out);
     let free = out.sum(env.free, 2);
-    ways_of_block(&Env { free, ..*env }, arms, out);
+    ways_of_block(&env.with_free(free), arms, out);
 }
 
 /// A block's fork, its threads, and the end of the construct.
@@ -304,7 +270,7 @@ fn forked_block(env: &Env<'_>, site: u32, count: u32, arms: u32, out: &mut Emitt
 {
     let nest = out.sum(env.nest, 1);
     out.put(env, 0, Instr::Nest);
-    let inside = Env { nest, ..*env };
+    let inside = env.with_nest(nest);
     forking_block(&inside, site, count, arms, out);
     let over = out.gap(&inside, 2);
     arm_thread(env, site, arms, out);
@@ -353,15 +319,7 @@ fn arms_count(env: &Env<'_>, id: u32, out: &mut Emitter) -> u32
 fn arm_thread(env: &Env<'_>, site: u32, id: u32, out: &mut Emitter)
     ensures { Emits (spec.arms_code (tables env.now) (spec.arm_scope (tables env.now) (env_of env.now) site) 0 (spec.arm_codes (tables env.now) (spec.arm_scope (tables env.now) (env_of env.now) site) (arms_at (nodes env.now) id)) ⨟ one (spec.arm_scope (tables env.now) (env_of env.now) site) 0 i.End) out.old out.new }
 {
-    let inner = Env {
-        names: Names::Thread { outer: &env.names },
-        free: 4,
-        entry: None,
-        leaving: Leaving::ByLeave,
-        body: Around::Site(site),
-        nest: 0,
-        ..*env
-    };
+    let inner = env.in_threads(site, 4);
     arms_from(&inner, 0, id, out);
     out.put(&inner, 0, Instr::End);
 }

@@ -14,12 +14,12 @@ ghost use Rattle.lower_values.specs.Words.{env_of, nodes, tables, Emits};
 ghost use Rattle.stack_code.specs.declared.instr.Instr.TheVariants as i;
 
 use lower_emission::types::{Leaving, Level, Named, Where};
-use lower_values::aggregates::{composed, own};
+use lower_values::aggregates::{composed, reached};
 use lower_values::calls::{Window, call, target_cell};
 use lower_values::cells::{cells_of, composite_width};
 use lower_values::exprs::{address, checked, emit, is_whole, lost, selected};
 use lower_values::instrs::{address_of, load_of, store_at};
-use lower_values::types::{Emitter, Env, Names};
+use lower_values::types::{Emitter, Env};
 use stack_code::{Around, Instr};
 use typed_tree::{Actual, Check, Scalar, Value};
 
@@ -49,12 +49,7 @@ pub fn assign_number(
 fn assign_whole(env: &Env<'_>, named: Named, check: Check, id: u32, out: &mut Emitter)
     ensures { Emits (emit (tables env.now) (with_target named (env_of env.now)) 0 (expr_at (nodes env.now) id) ⨟ spec.store_checked (env_of env.now) check.scalar named.place.level named.place.cell) out.old out.new }
 {
-    let names = Names::Target {
-        outer: &env.names,
-        named,
-    };
-    let inner = Env { names, ..*env };
-    emit(&inner, 0, id, out);
+    emit(&env.with_target(named, env.free), 0, id, out);
     store_checked(env, check.scalar, named.place, out);
 }
 
@@ -87,20 +82,7 @@ fn assign_part(
     selected(env, 1, selections, out);
     out.put(env, 1, Instr::Dup);
     out.keep(env, 2, env.free);
-    let names = Names::Target {
-        outer: &env.names,
-        named: Named {
-            through: true,
-            place: own(env.free),
-            cells: 1,
-        },
-    };
-    let inner = Env {
-        names,
-        free,
-        ..*env
-    };
-    emit(&inner, 1, id, out);
+    emit(&env.with_target(reached(env.free, 1), free), 1, id, out);
     checked(env, 2, check.scalar, out);
     out.put(env, 2, Instr::Store);
 }
@@ -123,25 +105,8 @@ pub fn assign_cells(
     address(env, 0, found, out);
     selected(env, 1, selections, out);
     out.keep(env, 1, env.free);
-    let names = Names::Target {
-        outer: &env.names,
-        named: Named {
-            through: true,
-            place: own(env.free),
-            cells,
-        },
-    };
-    composed(
-        &Env {
-            names,
-            free,
-            ..*env
-        },
-        0,
-        first,
-        composite,
-        out,
-    );
+    let inner = env.with_target(reached(env.free, cells), free);
+    composed(&inner, 0, first, composite, out);
     out.put(env, 0, Instr::LoadL(env.free));
     out.put(env, 1, Instr::Local(first));
     out.put(env, 2, Instr::Copy(cells));

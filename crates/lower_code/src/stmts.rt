@@ -17,7 +17,7 @@ use crate::simple::{
     assign_cells, assign_number, exit, get, is_end, procedure, reraise, return_value, returning,
 };
 use lower_values::exprs::emit;
-use lower_values::types::{Emitter, Env, Names};
+use lower_values::types::{Emitter, Env};
 use stack_code::Instr;
 use typed_tree::{Stmt, Value};
 
@@ -117,7 +117,7 @@ fn case(env: &Env<'_>, value: u32, alternatives: u32, out: &mut Emitter)
     emit(env, 0, value, out);
     out.keep(env, 1, env.free);
     let free = out.sum(env.free, 1);
-    cases(&Env { free, ..*env }, alternatives, env.free, out);
+    cases(&env.with_free(free), alternatives, env.free, out);
 }
 
 /// The code of statements.
@@ -173,12 +173,7 @@ fn forever(env: &Env<'_>, number: u32, stmts: u32, out: &mut Emitter)
     let leave = out.gap(env, 0);
     let head = out.here();
     out.put(env, 0, Instr::Turn);
-    let names = Names::Exit {
-        outer: &env.names,
-        number,
-        to: leave,
-    };
-    all(&Env { names, ..*env }, stmts, out);
+    all(&env.with_exit(number, leave), stmts, out);
     let test = out.here();
     out.aim_at(env, 0, enter, test);
     out.put(env, 0, Instr::Jump(head));
@@ -194,12 +189,7 @@ fn while_loop(env: &Env<'_>, number: u32, condition: u32, stmts: u32, out: &mut 
     let leave = out.gap(env, 0);
     let head = out.here();
     out.put(env, 0, Instr::Turn);
-    let names = Names::Exit {
-        outer: &env.names,
-        number,
-        to: leave,
-    };
-    all(&Env { names, ..*env }, stmts, out);
+    all(&env.with_exit(number, leave), stmts, out);
     let test = out.here();
     out.aim_at(env, 0, enter, test);
     emit(env, 0, condition, out);

@@ -1,6 +1,6 @@
 //! Arrays and records (4.3).
 
-ghost use Rattle.std.specs.Prelude.{◌≡◌, ◌<◌, ◌+◌, ◌*◌, ◌+ℤ◌, ◌-ℤ◌, ◌-◌, min, nat_eq, nat_lt, ◌&&◌, pos, cond, Option, true};
+ghost use Rattle.std.specs.Prelude.{◌≡◌, ◌<◌, ◌+◌, ◌*◌, ◌+ℤ◌, ◌-ℤ◌, ◌-◌, min, nat_eq, nat_lt, ◌&&◌, pos, cond, Option, true, false};
 ghost use Rattle.typed_tree.specs.Decoded.{associations_at, as_runs, composite_at, expr_at, part_at, selections_at, value_at};
 ghost use Rattle.lower_emission.specs.Emission as spec;
 ghost use Rattle.lower_emission.specs.Scope.{◌⨟◌, keep, looped, one, own, taking};
@@ -12,7 +12,7 @@ use crate::exprs::{address, checked, emit, put_into, selected};
 use crate::repeats::{is_plain, is_repeated};
 use crate::rounds::repeating;
 use crate::runs::turnings;
-use crate::types::{Emitter, Env, Names};
+use crate::types::{Emitter, Env};
 use lower_emission::types::{Level, Named, Where};
 use stack_code::Instr;
 use typed_tree::{Composite, Iterated, Leaf, Run, Value};
@@ -297,22 +297,8 @@ pub fn turned_component(env: &Env<'_>, h: u32, turned: Turned, address: u32, out
     ensures { Emits (spec.component (tables env.now) (spec.iterated_scope (env_of env.now) turned.parameter.parameter) h address (value_at (nodes env.now) turned.value)) out.old out.new }
 {
     let free = out.sum(env.free, 3);
-    let names = Names::Parameter {
-        outer: &env.names,
-        number: turned.parameter.parameter,
-        place: own(env.free),
-    };
-    component(
-        &Env {
-            names,
-            free,
-            ..*env
-        },
-        h,
-        address,
-        turned.value,
-        out,
-    );
+    let inner = env.with_parameter(turned.parameter.parameter, own(env.free), free);
+    component(&inner, h, address, turned.value, out);
 }
 
 /// A cell of the own frame.
@@ -322,6 +308,28 @@ pub fn own(cell: u32) -> Where
     Where {
         level: Level::Own,
         cell,
+    }
+}
+
+/// What cells of the own frame hold.
+pub fn held(first: u32, cells: u32) -> Named
+    ensures { result ≡ record { through = false; place = own first; cells = cells } }
+{
+    Named {
+        through: false,
+        place: own(first),
+        cells,
+    }
+}
+
+/// What the address in a cell of the own frame leads to.
+pub fn reached(cell: u32, cells: u32) -> Named
+    ensures { result ≡ record { through = true; place = own cell; cells = cells } }
+{
+    Named {
+        through: true,
+        place: own(cell),
+        cells,
     }
 }
 
@@ -398,7 +406,7 @@ fn component_cells(env: &Env<'_>, h: u32, at: u32, id: u32, out: &mut Emitter)
     let h2 = out.sum(h1, 1);
     let cells = composite_width(env, id, out);
     let free = out.sum(env.free, cells);
-    let inner = Env { free, ..*env };
+    let inner = env.with_free(free);
     composed(&inner, h, env.free, id, out);
     out.put(env, h, Instr::LoadL(at));
     out.put(&inner, h1, Instr::Local(env.free));

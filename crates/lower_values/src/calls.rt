@@ -26,7 +26,7 @@ pub fn call(env: &Env<'_>, h: u32, sub: u32, actuals: u32, out: &mut Emitter)
         sub,
         first: env.free,
     };
-    passed(&Env { free, ..*env }, h, window, actuals, out);
+    passed(&env.with_free(free), h, window, actuals, out);
     let number = out.sum(sub, 1);
     out.put(env, h, Instr::CallAt(number, env.free));
 }

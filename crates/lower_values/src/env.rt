@@ -3,13 +3,13 @@
 ghost use Rattle.std.specs.Prelude.{◌≡◌};
 ghost use Rattle.lower_emission.specs.Emits.{placed};
 ghost use Rattle.lower_emission.specs.Scope as scope;
-ghost use Rattle.lower_emission.specs.Scope.{mark_of};
+ghost use Rattle.lower_emission.specs.Scope.{at_free, mark_of, thread_scope};
 ghost use Rattle.lower_values.specs.Words as spec;
 ghost use Rattle.lower_values.specs.Words.{entity, env_of, Learns};
 
 use crate::types::{Emitter, Env, Names};
-use lower_emission::types::{Level, Named, Placed, Where};
-use stack_code::{Instr, SiteKind};
+use lower_emission::types::{Leaving, Level, Named, Placed, Where};
+use stack_code::{Around, Instr, SiteKind};
 use typed_tree::Root;
 
 fn outer_where(place: Where, out: &mut Emitter) -> Where
@@ -278,6 +278,112 @@ impl<'a> Env<'a> {
             nest: self.nest,
             cells,
             kind: SiteKind::Loop,
+        }
+    }
+
+    /// The same where the cells from that one on are free.
+    pub fn with_free(&self, free: u32) -> Env<'a>
+        ensures { result ≡ record self.now { free = free } }
+    {
+        Env { free, ..*self }
+    }
+
+    /// The same where so many constructs are begun.
+    pub fn with_nest(&self, nest: u32) -> Env<'a>
+        ensures { result ≡ record self.now { nest = nest } }
+    {
+        Env { nest, ..*self }
+    }
+
+    /// The same with an object more, and with what is free behind it.
+    pub fn with_object(&self, constant: bool, object: u32, named: Named, free: u32) -> Env<'_>
+        ensures { (env_of result ≡ scope.with_object (entity constant object) named (at_free free (env_of self.now))) × ((result.typed ≡ self.now.typed) × (result.free ≡ free)) }
+    {
+        let names = Names::Object {
+            outer: &self.names,
+            constant,
+            object,
+            named,
+        };
+        Env {
+            names,
+            free,
+            ..*self
+        }
+    }
+
+    /// The same with a parameter more.
+    pub fn with_parameter(&self, number: u32, place: Where, free: u32) -> Env<'_>
+        ensures { (env_of result ≡ scope.with_parameter number place (at_free free (env_of self.now))) × ((result.typed ≡ self.now.typed) × (result.free ≡ free)) }
+    {
+        let names = Names::Parameter {
+            outer: &self.names,
+            number,
+            place,
+        };
+        Env {
+            names,
+            free,
+            ..*self
+        }
+    }
+
+    /// The same with an item more.
+    pub fn with_item(&self, constant: bool, number: u32, named: Named, free: u32) -> Env<'_>
+        ensures { (env_of result ≡ scope.with_item constant number named (at_free free (env_of self.now))) × ((result.typed ≡ self.now.typed) × (result.free ≡ free)) }
+    {
+        let names = Names::Item {
+            outer: &self.names,
+            constant,
+            number,
+            named,
+        };
+        Env {
+            names,
+            free,
+            ..*self
+        }
+    }
+
+    /// The same where `@` stands for that.
+    pub fn with_target(&self, named: Named, free: u32) -> Env<'_>
+        ensures { (env_of result ≡ scope.with_target named (at_free free (env_of self.now))) × ((result.typed ≡ self.now.typed) × (result.free ≡ free)) }
+    {
+        let names = Names::Target {
+            outer: &self.names,
+            named,
+        };
+        Env {
+            names,
+            free,
+            ..*self
+        }
+    }
+
+    /// The same within a loop that is left for there.
+    pub fn with_exit(&self, number: u32, to: u32) -> Env<'_>
+        ensures { (env_of result ≡ scope.with_exit number to (env_of self.now)) × ((result.typed ≡ self.now.typed) × (result.free ≡ self.now.free)) }
+    {
+        let names = Names::Exit {
+            outer: &self.names,
+            number,
+            to,
+        };
+        Env { names, ..*self }
+    }
+
+    /// What the threads of a construct know, whose cells from that one on are free.
+    pub fn in_threads(&self, site: u32, free: u32) -> Env<'_>
+        ensures { (env_of result ≡ at_free free (thread_scope site (env_of self.now))) × ((result.typed ≡ self.now.typed) × (result.free ≡ free)) }
+    {
+        Env {
+            names: Names::Thread { outer: &self.names },
+            free,
+            entry: None,
+            leaving: Leaving::ByLeave,
+            body: Around::Site(site),
+            nest: 0,
+            ..*self
         }
     }
 }

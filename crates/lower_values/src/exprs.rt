@@ -507,25 +507,9 @@ fn between(env: &Env<'_>, h: u32, value: u32, low: u32, high: u32, out: &mut Emi
     let free2 = out.sum(env.free, 2);
     emit(env, h, value, out);
     out.keep(env, h1, env.free);
-    emit(
-        &Env {
-            free: free1,
-            ..*env
-        },
-        h,
-        low,
-        out,
-    );
+    emit(&env.with_free(free1), h, low, out);
     out.keep(env, h1, free1);
-    emit(
-        &Env {
-            free: free2,
-            ..*env
-        },
-        h,
-        high,
-        out,
-    );
+    emit(&env.with_free(free2), h, high, out);
     within(env, h, env.free, out);
 }
 

@@ -11,7 +11,7 @@ ghost use Rattle.stack_code.specs.declared.instr.Instr.TheVariants as i;
 
 use crate::aggregates::{Components, own};
 use crate::exprs::{address, checked, emit, selected};
-use crate::types::{Emitter, Env, Names};
+use crate::types::{Emitter, Env};
 use ada_base::Reason;
 use ada_meaning::MOST_THREADS;
 use stack_code::Instr;
@@ -55,15 +55,7 @@ pub fn bounds(env: &Env<'_>, h: u32, low: u32, high: u32, out: &mut Emitter)
     let free1 = out.sum(env.free, 1);
     emit(env, h, low, out);
     out.keep(env, h1, env.free);
-    emit(
-        &Env {
-            free: free1,
-            ..*env
-        },
-        h,
-        high,
-        out,
-    );
+    emit(&env.with_free(free1), h, high, out);
     out.keep(env, h1, free1);
 }
 
@@ -173,15 +165,7 @@ pub fn thread_numbers(env: &Env<'_>, h: u32, count: u32, out: &mut Emitter)
     let free1 = out.sum(env.free, 1);
     out.put(env, h, Instr::Push(1));
     out.keep(env, h1, env.free);
-    emit(
-        &Env {
-            free: free1,
-            ..*env
-        },
-        h,
-        count,
-        out,
-    );
+    emit(&env.with_free(free1), h, count, out);
     out.put(env, h1, Instr::Push(i64::from(MOST_THREADS)));
     out.put(env, h2, Instr::Min);
     out.keep(env, h1, free1);
@@ -295,14 +279,7 @@ pub fn chunk_env<'a>(env: &'a Env<'_>, chunk: u32) -> Env<'a>
     ensures { (env_of result ≡ spec.chunk_scope (chunk_at (nodes env.now) chunk) (env_of env.now)) × ((result.typed ≡ env.now.typed) × (result.free ≡ env.now.free)) }
 {
     match env.typed.nodes.chunk(chunk) {
-        Some(Chunk::Each { parameter, .. }) => Env {
-            names: Names::Parameter {
-                outer: &env.names,
-                number: parameter,
-                place: own(0),
-            },
-            ..*env
-        },
+        Some(Chunk::Each { parameter, .. }) => env.with_parameter(parameter, own(0), env.free),
         _ => *env,
     }
 }

@@ -8,7 +8,7 @@ ghost use Rattle.lower_emission.specs.Scope.{◌⨟◌, forks, looped, nested, o
 ghost use Rattle.lower_values.specs.Words.{env_of, nodes, tables, Emits};
 ghost use Rattle.stack_code.specs.declared.instr.Instr.TheVariants as i;
 
-use crate::aggregates::{self, Steps, own, stepping};
+use crate::aggregates::{self, Steps, own, reached, stepping};
 use crate::exprs::{checked, emit};
 use crate::instrs::binary_instr;
 use crate::iterations::{
@@ -16,9 +16,8 @@ use crate::iterations::{
     course_code, ends_code, first_item, first_parameter, positions,
 };
 use crate::kinds::reduction_kind;
-use crate::types::{Emitter, Env, Names};
-use lower_emission::types::{Leaving, Named};
-use stack_code::{Around, Instr, SiteKind};
+use crate::types::{Emitter, Env};
+use stack_code::{Instr, SiteKind};
 use typed_tree::{Expr, Iteration, Reducer, Scalar};
 
 /// What is folded, and by what.
@@ -235,22 +234,8 @@ fn range_folds(
     out.put(env, h1, Instr::Turn);
     let cell = first_parameter(counted, out);
     let free = out.sum(env.free, 2);
-    let names = Names::Parameter {
-        outer: &env.names,
-        number: parameter,
-        place: own(cell),
-    };
-    fold_turn(
-        &Env {
-            names,
-            free,
-            ..*env
-        },
-        h,
-        turns.filter,
-        turns.fold,
-        out,
-    );
+    let inner = env.with_parameter(parameter, own(cell), free);
+    fold_turn(&inner, h, turns.filter, turns.fold, out);
     out.aim_at(env, h1, enter, head);
     counting(env, h1, counted, head, out);
     out.aim(env, h1, leave);
@@ -276,27 +261,9 @@ fn item_folds(env: &Env<'_>, h: u32, through: Through, turns: Turns, out: &mut E
     let leave = out.gap(env, h1);
     let head = out.here();
     out.put(env, h1, Instr::Turn);
-    let names = Names::Item {
-        outer: &env.names,
-        constant: through.constant,
-        number: through.item,
-        named: Named {
-            through: true,
-            place: own(env.free),
-            cells: through.stride,
-        },
-    };
-    fold_turn(
-        &Env {
-            names,
-            free,
-            ..*env
-        },
-        h,
-        turns.filter,
-        turns.fold,
-        out,
-    );
+    let reached = reached(env.free, through.stride);
+    let inner = env.with_item(through.constant, through.item, reached, free);
+    fold_turn(&inner, h, turns.filter, turns.fold, out);
     out.aim_at(env, h1, enter, head);
     let steps = Steps {
         address: env.free,
@@ -320,7 +287,7 @@ fn fork(env: &Env<'_>, h: u32, parallel: Parallel, forked: Forked, fold: Fold, o
     emit(env, h, parallel.initial, out);
     out.keep(env, h1, env.free);
     out.put(env, h, Instr::Nest);
-    let inside = Env { free, nest, ..*env };
+    let inside = env.with_free(free).with_nest(nest);
     let question = Question {
         site: parallel.site,
         kind: reduction_kind(env.typed, fold.by, forked.chunk),
@@ -333,15 +300,7 @@ fn fork(env: &Env<'_>, h: u32, parallel: Parallel, forked: Forked, fold: Fold, o
     out.put(&inside, h1, Instr::Unnest);
     let course = out.sum(free, 2);
     let behind = out.sum(course, 2);
-    combined(
-        &Env {
-            free: behind,
-            ..*env
-        },
-        h,
-        fold.by,
-        out,
-    );
+    combined(&env.with_free(behind), h, fold.by, out);
 }
 
 /// A fork, with what it is asked.
@@ -353,7 +312,7 @@ fn forking(env: &Env<'_>, h: u32, forked: Forked, question: Question, out: &mut 
 {
     let free = out.sum(env.free, 2);
     chunk_code(env, h, forked.chunk, out);
-    let course = Env { free, ..*env };
+    let course = env.with_free(free);
     course_code(&course, h, forked.iteration, out);
     ends_code(&course, h, forked.iteration, out);
     ask(env, h, question, out);
@@ -450,15 +409,7 @@ fn thread(env: &Env<'_>, site: u32, forked: Forked, fold: Fold, out: &mut Emitte
     let free1 = out.sum(env.free, 1);
     let free2 = out.sum(free1, 1);
     let around = out.sum(free2, 1);
-    let outer = Env {
-        names: Names::Thread { outer: &env.names },
-        free: 2,
-        entry: None,
-        leaving: Leaving::ByLeave,
-        body: Around::Site(site),
-        nest: 0,
-        ..*env
-    };
+    let outer = env.in_threads(site, 2);
     let inner = chunk_env(&outer, forked.chunk);
     out.put(&inner, 0, Instr::LoadL(1));
     match env.typed.nodes.iteration(forked.iteration) {
@@ -534,27 +485,9 @@ fn item_thread(
     let leave = out.gap(env, 1);
     let head = out.here();
     out.put(env, 1, Instr::Turn);
-    let names = Names::Item {
-        outer: &env.names,
-        constant: through.constant,
-        number: through.item,
-        named: Named {
-            through: true,
-            place: own(free2),
-            cells: through.stride,
-        },
-    };
-    fold_turn(
-        &Env {
-            names,
-            free,
-            ..*env
-        },
-        0,
-        turns.filter,
-        turns.fold,
-        out,
-    );
+    let reached = reached(free2, through.stride);
+    let inner = env.with_item(through.constant, through.item, reached, free);
+    fold_turn(&inner, 0, turns.filter, turns.fold, out);
     out.aim_at(env, 1, enter, head);
     let steps = Steps {
         address: free2,

@@ -75,7 +75,7 @@ pub fn repeating(env: &Env<'_>, h: u32, to: u32, value: u32, runs: u32, out: &mu
         out.put(env, h, Instr::Repeat(count));
         let head = out.here();
         locating_in(env, h, to, Left { number: 0, runs }, out);
-        component(&Env { free, ..*env }, h, free1, value, out);
+        component(&env.with_free(free), h, free1, value, out);
         next_round(env, h, head, out);
     }
 }
