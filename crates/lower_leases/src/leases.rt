@@ -179,7 +179,6 @@ fn with_grant(
 }
 
 /// The leases of a construct that stands somewhere.
-#[tactic(auto, using(crate::proofs::Lent::grants_next, crate::proofs::Lent::grants_end))]
 fn granted(
     seen: Seen<'_>,
     site: u32,
@@ -221,7 +220,6 @@ fn site_leases(
 }
 
 /// The leases of all constructs.
-#[tactic(auto, using(crate::proofs::Lent::sites_next, crate::proofs::Lent::sites_end))]
 fn all_leases(
     found: Found<'_>,
     grants: &[Grant],

@@ -359,7 +359,7 @@ fn above(dimension: Indexed, value: i64) -> Result<u32, AllocError>
     if value < dimension.low {
         return Ok(0);
     }
-    match u32::try_from(i128::from(value) - i128::from(dimension.low)) {
+    match u32::try_from(value.abs_diff(dimension.low)) {
         Ok(n) => Ok(n),
         Err(_) => Err(AllocError),
     }

@@ -48,8 +48,8 @@ pub fn count(low: i64, high: i64) -> Result<u32, AllocError>
     if high < low {
         return Ok(0);
     }
-    match u32::try_from(i128::from(high) - i128::from(low) + 1) {
-        Ok(n) => Ok(n),
+    match u32::try_from(high.abs_diff(low)) {
+        Ok(more) => sum(more, 1),
         Err(_) => Err(AllocError),
     }
 }

@@ -1,12 +1,6 @@
 -- Tables whose items change by their numbers.
-use Rattle.std.proofs.Common.{◌≡◌, ◌+◌, ◌∙◌, ◌≤◌, ℕ, zero, suc, List, [], ◌∷◌, refl, sym, ap, subst, arith}
-use Rattle.std.specs.Prelude.{Bool, true, false, cond, nat_eq, slice_get, slice_set, Option, Some, None}
-use Rattle.std.proofs.lemmas.Bool.{ne_eqb, eq-eqb}
-use Rattle.stack_code.specs.declared.code.Around.{Around}
-use Rattle.stack_code.specs.declared.code.Around.TheVariants.{Sub, Site}
-use Rattle.stack_code.specs.declared.code.CodeSub.{CodeSub}
-use Rattle.stack_code.specs.declared.instr.Instr.{Instr}
-use Rattle.lower_emission.specs.declared.types.Placed.{Placed}
+use Rattle.std.proofs.Common.{◌≡◌, ◌+◌, ◌∙◌, ◌≤◌, ℕ, zero, suc, List, [], ◌∷◌, refl, sym, ap, arith}
+use Rattle.std.specs.Prelude.{slice_get, slice_set, Option, Some, None}
 use Rattle.lower_tables.specs.Bodies.{each}
 
 -- what changes none above a number, and what changes one alone

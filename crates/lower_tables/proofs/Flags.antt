@@ -1,14 +1,13 @@
 -- Which constructs have a fork, by one instruction after another.
-use Rattle.std.proofs.Common.{◌≡◌, ◌+◌, ◌∙◌, ℕ, List, ◌∷◌, ◌++◌, [], drop, refl, sym, ap}
-use Rattle.std.specs.Prelude.{Bool, true, false, cond, slice_get, slice_set, Some, None, replicate}
+use Rattle.std.proofs.Common.{◌≡◌, ◌+◌, ◌∙◌, ◌≤◌, ℕ, List, ◌∷◌, [], drop, length, refl, sym, ap}
+use Rattle.std.specs.Prelude.{Bool, true, cond, slice_get, slice_set, Some, None}
 use Rattle.std.proofs.lemmas.Bool.{ne_eqb}
-use Rattle.std.proofs.lemmas.List.{replicate_more}
+use Rattle.std.proofs.Math.ListN.{drop_of_length-le}
 use Rattle.stack_code.specs.declared.instr.Instr.TheVariants.{Fork}
 use Rattle.lower_emission.specs.declared.types.Placed.{Placed}
 use Rattle.lower_tables.specs.Bodies.{each, flagging, flag_after}
 use Rattle.lower_tables.proofs.Each.{Alone, each_all, each_set, each_none, each_each}
 use Rattle.lower_tables.proofs.Grown.{forks_by, forks_none, same_number}
-use Rattle.lower_tables.proofs.Steps.{drop_at, none_past}
 
 abbrev flagging_by : Bool → Bool → Bool
 flagging_by b x = cond x true b
@@ -27,14 +26,11 @@ flag_none p bs j e g = each_none (λ k b. flagging p k b) j bs (flag_alone p j e
 pub flag_other : (p : Placed) (bs : List Bool) → ((n : ℕ) → p.instr ≡ Fork n → ⊥) → each (λ k b. flagging p k b) 0 bs ≡ bs
 flag_other p bs h = each_all (λ k b. flagging p k b) bs (λ n b. ap (flagging_by b) (forks_none n p.instr h))
 
-pub flags_kept : (c : List Placed) (at : ℕ) (p : Placed) (old new all : List Bool) → slice_get c at ≡ Some p → new ≡ each (λ k b. flagging p k b) 0 old →
+pub flags_kept : (c : List Placed) (at : ℕ) (p : Placed) (old new all : List Bool) → drop at c ≡ p ∷ drop (at + 1) c → new ≡ each (λ k b. flagging p k b) 0 old →
     each (λ k b. flag_after (drop at c) k b) 0 old ≡ all → each (λ k b. flag_after (drop (at + 1) c) k b) 0 new ≡ all
 flags_kept c at p old new all e f g =
     ap (each (λ k b. flag_after (drop (at + 1) c) k b) 0) f
-    ∙ (each_each (λ k b. flag_after (drop (at + 1) c) k b) (λ k b. flagging p k b) 0 old ∙ (ap (λ l. each (λ k b. flag_after l k b) 0 old) (sym (drop_at c at p e)) ∙ g))
+    ∙ (each_each (λ k b. flag_after (drop (at + 1) c) k b) (λ k b. flagging p k b) 0 old ∙ (ap (λ l. each (λ k b. flag_after l k b) 0 old) (sym e) ∙ g))
 
-pub flags_end : (c : List Placed) (at : ℕ) (bs : List Bool) → slice_get c at ≡ None → each (λ k b. flag_after (drop at c) k b) 0 bs ≡ bs
-flags_end c at bs e = ap (λ l. each (λ k b. flag_after l k b) 0 bs) (none_past c at e) ∙ each_all (λ k b. flag_after [] k b) bs (λ n b. refl)
-
-pub one_more : (n : ℕ) (b : Bool) → replicate n b ++ (b ∷ []) ≡ replicate (n + 1) b
-one_more n b = replicate_more n b
+pub flags_end : (c : List Placed) (at : ℕ) (bs : List Bool) → length c ≤ at → each (λ k b. flag_after (drop at c) k b) 0 bs ≡ bs
+flags_end c at bs e = ap (λ l. each (λ k b. flag_after l k b) 0 bs) (drop_of_length-le c e) ∙ each_all (λ k b. flag_after [] k b) bs (λ n b. refl)

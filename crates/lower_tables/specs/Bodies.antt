@@ -1,5 +1,5 @@
 -- The tables of bodies, as they grow by one instruction after another.
-use Rattle.std.specs.Prelude.{ℕ, ◌+◌, replicate, get_or, List, [], ◌∷◌, ◌++◌, Bool, true, false, cond}
+use Rattle.std.specs.Prelude.{ℕ, ◌+◌, replicate, get_or, List, [], ◌∷◌, Bool, true, false, cond}
 use Rattle.stack_code.specs.declared.code.Around.TheVariants as body
 use Rattle.stack_code.specs.declared.code.CodeSite.{CodeSite}
 use Rattle.stack_code.specs.declared.code.CodeSub.{CodeSub}

@@ -37,7 +37,6 @@ fn raised(need: Need, placed: Placed) -> Need
 }
 
 /// A subprogram needs what an instruction needs.
-#[tactic(auto, using(crate::proofs::Grown::sub_set))]
 fn raise_sub(subs: &mut Items<Start>, placed: Placed)
     ensures { subs.new ≡ each (λ k s. spec.sub_with placed k s) 0 subs.old }
 {
@@ -57,10 +56,8 @@ fn raise_sub(subs: &mut Items<Start>, placed: Placed)
 fn raise_subs(code: &[Placed], subs: &mut Items<Start>)
     ensures { subs.new ≡ each (λ k s. spec.sub_after code.now k s) 0 subs.old }
 {
-    let mut at = 0;
-    while let Some(placed) = code.get(at) {
+    for placed in code {
         raise_sub(subs, *placed);
-        at += 1;
     }
 }
 
@@ -76,15 +73,12 @@ fn sub_by(start: Start) -> Result<CodeSub, AllocError>
     })
 }
 
-#[tactic(auto, using(crate::proofs::Grown::subs_by_step, crate::proofs::Grown::subs_by_end))]
 fn subs_by(starts: &[Start], alloc: Global) -> Result<Items<CodeSub>, AllocError>
     ensures { IfOk result (λ all. all ≡ spec.subs_by starts.now) }
 {
     let mut all = Items::new(alloc);
-    let mut at = 0;
-    while let Some(start) = starts.get(at) {
+    for start in starts {
         all.push(sub_by(*start)?)?;
-        at += 1;
     }
     Ok(all)
 }
@@ -103,7 +97,6 @@ pub fn subs_of(
 }
 
 /// A construct's threads need what an instruction needs.
-#[tactic(auto, using(crate::proofs::Grown::need_set))]
 fn raise_site(sites: &mut Items<Begun>, placed: Placed)
     ensures { sites.new ≡ each (λ k b. spec.needing placed k b) 0 sites.old }
 {
@@ -119,7 +112,6 @@ fn raise_site(sites: &mut Items<Begun>, placed: Placed)
 }
 
 /// A construct is begun where an instruction forks.
-#[tactic(auto, using(crate::proofs::Grown::fork_set))]
 fn begin_site(sites: &mut Items<Begun>, at: u32, placed: Placed)
     ensures { sites.new ≡ each (λ k b. spec.forking at placed k b) 0 sites.old }
 {
@@ -152,7 +144,6 @@ fn begin_sites(code: &[Placed], sites: &mut Items<Begun>) -> Result<(), AllocErr
 }
 
 /// So many constructs of which nothing is known.
-#[tactic(auto, using(crate::proofs::Grown::one_more))]
 fn fresh_sites(count: usize, alloc: Global) -> Result<Items<Begun>, AllocError>
     ensures { IfOk result (λ all. all ≡ replicate count spec.fresh) }
 {
@@ -167,11 +158,7 @@ fn fresh_sites(count: usize, alloc: Global) -> Result<Items<Begun>, AllocError>
             height: 0,
         },
     };
-    let mut all = Items::new(alloc);
-    for _ in 0..count {
-        all.push(fresh)?;
-    }
-    Ok(all)
+    Ok(Items::from_vec(vec![in alloc; fresh; count]?))
 }
 
 fn site_by(begun: Begun, leases: Items<Lease>) -> Result<CodeSite, AllocError>
@@ -198,7 +185,6 @@ fn next_lease(rest: &mut IntoIter<Items<Lease>>, alloc: Global) -> Items<Lease>
 }
 
 /// Constructs with their leases.
-#[tactic(auto, using(crate::proofs::Grown::leased_step, crate::proofs::Grown::leased_end, crate::proofs::Grown::lease_here, crate::proofs::Grown::lease_next))]
 fn leased(
     begun: &[Begun],
     leases: Items<Items<Lease>>,
@@ -208,11 +194,9 @@ fn leased(
 {
     let mut all = Items::new(alloc);
     let mut rest = leases.into_vec().into_iter();
-    let mut number = 0;
-    while let Some(site) = begun.get(number) {
+    for site in begun {
         let list = next_lease(&mut rest, alloc);
         all.push(site_by(*site, list)?)?;
-        number += 1;
     }
     Ok(all)
 }

@@ -1,6 +1,6 @@
 //! Which constructs have a fork in code.
 
-ghost use Rattle.std.specs.Prelude.{◌≡◌, false, replicate, IfOk};
+ghost use Rattle.std.specs.Prelude.{◌≡◌, IfOk};
 ghost use Rattle.lower_tables.specs.Bodies as spec;
 ghost use Rattle.lower_tables.specs.Bodies.{each};
 
@@ -10,7 +10,6 @@ use stack_code::Instr;
 use std::alloc::{AllocError, Global};
 
 /// A construct has a fork where an instruction begins it.
-#[tactic(auto, using(crate::proofs::Flags::flag_set))]
 fn flag_fork(flags: &mut Items<bool>, placed: Placed)
     ensures { flags.new ≡ each (λ k b. spec.flagging placed k b) 0 flags.old }
 {
@@ -25,30 +24,16 @@ fn flag_fork(flags: &mut Items<bool>, placed: Placed)
 fn flag_forks(code: &[Placed], flags: &mut Items<bool>)
     ensures { flags.new ≡ each (λ k b. spec.flag_after code.now k b) 0 flags.old }
 {
-    let mut at = 0;
-    while let Some(placed) = code.get(at) {
+    for placed in code {
         flag_fork(flags, *placed);
-        at += 1;
     }
-}
-
-/// So many constructs of which none has a fork.
-#[tactic(auto, using(crate::proofs::Flags::one_more))]
-fn fresh_flags(count: usize, alloc: Global) -> Result<Items<bool>, AllocError>
-    ensures { IfOk result (λ all. all ≡ replicate count false) }
-{
-    let mut all = Items::new(alloc);
-    for _ in 0..count {
-        all.push(false)?;
-    }
-    Ok(all)
 }
 
 /// Which of so many constructs have a fork, by their numbers. An Err is want of memory.
 pub fn forks_of(code: &[Placed], count: usize, alloc: Global) -> Result<Items<bool>, AllocError>
     ensures { IfOk result (λ all. all ≡ spec.fork_flags code.now count) }
 {
-    let mut flags = fresh_flags(count, alloc)?;
+    let mut flags = Items::from_vec(vec![in alloc; false; count]?);
     flag_forks(code, &mut flags);
     Ok(flags)
 }

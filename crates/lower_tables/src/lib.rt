@@ -42,7 +42,6 @@ fn resolved(code: &[Placed], at: usize, instr: Instr) -> Instr
 }
 
 /// The instructions. A jump back to another jump goes where that leads.
-#[tactic(auto, using(crate::proofs::Steps::instrs_step, crate::proofs::Steps::instrs_end))]
 pub fn instrs_of(code: &[Placed], alloc: Global) -> Result<Items<Instr>, AllocError>
     ensures { IfOk result (λ all. all ≡ spec.instrs_from code.now 0 code.now) }
 {
@@ -85,19 +84,16 @@ fn begun_by(before: Option<u32>, here: Option<u32>, begun: u32) -> Option<u32>
 }
 
 /// The spots.
-#[tactic(auto, using(crate::proofs::Steps::spots_step, crate::proofs::Steps::spots_end))]
 pub fn spots_of(code: &[Placed], alloc: Global) -> Result<Items<Spot>, AllocError>
     ensures { IfOk result (λ all. all ≡ spec.spots_from None 0 code.now) }
 {
     let mut all = Items::new(alloc);
-    let mut at = 0;
     let mut begun: u32 = 0;
     let mut before = None;
-    while let Some(placed) = code.get(at) {
+    for placed in code {
         begun = begun_by(before, placed.entry, begun).ok_or(AllocError)?;
         all.push(spot_of(*placed, begun))?;
         before = placed.entry;
-        at += 1;
     }
     Ok(all)
 }
@@ -118,7 +114,6 @@ fn spot_of(placed: Placed, begun: u32) -> Spot
 }
 
 /// Where a stretch of instructions with a handler ends.
-#[tactic(auto, using(crate::proofs::Steps::stretch_goes, crate::proofs::Steps::stretch_stops, crate::proofs::Steps::stretch_end))]
 fn end_of(code: &[Placed], from: u32, label: u32) -> Option<u32>
     ensures { IfSome result (λ to. to ≡ from + spec.stretch label (drop from code.now)) }
 {
@@ -176,7 +171,6 @@ fn push_begun(
 }
 
 /// The unwind entries: one for each stretch of instructions with the same handler.
-#[tactic(auto, using(crate::proofs::Steps::unwinds_step, crate::proofs::Steps::unwinds_end))]
 pub fn unwinds_of(code: &[Placed], alloc: Global) -> Result<Items<Unwind>, AllocError>
     ensures { IfOk result (λ all. all ≡ spec.unwinds_from code.now None 0 code.now) }
 {

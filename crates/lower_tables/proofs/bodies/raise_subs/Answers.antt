@@ -1,17 +1,12 @@
-use Rattle.std.proofs.Common.{rules, ◌≡◌, ◌+◌, ◌∙◌, sym, refl, length}
-use Rattle.std.specs.Prelude.{slice_get, Some, None}
-use Rattle.std.proofs.lemmas.Option.{slice_get_read, slice_get_past}
+use Rattle.std.proofs.Common.{◌∙◌, sym}
+use Rattle.std.proofs.lemmas.List.{drop_more}
 use Rattle.lower_tables.proofs.Grown.{subs_kept, subs_end}
 use Rattle.lower_tables.proofs.bodies.raise_subs.Goals as goal
 
 pub loop-placed-preserved : goal.loop-placed-preserved
 loop-placed-preserved c =
-    let h = c.in-Some.ensures.lookup in
-    let e : slice_get c.args.code.now c.loop-placed.at ≡ Some c.in-Some.placed.now = slice_get_read c.args.code.now (length c.args.code.now) c.loop-placed.at c.in-Some.placed.now refl h.3.0 h.1 in
-    subs_kept c.args.code.now c.loop-placed.at c.in-Some.placed.now c.loop-placed.subs c.raise_sub.new.subs _ e c.raise_sub.ensures c.loop-placed.invariant
+    let k = c.loop-placed.placed-index in
+    subs_kept c.args.code.now k _ c.loop-placed.subs c.raise_sub.new.subs _ (drop_more c.args.code.now k _ c.loop-placed-test.true) c.raise_sub.ensures c.loop-placed.invariant
 
 pub returns : goal.returns
-returns c =
-    let h = c.in_default.ensures.lookup in
-    let e : slice_get c.args.code.now c.loop-placed.at ≡ None = slice_get_past c.args.code.now c.loop-placed.at h.3 in
-    sym (subs_end c.args.code.now c.loop-placed.at c.loop-placed.subs e) ∙ c.loop-placed.invariant
+returns c = sym (subs_end c.args.code.now c.loop-placed.placed-index c.loop-placed.subs c.loop-placed-test.false) ∙ c.loop-placed.invariant

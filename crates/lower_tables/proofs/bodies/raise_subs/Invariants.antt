@@ -1,10 +1,7 @@
-use Rattle.std.proofs.Common.{◌≡◌, ◌-◌, drop, length}
+use Rattle.std.proofs.Common.{◌≡◌, drop}
 use Rattle.lower_tables.specs.Bodies as spec
 use Rattle.lower_tables.specs.Bodies.{each}
 use Rattle.lower_tables.proofs.bodies.raise_subs.Given as goal
 
 abbrev pub invariant-loop-placed : goal.invariant-loop-placed
-invariant-loop-placed l = each (λ k s. spec.sub_after (drop l.at l.code) k s) 0 l.subs ≡ each (λ k s. spec.sub_after l.code k s) 0 l.fn.subs
-
-abbrev pub decreases-loop-placed : goal.decreases-loop-placed
-decreases-loop-placed l = length l.code - l.at
+invariant-loop-placed l = each (λ k s. spec.sub_after (drop l.placed-index l.code) k s) 0 l.subs ≡ each (λ k s. spec.sub_after l.code k s) 0 l.fn.subs
