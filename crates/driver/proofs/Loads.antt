@@ -10,7 +10,7 @@ use Rattle.check_inference.specs.Exact.{effect_path}
 use Rattle.lower_emission.specs.Programs.{code_of}
 use Rattle.ada_lower.specs.Places.{leases_at}
 use Rattle.lower_leases.specs.Grants.{granted_by}
-use Rattle.lower_lent.specs.Granted.{paths_at}
+use Rattle.lower_laws.specs.Granted.{paths_at}
 use Rattle.name_scopes.specs.Law.{NamedProgramsLaw}
 use Rattle.run_loaded.specs.Law.{AcceptedLaw}
 use Rattle.run_machine_laws.specs.Programs.{IsLoaded}

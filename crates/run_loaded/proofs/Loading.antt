@@ -8,17 +8,17 @@ use Rattle.stack_code.specs.declared.code.Lease.{Lease}
 use Rattle.ada_lower.specs.Places.{leases_at}
 use Rattle.ada_lower.proofs.Housed.{homes_law}
 use Rattle.ada_lower.proofs.Local.{local_law}
-use Rattle.lower_lent.specs.Granted.{granted_by}
-use Rattle.lower_lent.proofs.Deep.{fit_law}
-use Rattle.lower_lent.proofs.Leases.{granted_law}
-use Rattle.lower_lent.proofs.Reaching.{seen_law}
-use Rattle.lower_lent.proofs.Told.{leased_law}
+use Rattle.lower_laws.specs.Granted.{granted_by}
+use Rattle.lower_laws.proofs.Deep.{fit_law}
+use Rattle.lower_laws.proofs.Leases.{granted_law}
+use Rattle.lower_laws.proofs.SeenWrites.{seen_law}
+use Rattle.lower_laws.proofs.Told.{leased_law}
 use Rattle.lower_emission.specs.Programs.{behind_main, code_of, text_in}
 use Rattle.typed_scopes.specs.Scopes.{behind, outset}
 use Rattle.ada_lower.proofs.WholeLaws.{tables_law, valid_law}
-use Rattle.lower_formed.specs.Law.{frame_of}
-use Rattle.lower_formed.specs.Rooms.{frames_of, seen_names}
-use Rattle.lower_formed.proofs.Codes.{lowered_law, ready_law}
+use Rattle.lower_laws.specs.CodeLaw.{frame_of}
+use Rattle.lower_laws.specs.Rooms.{frames_of, seen_names}
+use Rattle.lower_laws.proofs.Codes.{lowered_law, ready_law}
 use Rattle.lower_quiet.specs.Law.{quiet_in}
 use Rattle.lower_quiet.proofs.Hushing.{quiet_law}
 use Rattle.run_rooms.proofs.Rooms.{room_law}

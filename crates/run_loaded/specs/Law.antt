@@ -11,8 +11,8 @@ use Rattle.check_conflicts.specs.Answer.{AreGrants}
 use Rattle.stack_code.specs.declared.code.Around.TheVariants.{Sub}
 use Rattle.lower_emission.specs.Programs.{code_of}
 use Rattle.ada_lower.specs.Places.{leases_at}
-use Rattle.lower_formed.specs.Law.{frame_of}
-use Rattle.lower_lent.specs.Granted.{AreGranted, granted_by}
+use Rattle.lower_laws.specs.CodeLaw.{frame_of}
+use Rattle.lower_laws.specs.Granted.{AreGranted, granted_by}
 use Rattle.run_machine_laws.specs.Programs.{IsLoaded}
 
 -- The code of an accepted program, with leases of what is granted, is loaded, with a number of slots in which its runs by notes

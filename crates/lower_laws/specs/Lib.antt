@@ -1,0 +1,5 @@
+pub mod Tables
+pub mod Rooms
+pub mod CodeLaw
+pub mod Granted
+pub mod LeasesLaw
