@@ -1,9 +1,9 @@
 -- Texts that are gathered one list after another.
-use Rattle.std.proofs.Common.{◌≡◌, ◌+◌, ◌≤◌, ◌∙◌, ℕ, List, [], ◌∷◌, ◌++◌, drop, length, refl, sym, ap, arith}
+use Rattle.std.proofs.Common.{◌≡◌, ◌+◌, ◌∙◌, ℕ, List, [], ◌∷◌, ◌++◌, drop, refl, sym, ap}
 use Rattle.std.specs.Prelude.{slice_get, Some, None, map}
 use Rattle.typed_tree.specs.declared.program.Sub as tree-sub
 use Rattle.typed_tree.specs.declared.typed.Typed.{Typed}
-use Rattle.typed_tree.specs.Programs.{program, sub_of}
+use Rattle.typed_tree.specs.Programs.{sub_of}
 use Rattle.typed_tree.specs.Decoded.{body_at}
 use Rattle.lower_emission.specs.Texts.{gathered, noted, body_texts, subs_texts}
 use Rattle.lower_values.specs.Words.{program_of}

@@ -1,5 +1,5 @@
 -- The forks of constructs that have none are those of the definition.
-use Rattle.std.proofs.Common.{◌≡◌, ◌+◌, ◌∙◌, ℕ, zero, suc, List, [], ◌∷◌, ◌++◌, length, drop, refl, sym, ap, arith}
+use Rattle.std.proofs.Common.{◌≡◌, ◌+◌, ◌∙◌, ℕ, List, [], ◌∷◌, ◌++◌, length, drop, refl, sym, ap, arith}
 use Rattle.std.specs.Prelude.{Bool, true, false, cond, replicate, slice_get, Some, None}
 use Rattle.typed_tree.specs.declared.program.Site.{Site}
 use Rattle.lower_emission.specs.declared.types.Placed.{Placed}

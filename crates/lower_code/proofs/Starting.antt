@@ -1,6 +1,6 @@
 -- From the parts of the code of a program to the whole.
-use Rattle.std.proofs.Common.{◌≡◌, ◌+◌, ◌∙◌, ℕ, zero, suc, List, [], ◌∷◌, ◌++◌, length, drop, refl, sym, ap, subst, arith}
-use Rattle.std.specs.Prelude.{Bool, true, false, cond, get_or, map, replicate, slice_get, Option, Some, None}
+use Rattle.std.proofs.Common.{◌≡◌, ◌+◌, ◌∙◌, ℕ, suc, List, [], ◌∷◌, ◌++◌, length, drop, refl, sym, ap, subst, arith}
+use Rattle.std.specs.Prelude.{false, get_or, map, replicate, slice_get, Some, None}
 use Rattle.std.proofs.lemmas.List.{append_assoc, append-nil, length-append}
 use Rattle.behaviours.specs.Paths.{VariableOf, ConstantOf}
 use Rattle.typed_tree.specs.declared.program.Site.{Site}
@@ -22,7 +22,7 @@ use Rattle.lower_emission.specs.Bodies as bodies
 use Rattle.lower_emission.specs.Emission.{put_into, shapes, shapes_cells, width}
 use Rattle.lower_emission.specs.Emits.{Emit, written, listed}
 use Rattle.lower_emission.specs.Laws.{WrittenLaw}
-use Rattle.lower_emission.specs.Programs.{all_subs, at_least, behind, behind_main, code_by, code_of, code_sites, code_sub, code_subs, fork_from, has_result, is_body, main_end, main_halts, needed, raised, site_by, sub_by, sub_entry, sub_place, text_in}
+use Rattle.lower_emission.specs.Programs.{all_subs, at_least, behind, behind_main, code_by, code_of, code_sites, code_sub, code_subs, fork_from, has_result, main_end, main_halts, needed, site_by, sub_by, sub_entry, sub_place, text_in}
 use Rattle.lower_emission.specs.Scope.{Scope, taking}
 use Rattle.lower_emission.specs.Tables.{instrs_from, spots_from, unwinds_from}
 use Rattle.lower_emission.specs.Statements.{defaulted}

@@ -1,5 +1,5 @@
 -- Steps through the subprograms.
-use Rattle.std.proofs.Common.{◌≡◌, ◌+◌, ◌∙◌, ℕ, List, ◌∷◌, [], drop, ap}
+use Rattle.std.proofs.Common.{◌≡◌, ◌+◌, ℕ, List, drop, ap}
 use Rattle.std.specs.Prelude.{slice_get, Some, None}
 use Rattle.typed_tree.specs.Syntax.{Program, Sub}
 use Rattle.lower_emission.specs.declared.types.Placed.{Placed}

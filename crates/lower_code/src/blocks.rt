@@ -16,11 +16,10 @@ ghost use Rattle.lower_values.specs.Words.{env_of, entity, nodes, tables, Emits}
 use crate::defaults::defaulted;
 use crate::stmts::all;
 use ada_base::Reason;
-use lower_emission::types::Named;
-use lower_values::aggregates::own;
+use lower_values::aggregates::{held, own};
 use lower_values::cells::{object_cells, width};
 use lower_values::exprs::put_into;
-use lower_values::types::{Emitter, Env, Names};
+use lower_values::types::{Emitter, Env, Link, Names};
 use stack_code::{Instr, reason_number};
 use typed_tree::{Decl, Handler, Leaf};
 
@@ -69,15 +68,13 @@ fn declare(env: &Env<'_>, constant: bool, object: u32, initial: u32, rest: Rest,
     let cells = width(env, initial, out);
     let free = out.sum(env.free, cells);
     put_into(&env.with_free(free), 0, env.free, initial, out);
-    let names = Names::Object {
-        outer: &env.names,
-        constant,
-        object,
-        named: Named {
-            through: false,
-            place: own(env.free),
-            cells,
+    let names = Names::And {
+        link: Link::Object {
+            constant,
+            object,
+            named: held(env.free, cells),
         },
+        outer: &env.names,
     };
     let inner = Env {
         names,
@@ -95,15 +92,13 @@ fn declare_default(env: &Env<'_>, object: u32, rest: Rest, out: &mut Emitter)
     let cells = object_cells(env, object, out);
     let free = out.sum(env.free, cells);
     defaulted(env, env.free, object, out);
-    let names = Names::Object {
-        outer: &env.names,
-        constant: false,
-        object,
-        named: Named {
-            through: false,
-            place: own(env.free),
-            cells,
+    let names = Names::And {
+        link: Link::Object {
+            constant: false,
+            object,
+            named: held(env.free, cells),
         },
+        outer: &env.names,
     };
     let inner = Env {
         names,
@@ -169,10 +164,12 @@ fn handlers_of(env: &Env<'_>, id: u32, out: &mut Emitter)
     ensures { Emits (keep (env_of env.now) 1 env.now.free ⨟ spec.handling (tables env.now) (with_handled (own env.now.free) (taking 1 (env_of env.now))) env.now.free (handlers_at (nodes env.now) id)) out.old out.new }
 {
     let free = out.sum(env.free, 1);
-    out.keep(env, 1, env.free);
-    let names = Names::Handled {
+    out.keep(env, 0, env.free);
+    let names = Names::And {
+        link: Link::Handled {
+            place: own(env.free),
+        },
         outer: &env.names,
-        place: own(env.free),
     };
     handling(
         &Env {

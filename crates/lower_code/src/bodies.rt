@@ -25,7 +25,7 @@ use lower_tables::bodies::Start;
 use lower_values::aggregates::held;
 use lower_values::cells::{cells_from, object_cells, width};
 use lower_values::exprs::put_into;
-use lower_values::types::{Emitter, Env, Names};
+use lower_values::types::{Emitter, Env, Link, Names};
 use stack_code::{Around, Instr};
 use typed_tree::{Decl, Leaf, Mode, Scalar, Sub};
 
@@ -222,22 +222,20 @@ fn declare(
     let cells = width(env, initial, out);
     let free = out.sum(env.free, cells);
     put_into(&env.with_free(free), 0, env.free, initial, out);
-    let names = Names::Object {
-        outer: &env.names,
-        constant: declared.constant,
-        object: declared.object,
-        named: global(env.free, cells),
-    };
-    main_declared(
-        &Env {
-            names,
-            free,
-            ..*env
+    let names = Names::And {
+        link: Link::Object {
+            constant: declared.constant,
+            object: declared.object,
+            named: global(env.free, cells),
         },
-        rest,
-        out,
-        subs,
-    );
+        outer: &env.names,
+    };
+    let inner = Env {
+        names,
+        free,
+        ..*env
+    };
+    main_declared(&inner, rest, out, subs);
 }
 
 #[cycle(main)]
@@ -254,22 +252,20 @@ fn declare_default(
     let cells = object_cells(env, object, out);
     let free = out.sum(env.free, cells);
     defaulted(env, env.free, object, out);
-    let names = Names::Object {
-        outer: &env.names,
-        constant: false,
-        object,
-        named: global(env.free, cells),
-    };
-    main_declared(
-        &Env {
-            names,
-            free,
-            ..*env
+    let names = Names::And {
+        link: Link::Object {
+            constant: false,
+            object,
+            named: global(env.free, cells),
         },
-        rest,
-        out,
-        subs,
-    );
+        outer: &env.names,
+    };
+    let inner = Env {
+        names,
+        free,
+        ..*env
+    };
+    main_declared(&inner, rest, out, subs);
 }
 
 fn global(cell: u32, cells: u32) -> Named

@@ -54,7 +54,7 @@ fn beside(env: &Env<'_>, levels: usize, t: u32, found: Option<Subtype>, out: &mu
         None => {}
         Some(Subtype::Scalar { scalar }) => {
             out.put(env, 0, Instr::Push(scalar.low));
-            out.keep(env, 1, t);
+            out.keep(env, 0, t);
         }
         Some(
             Subtype::Array {

@@ -75,15 +75,7 @@ fn of_stmt(env: &Env<'_>, left: Left, id: u32, out: &mut Emitter)
             of_stmts(env, left, stmts, out);
             of_handlers(env, left, handlers, out);
         }
-        Stmt::Null
-        | Stmt::Assign { .. }
-        | Stmt::Call { .. }
-        | Stmt::Return
-        | Stmt::ReturnValue { .. }
-        | Stmt::Raise { .. }
-        | Stmt::Reraise
-        | Stmt::Put { .. }
-        | Stmt::Get { .. } => {}
+        _ => {}
     }
 }
 

@@ -76,15 +76,7 @@ fn of_stmt(typed: &Typed, id: u32, out: &mut Gathering)
             of_handlers(typed, handlers, out);
         }
         Stmt::Put { pieces, .. } => of_pieces(typed, pieces, out),
-        Stmt::Null
-        | Stmt::Exit { .. }
-        | Stmt::Assign { .. }
-        | Stmt::Call { .. }
-        | Stmt::Return
-        | Stmt::ReturnValue { .. }
-        | Stmt::Raise { .. }
-        | Stmt::Reraise
-        | Stmt::Get { .. } => {}
+        _ => {}
     }
 }
 

@@ -14,15 +14,7 @@ use lower_values::types::{Emitter, Env};
 use stack_code::{Instr, SiteKind};
 use std::alloc::Global;
 
-/// The threads of a construct that nothing begins: they raise.
-fn idle_threads(env: &Env<'_>, site: u32, out: &mut Emitter)
-    ensures { Emits (programs.idle_threads (env_of env.now) site) out.old out.new }
-{
-    let thread = env.in_threads(site, 0);
-    out.put(&thread, 0, Instr::Raise(Reason::ProgramError));
-}
-
-/// The fork of a construct where no run comes.
+/// The fork of a construct where no run comes, and its threads, which raise.
 fn idle_fork(env: &Env<'_>, site: u32, out: &mut Emitter)
     ensures { Emits (programs.idle_fork (env_of env.now) site) out.old out.new }
 {
@@ -30,7 +22,8 @@ fn idle_fork(env: &Env<'_>, site: u32, out: &mut Emitter)
     let inside = env.with_nest(nest);
     out.fork(&inside, 5, SiteKind::Loop, site);
     let over = out.gap(&inside, 2);
-    idle_threads(env, site, out);
+    let thread = env.in_threads(site, 0);
+    out.put(&thread, 0, Instr::Raise(Reason::ProgramError));
     out.aim(&inside, 2, over);
     out.put(&inside, 2, Instr::Raise(Reason::ProgramError));
 }

@@ -121,17 +121,14 @@ fn range_turns(
         reverse,
         first: env.free,
     };
-    let enter = out.gap(env, 0);
-    let leave = out.gap(env, 0);
-    let head = out.here();
-    out.put(env, 0, Instr::Turn);
+    let begun = out.begin(env, 0);
     let cell = first_parameter(counted, out);
     let free = out.sum(env.free, 2);
     let inside = env.with_parameter(parameter, own(cell), free);
-    turn(&inside.with_exit(number, leave), turns, out);
-    out.aim_at(env, 0, enter, head);
-    counting(env, 0, counted, head, out);
-    out.aim(env, 0, leave);
+    turn(&inside.with_exit(number, begun.leave), turns, out);
+    out.aim_at(env, 0, begun.enter, begun.head);
+    counting(env, 0, counted, begun.head, out);
+    out.aim(env, 0, begun.leave);
 }
 
 /// What a loop goes through: its item, and how far the next is.
@@ -149,19 +146,16 @@ fn item_turns(env: &Env<'_>, number: u32, through: Through, turns: Turns, out: &
 {
     let first = out.sum(env.free, 1);
     let free = out.sum(env.free, 3);
-    let enter = out.gap(env, 0);
-    let leave = out.gap(env, 0);
-    let head = out.here();
-    out.put(env, 0, Instr::Turn);
+    let begun = out.begin(env, 0);
     let reached = reached(env.free, through.stride);
     let inside = env.with_item(through.constant, through.item, reached, free);
-    turn(&inside.with_exit(number, leave), turns, out);
-    out.aim_at(env, 0, enter, head);
+    turn(&inside.with_exit(number, begun.leave), turns, out);
+    out.aim_at(env, 0, begun.enter, begun.head);
     let steps = Steps {
         address: env.free,
         stride: through.stride,
         first,
     };
-    stepping(env, 0, steps, head, out);
-    out.aim(env, 0, leave);
+    stepping(env, 0, steps, begun.head, out);
+    out.aim(env, 0, begun.leave);
 }

@@ -42,17 +42,10 @@ fn values(env: &Env<'_>, id: u32, out: &mut Emitter)
 fn value_and_rest(env: &Env<'_>, value: u32, rest: u32, out: &mut Emitter)
     ensures { Emits (emit (tables env.now) (env_of env.now) 0 (expr_at (nodes env.now) value) ⨟ keep (env_of env.now) 1 env.now.free ⨟ spec.piece_values (tables env.now) (taking 1 (env_of env.now)) (pieces_at (nodes env.now) rest)) out.old out.new }
 {
-    keep_value(env, value, out);
+    emit(env, 0, value, out);
+    out.keep(env, 0, env.free);
     let free = out.sum(env.free, 1);
     values(&env.with_free(free), rest, out);
-}
-
-/// The value of a piece goes to the first free cell.
-fn keep_value(env: &Env<'_>, value: u32, out: &mut Emitter)
-    ensures { Emits (emit (tables env.now) (env_of env.now) 0 (expr_at (nodes env.now) value) ⨟ keep (env_of env.now) 1 env.now.free) out.old out.new }
-{
-    emit(env, 0, value, out);
-    out.keep(env, 1, env.free);
 }
 
 fn image_instr(class: Class) -> Instr

@@ -18,10 +18,10 @@ use crate::loops::{Through, Turns, turn};
 use crate::stmts::all;
 use lower_values::aggregates::{Components, Steps, own, reached, stepping};
 use lower_values::iterations::{
-    Counted, all_threads, ascending, chunk_code, chunk_env, counting, course_code, ends_code,
-    first_item, thread_numbers,
+    Counted, all_threads, ascending, chunk_env, counting, first_item, thread_numbers,
 };
 use lower_values::kinds::loop_kind;
+use lower_values::reductions::{Question, ask, forking};
 use lower_values::types::{Emitter, Env};
 use stack_code::{Instr, SiteKind};
 use typed_tree::Iteration;
@@ -57,36 +57,16 @@ fn forked_loop(env: &Env<'_>, forked: Forked, stmts: u32, out: &mut Emitter)
     let nest = out.sum(env.nest, 1);
     out.put(env, 0, Instr::Nest);
     let inside = env.with_nest(nest);
-    forking(&inside, forked, out);
+    let question = Question {
+        site: forked.site,
+        kind: loop_kind(env.typed, forked.chunk),
+        initial: Instr::Push(0),
+    };
+    forking(&inside, 0, forked.chunk, forked.iteration, question, out);
     let over = out.gap(&inside, 2);
     thread(env, forked, stmts, out);
     out.aim(&inside, 2, over);
     out.put(&inside, 2, Instr::Unnest);
-}
-
-/// The fork of a loop, with what it is asked.
-fn forking(env: &Env<'_>, forked: Forked, out: &mut Emitter)
-    ensures { Emits (chunk_code (tables env.now) (env_of env.now) 0 (chunk_at (nodes env.now) forked.chunk) ⨟ course_code (tables env.now) (taking 2 (env_of env.now)) 0 (iteration_at (nodes env.now) forked.iteration) ⨟ ends_code (taking 2 (env_of env.now)) 0 (iteration_at (nodes env.now) forked.iteration)
-        ⨟ one (env_of env.now) (0 + 1 + 1) (i.LoadL env.now.free) ⨟ one (env_of env.now) (0 + 1 + 1 + 1) (i.LoadL (env.now.free + 1)) ⨟ one (env_of env.now) (1 + 1 + 1 + 1) (i.Push (pos 0)) ⨟ forks (env_of env.now) (0 + 1 + 1 + 1 + 1 + 1) (loop_kind (chunk_at (nodes env.now) forked.chunk)) forked.site) out.old out.new }
-{
-    let free = out.sum(env.free, 2);
-    chunk_code(env, 0, forked.chunk, out);
-    let course = env.with_free(free);
-    course_code(&course, 0, forked.iteration, out);
-    ends_code(&course, 0, forked.iteration, out);
-    let kind = loop_kind(env.typed, forked.chunk);
-    ask(env, kind, forked.site, out);
-}
-
-/// The fork of a loop or block, whose chunk values are in the first free cells.
-fn ask(env: &Env<'_>, kind: SiteKind, site: u32, out: &mut Emitter)
-    ensures { Emits (one (env_of env.now) (0 + 1 + 1) (i.LoadL env.now.free) ⨟ one (env_of env.now) (0 + 1 + 1 + 1) (i.LoadL (env.now.free + 1)) ⨟ one (env_of env.now) (1 + 1 + 1 + 1) (i.Push (pos 0)) ⨟ forks (env_of env.now) (0 + 1 + 1 + 1 + 1 + 1) kind site) out.old out.new }
-{
-    let free1 = out.sum(env.free, 1);
-    out.put(env, 2, Instr::LoadL(env.free));
-    out.put(env, 3, Instr::LoadL(free1));
-    out.put(env, 4, Instr::Push(0));
-    out.fork(env, 5, kind, site);
 }
 
 /// What follows a loop's fork.
@@ -126,8 +106,8 @@ fn before_ways(env: &Env<'_>, out: &mut Emitter)
     ensures { Emits (keep (env_of env.now) 2 env.now.free ⨟ keep (env_of env.now) 1 (env.now.free + 1) ⨟ one (env_of env.now) 0 (i.LoadL env.now.free)) out.old out.new }
 {
     let value = out.sum(env.free, 1);
-    out.keep(env, 2, env.free);
-    out.keep(env, 1, value);
+    out.keep(env, 1, env.free);
+    out.keep(env, 0, value);
     out.put(env, 0, Instr::LoadL(env.free));
 }
 
@@ -186,18 +166,15 @@ fn range_thread(env: &Env<'_>, parameter: u32, turns: Turns, out: &mut Emitter)
     };
     ascending(env, 0, env.free, out);
     let over = out.gap(env, 0);
-    let enter = out.gap(env, 0);
-    let leave = out.gap(env, 0);
-    let head = out.here();
-    out.put(env, 0, Instr::Turn);
+    let begun = out.begin(env, 0);
     turn(
         &env.with_parameter(parameter, own(env.free), free),
         turns,
         out,
     );
-    out.aim_at(env, 0, enter, head);
-    counting(env, 0, counted, head, out);
-    out.aim(env, 0, leave);
+    out.aim_at(env, 0, begun.enter, begun.head);
+    counting(env, 0, counted, begun.head, out);
+    out.aim(env, 0, begun.leave);
     out.aim_false(env, 0, over);
 }
 
@@ -232,21 +209,18 @@ fn item_turns(env: &Env<'_>, through: Through, turns: Turns, out: &mut Emitter)
     let free1 = out.sum(env.free, 1);
     let free2 = out.sum(free1, 1);
     let free = out.sum(env.free, 3);
-    let enter = out.gap(env, 0);
-    let leave = out.gap(env, 0);
-    let head = out.here();
-    out.put(env, 0, Instr::Turn);
+    let begun = out.begin(env, 0);
     let reached = reached(free2, through.stride);
     let inner = env.with_item(through.constant, through.item, reached, free);
     turn(&inner, turns, out);
-    out.aim_at(env, 0, enter, head);
+    out.aim_at(env, 0, begun.enter, begun.head);
     let steps = Steps {
         address: free2,
         stride: through.stride,
         first: env.free,
     };
-    stepping(env, 0, steps, head, out);
-    out.aim(env, 0, leave);
+    stepping(env, 0, steps, begun.head, out);
+    out.aim(env, 0, begun.leave);
 }
 
 /// A parallel block.
@@ -273,7 +247,9 @@ fn forked_block(env: &Env<'_>, site: u32, count: u32, arms: u32, out: &mut Emitt
     let inside = env.with_nest(nest);
     forking_block(&inside, site, count, arms, out);
     let over = out.gap(&inside, 2);
-    arm_thread(env, site, arms, out);
+    let thread = env.in_threads(site, 4);
+    arms_from(&thread, 0, arms, out);
+    out.put(&thread, 0, Instr::End);
     out.aim(&inside, 2, over);
     out.put(&inside, 2, Instr::Unnest);
 }
@@ -288,7 +264,12 @@ fn forking_block(env: &Env<'_>, site: u32, threads: u32, arms: u32, out: &mut Em
     let last = count.saturating_sub(1);
     out.put(env, 0, Instr::Push(0));
     out.put(env, 1, Instr::Push(i64::from(last)));
-    ask(env, SiteKind::Block(count), site, out);
+    let question = Question {
+        site,
+        kind: SiteKind::Block(count),
+        initial: Instr::Push(0),
+    };
+    ask(env, 0, question, out);
 }
 
 #[tactic(auto, using(crate::proofs::Reading::present_is), unfolding(lower_emission::specs::Emission::chunk_code))]
@@ -311,17 +292,6 @@ fn arms_count(env: &Env<'_>, id: u32, out: &mut Emitter) -> u32
             out.sum(rest, 1)
         }
     }
-}
-
-/// The threads of a block, each of which does the arms of its numbers.
-#[cycle(stmt)]
-#[inline(never)]
-fn arm_thread(env: &Env<'_>, site: u32, id: u32, out: &mut Emitter)
-    ensures { Emits (spec.arms_code (tables env.now) (spec.arm_scope (tables env.now) (env_of env.now) site) 0 (spec.arm_codes (tables env.now) (spec.arm_scope (tables env.now) (env_of env.now) site) (arms_at (nodes env.now) id)) ⨟ one (spec.arm_scope (tables env.now) (env_of env.now) site) 0 i.End) out.old out.new }
-{
-    let inner = env.in_threads(site, 4);
-    arms_from(&inner, 0, id, out);
-    out.put(&inner, 0, Instr::End);
 }
 
 fn in_share(env: &Env<'_>, number: u32, out: &mut Emitter)

@@ -50,18 +50,14 @@ fn assign_whole(env: &Env<'_>, named: Named, check: Check, id: u32, out: &mut Em
     ensures { Emits (emit (tables env.now) (with_target named (env_of env.now)) 0 (expr_at (nodes env.now) id) ⨟ spec.store_checked (env_of env.now) check.scalar named.place.level named.place.cell) out.old out.new }
 {
     emit(&env.with_target(named, env.free), 0, id, out);
-    store_checked(env, check.scalar, named.place, out);
-}
-
-/// The number on the stack is checked, and goes to a cell.
-fn store_checked(env: &Env<'_>, scalar: Scalar, place: Where, out: &mut Emitter)
-    ensures { Emits (spec.store_checked (env_of env.now) scalar place.level place.cell) out.old out.new }
-{
-    match place.level {
-        Level::Own => out.put(env, 1, Instr::SetL(place.cell, scalar.low, scalar.high)),
+    match named.place.level {
+        Level::Own => {
+            let set = Instr::SetL(named.place.cell, check.scalar.low, check.scalar.high);
+            out.put(env, 1, set);
+        }
         Level::Around(_) | Level::Main => {
-            checked(env, 1, scalar, out);
-            out.put(env, 1, store_at(place));
+            checked(env, 0, check.scalar, out);
+            out.put(env, 1, store_at(named.place));
         }
     }
 }
@@ -81,9 +77,9 @@ fn assign_part(
     out.put(env, 0, address_of(named));
     selected(env, 1, selections, out);
     out.put(env, 1, Instr::Dup);
-    out.keep(env, 2, env.free);
+    out.keep(env, 1, env.free);
     emit(&env.with_target(reached(env.free, 1), free), 1, id, out);
-    checked(env, 2, check.scalar, out);
+    checked(env, 1, check.scalar, out);
     out.put(env, 2, Instr::Store);
 }
 
@@ -104,7 +100,7 @@ pub fn assign_cells(
     let free = out.sum(first, cells);
     address(env, 0, found, out);
     selected(env, 1, selections, out);
-    out.keep(env, 1, env.free);
+    out.keep(env, 0, env.free);
     let inner = env.with_target(reached(env.free, cells), free);
     composed(&inner, 0, first, composite, out);
     out.put(env, 0, Instr::LoadL(env.free));
@@ -175,7 +171,7 @@ fn back_one(env: &Env<'_>, from: u32, outside: Scalar, out: &mut Emitter)
     let value = out.sum(from, 1);
     out.put(env, 0, Instr::LoadL(from));
     out.put(env, 1, Instr::LoadL(value));
-    checked(env, 2, outside, out);
+    checked(env, 1, outside, out);
     out.put(env, 2, Instr::Store);
 }
 
@@ -189,22 +185,15 @@ fn back_cells(env: &Env<'_>, from: u32, subtype: u32, out: &mut Emitter)
     out.put(env, 2, Instr::Copy(cells));
 }
 
-/// A loop is left that isn't in the own body.
-fn away(env: &Env<'_>, number: u32, out: &mut Emitter)
-    ensures { Emits (spec.away (env_of env.now) number (env_of env.now).body) out.old out.new }
-{
-    match env.body {
-        Around::Sub(_) => lost(env, 0, out),
-        Around::Site(_) => out.put(env, 0, Instr::Exit(number)),
-    }
-}
-
 /// A loop is left.
 pub fn exiting(env: &Env<'_>, number: u32, out: &mut Emitter)
     ensures { Emits (spec.exiting (env_of env.now) number ((env_of env.now).exits number)) out.old out.new }
 {
     match env.names.exit(number) {
-        None => away(env, number, out),
+        None => match env.body {
+            Around::Sub(_) => lost(env, 0, out),
+            Around::Site(_) => out.put(env, 0, Instr::Exit(number)),
+        },
         Some(to) => out.put(env, 0, Instr::Jump(to)),
     }
 }
@@ -233,8 +222,7 @@ pub fn returning(env: &Env<'_>, h: u32, out: &mut Emitter)
         Leaving::ByReturn => out.put(env, h, Instr::Ret),
         Leaving::ByValue => {
             out.put(env, h, Instr::Push(0));
-            let h1 = out.sum(h, 1);
-            out.put(env, h1, Instr::RetV);
+            out.put_above(env, h, 1, Instr::RetV);
         }
         Leaving::ByEnd => out.put(env, h, Instr::Halt),
         Leaving::ByLeave => out.put(env, h, Instr::Leave),
@@ -262,7 +250,7 @@ pub fn return_value(env: &Env<'_>, id: u32, out: &mut Emitter)
     match env.typed.nodes.value(id) {
         Some(Value::Number { check, value }) => {
             emit(env, 0, value, out);
-            checked(env, 1, check.scalar, out);
+            checked(env, 0, check.scalar, out);
             returning_value(env, out);
         }
         _ => lost(env, 0, out),
@@ -289,7 +277,7 @@ pub fn get(env: &Env<'_>, found: Option<Named>, selections: u32, scalar: Scalar,
     address(env, 0, found, out);
     selected(env, 1, selections, out);
     out.put(env, 1, Instr::Get);
-    checked(env, 2, scalar, out);
+    checked(env, 1, scalar, out);
     out.put(env, 2, Instr::Store);
 }
 

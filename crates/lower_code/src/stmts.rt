@@ -36,11 +36,11 @@ pub fn stmt(env: &Env<'_>, id: u32, out: &mut Emitter)
             ..
         } => match env.typed.nodes.value(value) {
             Some(Value::Number { check, value }) => {
-                let found = env.root(root, out);
+                let found = env.root(false, root, out);
                 assign_number(env, found, selections, check, value, out);
             }
             Some(Value::Cells { composite }) => {
-                let found = env.root(root, out);
+                let found = env.root(false, root, out);
                 assign_cells(env, found, selections, composite, out);
             }
             None => {
@@ -87,7 +87,7 @@ pub fn stmt(env: &Env<'_>, id: u32, out: &mut Emitter)
             scalar,
             ..
         } => {
-            let found = env.root(root, out);
+            let found = env.root(false, root, out);
             get(env, found, selections, scalar, out);
         }
         Stmt::ParallelFor {
@@ -115,7 +115,7 @@ fn case(env: &Env<'_>, value: u32, alternatives: u32, out: &mut Emitter)
     ensures { Emits (spec.stmt (tables env.now) (env_of env.now) (Case (expr_at (nodes env.now) value) (alternatives_at (nodes env.now) alternatives))) out.old out.new }
 {
     emit(env, 0, value, out);
-    out.keep(env, 1, env.free);
+    out.keep(env, 0, env.free);
     let free = out.sum(env.free, 1);
     cases(&env.with_free(free), alternatives, env.free, out);
 }
@@ -169,15 +169,12 @@ fn repeat(env: &Env<'_>, number: u32, condition: u32, stmts: u32, out: &mut Emit
 fn forever(env: &Env<'_>, number: u32, stmts: u32, out: &mut Emitter)
     ensures { Emits (looped (env_of env.now) 0 false (λ exit. one (env_of env.now) 0 i.Turn ⨟ spec.all (tables env.now) (with_exit number exit (env_of env.now)) (stmts_at (nodes env.now) stmts)) (λ head. one (env_of env.now) 0 (i.Jump head))) out.old out.new }
 {
-    let enter = out.gap(env, 0);
-    let leave = out.gap(env, 0);
-    let head = out.here();
-    out.put(env, 0, Instr::Turn);
-    all(&env.with_exit(number, leave), stmts, out);
+    let begun = out.begin(env, 0);
+    all(&env.with_exit(number, begun.leave), stmts, out);
     let test = out.here();
-    out.aim_at(env, 0, enter, test);
-    out.put(env, 0, Instr::Jump(head));
-    out.aim(env, 0, leave);
+    out.aim_at(env, 0, begun.enter, test);
+    out.put(env, 0, Instr::Jump(begun.head));
+    out.aim(env, 0, begun.leave);
 }
 
 #[cycle(stmt)]
@@ -185,14 +182,11 @@ fn forever(env: &Env<'_>, number: u32, stmts: u32, out: &mut Emitter)
 fn while_loop(env: &Env<'_>, number: u32, condition: u32, stmts: u32, out: &mut Emitter)
     ensures { Emits (looped (env_of env.now) 0 false (λ exit. one (env_of env.now) 0 i.Turn ⨟ spec.all (tables env.now) (with_exit number exit (env_of env.now)) (stmts_at (nodes env.now) stmts)) (λ head. value.emit (tables env.now) (env_of env.now) 0 (expr_at (nodes env.now) condition) ⨟ one (env_of env.now) 1 (i.JTrue head))) out.old out.new }
 {
-    let enter = out.gap(env, 0);
-    let leave = out.gap(env, 0);
-    let head = out.here();
-    out.put(env, 0, Instr::Turn);
-    all(&env.with_exit(number, leave), stmts, out);
+    let begun = out.begin(env, 0);
+    all(&env.with_exit(number, begun.leave), stmts, out);
     let test = out.here();
-    out.aim_at(env, 0, enter, test);
+    out.aim_at(env, 0, begun.enter, test);
     emit(env, 0, condition, out);
-    out.put(env, 1, Instr::JTrue(head));
-    out.aim(env, 0, leave);
+    out.put(env, 1, Instr::JTrue(begun.head));
+    out.aim(env, 0, begun.leave);
 }

@@ -1,9 +1,9 @@
 -- Texts by a map of their places.
-use Rattle.std.proofs.Common.{◌≡◌, refl, sym, ap, subst, ◌∙◌, ℕ, suc, ◌+◌, Bool, true, false, List, [], ◌∷◌, ◌++◌, length, Option, Some, None, cond, arith, eqb-true}
-use Rattle.std.proofs.lemmas.Bool.{and_parts, false≢true, eq-eqb}
+use Rattle.std.proofs.Common.{◌≡◌, refl, sym, ap, ◌∙◌, ℕ, suc, ◌+◌, Bool, true, false, List, [], ◌∷◌, ◌++◌, length, Option, Some, None, cond, arith, eqb-true}
+use Rattle.std.proofs.lemmas.Bool.{and_parts, false≢true}
 use Rattle.std.specs.Cmp.Lexicographic.{pointwise}
-use Rattle.std.specs.HashMap.{HashMap, IsEmpty, Updates, get}
-use Rattle.std.specs.Prelude.{Vec, is_some, nat_eq, option_map, ◌&&◌}
+use Rattle.std.specs.HashMap.{HashMap, IsEmpty, Updates}
+use Rattle.std.specs.Prelude.{Vec, is_some, nat_eq, option_map}
 use Rattle.lower_emission.specs.Texts.{is_among, noted, place}
 use Rattle.lower_values.specs.Texts.{found, Listed, same_bytes}
 

@@ -32,7 +32,7 @@ pub fn composed(env: &Env<'_>, h: u32, to: u32, id: u32, out: &mut Emitter)
             subtype,
             ..
         } => {
-            let found = env.root(root, out);
+            let found = env.root(false, root, out);
             let from = Source {
                 found,
                 selections,
@@ -46,7 +46,7 @@ pub fn composed(env: &Env<'_>, h: u32, to: u32, id: u32, out: &mut Emitter)
             subtype,
             ..
         } => {
-            let found = env.constant_root(root, out);
+            let found = env.root(true, root, out);
             let from = Source {
                 found,
                 selections,
@@ -55,12 +55,11 @@ pub fn composed(env: &Env<'_>, h: u32, to: u32, id: u32, out: &mut Emitter)
             copied(env, h, to, from, out);
         }
         Composite::WholeTarget { subtype, .. } => {
-            let h2 = out.sum(h1, 1);
             let cells = cells_of(env, subtype, out);
             let found = env.names.target(out);
             out.put(env, h, Instr::Local(to));
             address(env, h1, found, out);
-            out.put(env, h2, Instr::Copy(cells));
+            out.put_above(env, h, 2, Instr::Copy(cells));
         }
         Composite::If {
             condition,
@@ -207,14 +206,12 @@ struct Progress {
 fn copies(env: &Env<'_>, h: u32, first: u32, size: u32, progress: Progress, out: &mut Emitter)
     ensures { Emits (one (env_of env.now) h (i.Local (first + progress.done * size)) ⨟ one (env_of env.now) (h + 1) (i.Local first) ⨟ one (env_of env.now) (h + 1 + 1) (i.Copy (progress.more * size))) out.old out.new }
 {
-    let h1 = out.sum(h, 1);
-    let h2 = out.sum(h1, 1);
     let behind = product(progress.done, size, out);
     let to = out.sum(first, behind);
     let cells = product(progress.more, size, out);
     out.put(env, h, Instr::Local(to));
-    out.put(env, h1, Instr::Local(first));
-    out.put(env, h2, Instr::Copy(cells));
+    out.put_above(env, h, 1, Instr::Local(first));
+    out.put_above(env, h, 2, Instr::Copy(cells));
 }
 
 #[cycle(emit)]
@@ -257,15 +254,14 @@ pub fn turning(env: &Env<'_>, h: u32, to: u32, turned: Turned, run: Run, out: &m
 pub fn before_turns(env: &Env<'_>, h: u32, first: u32, low: i64, high: i64, out: &mut Emitter)
     ensures { Emits (one (env_of env.now) h (i.Push low) ⨟ keep (env_of env.now) (h + 1) env.now.free ⨟ one (env_of env.now) h (i.Push high) ⨟ keep (env_of env.now) (h + 1) (env.now.free + 1) ⨟ one (env_of env.now) h (i.Local first) ⨟ keep (env_of env.now) (h + 1) (env.now.free + 1 + 1)) out.old out.new }
 {
-    let h1 = out.sum(h, 1);
     let free1 = out.sum(env.free, 1);
     let free2 = out.sum(free1, 1);
     out.put(env, h, Instr::Push(low));
-    out.keep(env, h1, env.free);
+    out.keep(env, h, env.free);
     out.put(env, h, Instr::Push(high));
-    out.keep(env, h1, free1);
+    out.keep(env, h, free1);
     out.put(env, h, Instr::Local(first));
-    out.keep(env, h1, free2);
+    out.keep(env, h, free2);
 }
 
 #[cycle(emit)]
@@ -275,19 +271,16 @@ fn turns(env: &Env<'_>, h: u32, turned: Turned, stride: u32, out: &mut Emitter)
 {
     let free1 = out.sum(env.free, 1);
     let free2 = out.sum(free1, 1);
-    let enter = out.gap(env, h);
-    let leave = out.gap(env, h);
-    let head = out.here();
-    out.put(env, h, Instr::Turn);
+    let begun = out.begin(env, h);
     turned_component(env, h, turned, free2, out);
-    out.aim_at(env, h, enter, head);
+    out.aim_at(env, h, begun.enter, begun.head);
     let steps = Steps {
         address: free2,
         stride,
         first: env.free,
     };
-    stepping(env, h, steps, head, out);
-    out.aim(env, h, leave);
+    stepping(env, h, steps, begun.head, out);
+    out.aim(env, h, begun.leave);
 }
 
 /// The value goes to where the address in a cell says.
@@ -365,11 +358,10 @@ pub struct Steps {
 pub fn stepping(env: &Env<'_>, h: u32, steps: Steps, head: u32, out: &mut Emitter)
     ensures { Emits (spec.stepping (env_of env.now) h steps.address steps.stride steps.first head) out.old out.new }
 {
-    let h1 = out.sum(h, 1);
     let last = out.sum(steps.first, 1);
     out.put(env, h, Instr::LoadL(steps.address));
-    out.put(env, h1, Instr::Field(steps.stride));
-    out.keep(env, h1, steps.address);
+    out.put_above(env, h, 1, Instr::Field(steps.stride));
+    out.keep(env, h, steps.address);
     out.put(env, h, Instr::Next(steps.first, last, head));
 }
 
@@ -381,13 +373,12 @@ pub fn component(env: &Env<'_>, h: u32, at: u32, id: u32, out: &mut Emitter)
     ensures { Emits (spec.component (tables env.now) (env_of env.now) h at (value_at (nodes env.now) id)) out.old out.new }
 {
     let h1 = out.sum(h, 1);
-    let h2 = out.sum(h1, 1);
     match env.typed.nodes.value(id) {
         Some(Value::Number { check, value }) => {
             out.put(env, h, Instr::LoadL(at));
             emit(env, h1, value, out);
-            checked(env, h2, check.scalar, out);
-            out.put(env, h2, Instr::Store);
+            checked(env, h1, check.scalar, out);
+            out.put_above(env, h, 2, Instr::Store);
         }
         Some(Value::Cells { composite }) => component_cells(env, h, at, composite, out),
         None => {
@@ -402,13 +393,11 @@ pub fn component(env: &Env<'_>, h: u32, at: u32, id: u32, out: &mut Emitter)
 fn component_cells(env: &Env<'_>, h: u32, at: u32, id: u32, out: &mut Emitter)
     ensures { Emits (spec.composed (tables env.now) (taking (spec.composite_width (tables env.now) (composite_at (nodes env.now) id)) (env_of env.now)) h env.now.free (composite_at (nodes env.now) id) ⨟ one (env_of env.now) h (i.LoadL at) ⨟ one (taking (spec.composite_width (tables env.now) (composite_at (nodes env.now) id)) (env_of env.now)) (h + 1) (i.Local env.now.free) ⨟ one (env_of env.now) (h + 1 + 1) (i.Copy (spec.composite_width (tables env.now) (composite_at (nodes env.now) id)))) out.old out.new }
 {
-    let h1 = out.sum(h, 1);
-    let h2 = out.sum(h1, 1);
     let cells = composite_width(env, id, out);
     let free = out.sum(env.free, cells);
     let inner = env.with_free(free);
     composed(&inner, h, env.free, id, out);
     out.put(env, h, Instr::LoadL(at));
-    out.put(&inner, h1, Instr::Local(env.free));
-    out.put(env, h2, Instr::Copy(cells));
+    out.put_above(&inner, h, 1, Instr::Local(env.free));
+    out.put_above(env, h, 2, Instr::Copy(cells));
 }

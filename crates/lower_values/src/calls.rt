@@ -146,15 +146,14 @@ fn number_in(env: &Env<'_>, h: u32, target: Target, inside: Scalar, out: &mut Em
     ensures { Emits (spec.address (env_of env.now) h (root_of (env_of env.now) target.root) ⨟ spec.selected (tables env.now) (env_of env.now) (h + 1) (selections_at (nodes env.now) target.selections) ⨟ one (env_of env.now) (h + 1) i.Dup ⨟ keep (env_of env.now) (h + 1 + 1) target.cell ⨟ one (env_of env.now) (h + 1) i.Load ⨟ keep_checked (env_of env.now) (h + 1) inside (target.cell + 1)) out.old out.new }
 {
     let h1 = out.sum(h, 1);
-    let h2 = out.sum(h1, 1);
     let value = out.sum(target.cell, 1);
-    let found = env.root(target.root, out);
+    let found = env.root(false, target.root, out);
     address(env, h, found, out);
     selected(env, h1, target.selections, out);
     out.put(env, h1, Instr::Dup);
-    out.keep(env, h2, target.cell);
+    out.keep(env, h1, target.cell);
     out.put(env, h1, Instr::Load);
-    out.keep_checked(env, h1, inside, value);
+    out.keep_checked(env, h, inside, value);
 }
 
 #[cycle(emit)]
@@ -164,12 +163,12 @@ fn number_out(env: &Env<'_>, h: u32, target: Target, inside: Scalar, out: &mut E
 {
     let h1 = out.sum(h, 1);
     let value = out.sum(target.cell, 1);
-    let found = env.root(target.root, out);
+    let found = env.root(false, target.root, out);
     address(env, h, found, out);
     selected(env, h1, target.selections, out);
-    out.keep(env, h1, target.cell);
+    out.keep(env, h, target.cell);
     out.put(env, h, Instr::Push(inside.low));
-    out.keep(env, h1, value);
+    out.keep(env, h, value);
 }
 
 #[cycle(emit)]
@@ -179,14 +178,13 @@ fn cells_in(env: &Env<'_>, h: u32, target: Target, subtype: u32, out: &mut Emitt
 {
     let h1 = out.sum(h, 1);
     let h2 = out.sum(h1, 1);
-    let h3 = out.sum(h2, 1);
     let value = out.sum(target.cell, 1);
     let cells = cells_of(env, subtype, out);
     out.put(env, h, Instr::Local(value));
-    let found = env.root(target.root, out);
+    let found = env.root(false, target.root, out);
     address(env, h1, found, out);
     selected(env, h2, target.selections, out);
     out.put(env, h2, Instr::Dup);
-    out.keep(env, h3, target.cell);
+    out.keep(env, h2, target.cell);
     out.put(env, h2, Instr::Copy(cells));
 }

@@ -1,14 +1,23 @@
 //! How code is emitted.
 
-ghost use Rattle.std.specs.Prelude.{◌≡◌, ◌+◌, ◌++◌, ◌∷◌, [], length, slice_set};
+ghost use Rattle.std.specs.Prelude.{◌≡◌, ◌+◌, ◌++◌, ◌∷◌, [], length, slice_set, IsTrue};
 ghost use Rattle.lower_emission.specs.Emits.{put, gap, aimed, aimed_at, aimed_false};
 ghost use Rattle.lower_emission.specs.Scope.{forks, keep, keep_checked, mark};
 ghost use Rattle.lower_values.specs.Words.{env_of, Emits, Wrote, Finds, Leaps};
+ghost use Rattle.stack_code.specs.declared.instr.Instr.TheVariants as i;
 
 use crate::types::{Emitter, Env};
 use lower_emission::types::Placed;
 use stack_code::{Instr, SiteKind};
 use typed_tree::Scalar;
+
+/// A loop that has begun: the jump into it and the one out of it, whose aims aren't known yet, and where its turns begin.
+#[derive(Clone, Copy)]
+pub struct Begun {
+    pub enter: u32,
+    pub leave: u32,
+    pub head: u32,
+}
 
 impl Emitter {
     /// An instruction is put at the end, with what holds around it.
@@ -27,21 +36,31 @@ impl Emitter {
         self.push(env.placed(env.free, height, instr));
     }
 
-    /// The top of the stack goes to a cell of the frame.
-    pub fn keep(&mut self, env: &Env<'_>, height: u32, cell: u32)
-        ensures { Emits (keep (env_of env.now) height cell) self.old self.new }
+    /// An instruction is put at the end where so many operands more are on the stack.
+    pub fn put_above(&mut self, env: &Env<'_>, height: u32, operands: u32, instr: Instr)
+        ensures { Wrote (put (mark (env_of env.now)) (height + operands) instr) self.old self.new }
     {
-        let above = self.sum(cell, 1);
-        self.push(env.placed(env.free.max(above), height, Instr::StoreL(cell)));
+        let above = self.sum(height, operands);
+        self.put(env, above, instr);
     }
 
-    /// The same, where the top is one of a subtype's numbers, and else a raise.
-    pub fn keep_checked(&mut self, env: &Env<'_>, height: u32, scalar: Scalar, cell: u32)
-        ensures { Emits (keep_checked (env_of env.now) height scalar cell) self.old self.new }
+    /// The operand above that height goes to a cell of the frame.
+    pub fn keep(&mut self, env: &Env<'_>, height: u32, cell: u32)
+        ensures { Emits (keep (env_of env.now) (height + 1) cell) self.old self.new }
     {
-        let above = self.sum(cell, 1);
+        let above = self.sum(height, 1);
+        let behind = self.sum(cell, 1);
+        self.push(env.placed(env.free.max(behind), above, Instr::StoreL(cell)));
+    }
+
+    /// The same, where the operand is one of a subtype's numbers, and else a raise.
+    pub fn keep_checked(&mut self, env: &Env<'_>, height: u32, scalar: Scalar, cell: u32)
+        ensures { Emits (keep_checked (env_of env.now) (height + 1) scalar cell) self.old self.new }
+    {
+        let above = self.sum(height, 1);
+        let behind = self.sum(cell, 1);
         let set = Instr::SetL(cell, scalar.low, scalar.high);
-        self.push(env.placed(env.free.max(above), height, set));
+        self.push(env.placed(env.free.max(behind), above, set));
     }
 
     /// A construct is begun.
@@ -88,6 +107,17 @@ impl Emitter {
         let at = self.here();
         self.put(env, height, Instr::Jump(0));
         at
+    }
+
+    /// A loop is begun, and a turn of it.
+    pub fn begin(&mut self, env: &Env<'_>, height: u32) -> Begun
+        ensures { IsTrue self.new.whole → IsTrue self.old.whole × ((self.new.code ≡ put (mark (env_of env.now)) height i.Turn (gap (mark (env_of env.now)) height (gap (mark (env_of env.now)) height self.old.code))) × ((result.enter ≡ length self.old.code) × ((result.leave ≡ length (gap (mark (env_of env.now)) height self.old.code)) × (result.head ≡ length (gap (mark (env_of env.now)) height (gap (mark (env_of env.now)) height self.old.code)))))) }
+    {
+        let enter = self.gap(env, height);
+        let leave = self.gap(env, height);
+        let head = self.here();
+        self.put(env, height, Instr::Turn);
+        Begun { enter, leave, head }
     }
 
     /// An instruction that stands already is replaced.

@@ -7,7 +7,7 @@ ghost use Rattle.lower_emission.specs.Scope.{at_free, mark_of, thread_scope};
 ghost use Rattle.lower_values.specs.Words as spec;
 ghost use Rattle.lower_values.specs.Words.{entity, env_of, Learns};
 
-use crate::types::{Emitter, Env, Names};
+use crate::types::{Emitter, Env, Link, Names};
 use lower_emission::types::{Leaving, Level, Named, Placed, Where};
 use stack_code::{Around, Instr, SiteKind};
 use typed_tree::Root;
@@ -61,27 +61,24 @@ impl<'a> Names<'a> {
     {
         match self {
             Names::Outset => None,
-            Names::Object {
-                outer,
-                constant,
-                object,
-                named,
-            } => {
-                if *constant == is_constant && wanted == *object {
-                    Some(*named)
-                } else {
-                    outer.object(is_constant, wanted, out)
+            Names::And { link, outer } => match *link {
+                Link::Object {
+                    constant,
+                    object,
+                    named,
+                } => {
+                    if constant == is_constant && wanted == object {
+                        Some(named)
+                    } else {
+                        outer.object(is_constant, wanted, out)
+                    }
                 }
-            }
-            Names::Thread { outer } => {
-                let found = outer.object(is_constant, wanted, out);
-                moved_named(found, out)
+                Link::Thread => {
+                    let found = outer.object(is_constant, wanted, out);
+                    moved_named(found, out)
+                }
+                _ => outer.object(is_constant, wanted, out),
             },
-            Names::Parameter { outer, .. }
-            | Names::Item { outer, .. }
-            | Names::Target { outer, .. }
-            | Names::Handled { outer, .. }
-            | Names::Exit { outer, .. } => outer.object(is_constant, wanted, out),
         }
     }
 
@@ -91,86 +88,47 @@ impl<'a> Names<'a> {
     {
         match self {
             Names::Outset => None,
-            Names::Parameter {
-                outer,
-                number,
-                place,
-            } => {
-                if wanted == *number {
-                    Some(*place)
-                } else {
-                    outer.parameter(wanted, out)
+            Names::And { link, outer } => match *link {
+                Link::Parameter { number, place } => {
+                    if wanted == number {
+                        Some(place)
+                    } else {
+                        outer.parameter(wanted, out)
+                    }
                 }
-            }
-            Names::Thread { outer } => {
-                let found = outer.parameter(wanted, out);
-                moved_where(found, out)
+                Link::Thread => {
+                    let found = outer.parameter(wanted, out);
+                    moved_where(found, out)
+                }
+                _ => outer.parameter(wanted, out),
             },
-            Names::Object { outer, .. }
-            | Names::Item { outer, .. }
-            | Names::Target { outer, .. }
-            | Names::Handled { outer, .. }
-            | Names::Exit { outer, .. } => outer.parameter(wanted, out),
         }
     }
 
-    /// The item of a number, which may be assigned to.
-    pub fn item(&self, wanted: u32, out: &mut Emitter) -> Option<Named>
-        ensures { Learns (spec.items self.now wanted) out.old result out.new }
+    /// The item of a number, which may be assigned to unless it is constant.
+    pub fn item(&self, is_constant: bool, wanted: u32, out: &mut Emitter) -> Option<Named>
+        ensures { Learns (spec.items self.now is_constant wanted) out.old result out.new }
     {
         match self {
             Names::Outset => None,
-            Names::Item {
-                outer,
-                constant,
-                number,
-                named,
-            } => {
-                if !*constant && wanted == *number {
-                    Some(*named)
-                } else {
-                    outer.item(wanted, out)
+            Names::And { link, outer } => match *link {
+                Link::Item {
+                    constant,
+                    number,
+                    named,
+                } => {
+                    if constant == is_constant && wanted == number {
+                        Some(named)
+                    } else {
+                        outer.item(is_constant, wanted, out)
+                    }
                 }
-            }
-            Names::Thread { outer } => {
-                let found = outer.item(wanted, out);
-                moved_named(found, out)
-            },
-            Names::Object { outer, .. }
-            | Names::Parameter { outer, .. }
-            | Names::Target { outer, .. }
-            | Names::Handled { outer, .. }
-            | Names::Exit { outer, .. } => outer.item(wanted, out),
-        }
-    }
-
-    /// The item of a number, which may not.
-    pub fn constant_item(&self, wanted: u32, out: &mut Emitter) -> Option<Named>
-        ensures { Learns (spec.constant_items self.now wanted) out.old result out.new }
-    {
-        match self {
-            Names::Outset => None,
-            Names::Item {
-                outer,
-                constant,
-                number,
-                named,
-            } => {
-                if *constant && wanted == *number {
-                    Some(*named)
-                } else {
-                    outer.constant_item(wanted, out)
+                Link::Thread => {
+                    let found = outer.item(is_constant, wanted, out);
+                    moved_named(found, out)
                 }
-            }
-            Names::Thread { outer } => {
-                let found = outer.constant_item(wanted, out);
-                moved_named(found, out)
+                _ => outer.item(is_constant, wanted, out),
             },
-            Names::Object { outer, .. }
-            | Names::Parameter { outer, .. }
-            | Names::Target { outer, .. }
-            | Names::Handled { outer, .. }
-            | Names::Exit { outer, .. } => outer.constant_item(wanted, out),
         }
     }
 
@@ -180,16 +138,14 @@ impl<'a> Names<'a> {
     {
         match self {
             Names::Outset => None,
-            Names::Target { named, .. } => Some(*named),
-            Names::Thread { outer } => {
-                let found = outer.target(out);
-                moved_named(found, out)
+            Names::And { link, outer } => match *link {
+                Link::Target { named } => Some(named),
+                Link::Thread => {
+                    let found = outer.target(out);
+                    moved_named(found, out)
+                }
+                _ => outer.target(out),
             },
-            Names::Object { outer, .. }
-            | Names::Parameter { outer, .. }
-            | Names::Item { outer, .. }
-            | Names::Handled { outer, .. }
-            | Names::Exit { outer, .. } => outer.target(out),
         }
     }
 
@@ -199,16 +155,14 @@ impl<'a> Names<'a> {
     {
         match self {
             Names::Outset => None,
-            Names::Handled { place, .. } => Some(*place),
-            Names::Thread { outer } => {
-                let found = outer.handled(out);
-                moved_where(found, out)
+            Names::And { link, outer } => match *link {
+                Link::Handled { place } => Some(place),
+                Link::Thread => {
+                    let found = outer.handled(out);
+                    moved_where(found, out)
+                }
+                _ => outer.handled(out),
             },
-            Names::Object { outer, .. }
-            | Names::Parameter { outer, .. }
-            | Names::Item { outer, .. }
-            | Names::Target { outer, .. }
-            | Names::Exit { outer, .. } => outer.handled(out),
         }
     }
 
@@ -217,52 +171,30 @@ impl<'a> Names<'a> {
         ensures { result ≡ spec.exits self.now wanted }
     {
         match self {
-            Names::Outset | Names::Thread { .. } => None,
-            Names::Exit { outer, number, to } => {
-                if *number == wanted {
-                    Some(*to)
-                } else {
-                    outer.exit(wanted)
+            Names::Outset => None,
+            Names::And { link, outer } => match *link {
+                Link::Exit { number, to } => {
+                    if number == wanted {
+                        Some(to)
+                    } else {
+                        outer.exit(wanted)
+                    }
                 }
-            }
-            Names::Object { outer, .. }
-            | Names::Parameter { outer, .. }
-            | Names::Item { outer, .. }
-            | Names::Target { outer, .. }
-            | Names::Handled { outer, .. } => outer.exit(wanted),
+                Link::Thread => None,
+                _ => outer.exit(wanted),
+            },
         }
     }
 }
 
 impl<'a> Env<'a> {
-    /// What a variable's name begins with.
-    pub fn root(&self, root: Root, out: &mut Emitter) -> Option<Named>
-        ensures { Learns (scope.root_of (env_of self.now) root) out.old result out.new }
-    {
-        match root {
-            Root::Object(object) => self.names.object(false, object, out),
-            Root::Item(item) => self.names.item(item, out),
-        }
-    }
-
-    /// What a constant's name begins with.
-    pub fn constant_root(&self, root: Root, out: &mut Emitter) -> Option<Named>
-        ensures { Learns (scope.constant_root_of (env_of self.now) root) out.old result out.new }
-    {
-        match root {
-            Root::Object(object) => self.names.object(true, object, out),
-            Root::Item(item) => self.names.constant_item(item, out),
-        }
-    }
-
-    /// What the name of an array begins with that a loop goes through.
-    pub fn array_root(&self, constant: bool, root: Root, out: &mut Emitter) -> Option<Named>
+    /// What the name of a variable or a constant begins with.
+    pub fn root(&self, constant: bool, root: Root, out: &mut Emitter) -> Option<Named>
         ensures { Learns (scope.array_root_of constant (env_of self.now) root) out.old result out.new }
     {
-        if constant {
-            self.constant_root(root, out)
-        } else {
-            self.root(root, out)
+        match root {
+            Root::Object(object) => self.names.object(constant, object, out),
+            Root::Item(item) => self.names.item(constant, item, out),
         }
     }
 
@@ -299,12 +231,13 @@ impl<'a> Env<'a> {
     pub fn with_object(&self, constant: bool, object: u32, named: Named, free: u32) -> Env<'_>
         ensures { (env_of result ≡ scope.with_object (entity constant object) named (at_free free (env_of self.now))) × ((result.typed ≡ self.now.typed) × (result.free ≡ free)) }
     {
-        let names = Names::Object {
-            outer: &self.names,
+        let link = Link::Object {
             constant,
             object,
             named,
         };
+        let outer = &self.names;
+        let names = Names::And { link, outer };
         Env {
             names,
             free,
@@ -316,11 +249,9 @@ impl<'a> Env<'a> {
     pub fn with_parameter(&self, number: u32, place: Where, free: u32) -> Env<'_>
         ensures { (env_of result ≡ scope.with_parameter number place (at_free free (env_of self.now))) × ((result.typed ≡ self.now.typed) × (result.free ≡ free)) }
     {
-        let names = Names::Parameter {
-            outer: &self.names,
-            number,
-            place,
-        };
+        let link = Link::Parameter { number, place };
+        let outer = &self.names;
+        let names = Names::And { link, outer };
         Env {
             names,
             free,
@@ -332,12 +263,13 @@ impl<'a> Env<'a> {
     pub fn with_item(&self, constant: bool, number: u32, named: Named, free: u32) -> Env<'_>
         ensures { (env_of result ≡ scope.with_item constant number named (at_free free (env_of self.now))) × ((result.typed ≡ self.now.typed) × (result.free ≡ free)) }
     {
-        let names = Names::Item {
-            outer: &self.names,
+        let link = Link::Item {
             constant,
             number,
             named,
         };
+        let outer = &self.names;
+        let names = Names::And { link, outer };
         Env {
             names,
             free,
@@ -349,10 +281,9 @@ impl<'a> Env<'a> {
     pub fn with_target(&self, named: Named, free: u32) -> Env<'_>
         ensures { (env_of result ≡ scope.with_target named (at_free free (env_of self.now))) × ((result.typed ≡ self.now.typed) × (result.free ≡ free)) }
     {
-        let names = Names::Target {
-            outer: &self.names,
-            named,
-        };
+        let link = Link::Target { named };
+        let outer = &self.names;
+        let names = Names::And { link, outer };
         Env {
             names,
             free,
@@ -364,11 +295,9 @@ impl<'a> Env<'a> {
     pub fn with_exit(&self, number: u32, to: u32) -> Env<'_>
         ensures { (env_of result ≡ scope.with_exit number to (env_of self.now)) × ((result.typed ≡ self.now.typed) × (result.free ≡ self.now.free)) }
     {
-        let names = Names::Exit {
-            outer: &self.names,
-            number,
-            to,
-        };
+        let link = Link::Exit { number, to };
+        let outer = &self.names;
+        let names = Names::And { link, outer };
         Env { names, ..*self }
     }
 
@@ -377,7 +306,10 @@ impl<'a> Env<'a> {
         ensures { (env_of result ≡ at_free free (thread_scope site (env_of self.now))) × ((result.typed ≡ self.now.typed) × (result.free ≡ free)) }
     {
         Env {
-            names: Names::Thread { outer: &self.names },
+            names: Names::And {
+                link: Link::Thread,
+                outer: &self.names,
+            },
             free,
             entry: None,
             leaving: Leaving::ByLeave,

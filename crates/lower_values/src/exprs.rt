@@ -28,11 +28,11 @@ pub fn lost(env: &Env<'_>, h: u32, out: &mut Emitter)
     out.put(env, h, Instr::Raise(Reason::ProgramError));
 }
 
-/// The number on the stack is checked.
+/// The number above that height is checked.
 pub fn checked(env: &Env<'_>, h: u32, scalar: Scalar, out: &mut Emitter)
-    ensures { Emits (spec.checked (env_of env.now) h scalar) out.old out.new }
+    ensures { Emits (spec.checked (env_of env.now) (h + 1) scalar) out.old out.new }
 {
-    out.put(env, h, Instr::Range(scalar.low, scalar.high));
+    out.put_above(env, h, 1, Instr::Range(scalar.low, scalar.high));
 }
 
 fn load(env: &Env<'_>, h: u32, found: Option<Named>, out: &mut Emitter)
@@ -43,8 +43,7 @@ fn load(env: &Env<'_>, h: u32, found: Option<Named>, out: &mut Emitter)
         Some(named) => {
             out.put(env, h, load_of(named.place));
             if named.through {
-                let h1 = out.sum(h, 1);
-                out.put(env, h1, Instr::Load);
+                out.put_above(env, h, 1, Instr::Load);
             }
         }
     }
@@ -97,7 +96,7 @@ fn own_cell(env: &Env<'_>, id: u32, out: &mut Emitter) -> Option<u32>
             selections,
             ..
         } => {
-            let found = env.root(root, out);
+            let found = env.root(false, root, out);
             if is_whole(env, selections) {
                 own_named(found)
             } else {
@@ -109,7 +108,7 @@ fn own_cell(env: &Env<'_>, id: u32, out: &mut Emitter) -> Option<u32>
             selections,
             ..
         } => {
-            let found = env.constant_root(root, out);
+            let found = env.root(true, root, out);
             if is_whole(env, selections) {
                 own_named(found)
             } else {
@@ -120,19 +119,7 @@ fn own_cell(env: &Env<'_>, id: u32, out: &mut Emitter) -> Option<u32>
             let found = env.names.parameter(parameter, out);
             own_where(found)
         }
-        Expr::Static { .. }
-        | Expr::Target { .. }
-        | Expr::Group { .. }
-        | Expr::Unary { .. }
-        | Expr::Binary { .. }
-        | Expr::AndThen { .. }
-        | Expr::OrElse { .. }
-        | Expr::Relation { .. }
-        | Expr::Membership { .. }
-        | Expr::If { .. }
-        | Expr::Convert { .. }
-        | Expr::Call { .. }
-        | Expr::Reduction { .. } => None,
+        _ => None,
     }
 }
 
@@ -142,21 +129,7 @@ fn static_instr(env: &Env<'_>, op: Op, class: Class, right: u32) -> Option<Instr
 {
     match env.typed.nodes.expr(right) {
         Expr::Static { value, .. } => fixed_instr(op, class, value),
-        Expr::Variable { .. }
-        | Expr::Constant { .. }
-        | Expr::Parameter { .. }
-        | Expr::Target { .. }
-        | Expr::Group { .. }
-        | Expr::Unary { .. }
-        | Expr::Binary { .. }
-        | Expr::AndThen { .. }
-        | Expr::OrElse { .. }
-        | Expr::Relation { .. }
-        | Expr::Membership { .. }
-        | Expr::If { .. }
-        | Expr::Convert { .. }
-        | Expr::Call { .. }
-        | Expr::Reduction { .. } => None,
+        _ => None,
     }
 }
 
@@ -173,7 +146,7 @@ pub fn emit(env: &Env<'_>, h: u32, id: u32, out: &mut Emitter)
             selections,
             ..
         } => {
-            let found = env.root(root, out);
+            let found = env.root(false, root, out);
             named(env, h, found, selections, out);
         }
         Expr::Constant {
@@ -181,7 +154,7 @@ pub fn emit(env: &Env<'_>, h: u32, id: u32, out: &mut Emitter)
             selections,
             ..
         } => {
-            let found = env.constant_root(root, out);
+            let found = env.root(true, root, out);
             named(env, h, found, selections, out);
         }
         Expr::Parameter { parameter, .. } => {
@@ -200,8 +173,7 @@ pub fn emit(env: &Env<'_>, h: u32, id: u32, out: &mut Emitter)
             ..
         } => {
             emit(env, h, operand, out);
-            let h1 = out.sum(h, 1);
-            out.put(env, h1, unary_instr(sign, class));
+            out.put_above(env, h, 1, unary_instr(sign, class));
         }
         Expr::Binary {
             op,
@@ -230,8 +202,7 @@ pub fn emit(env: &Env<'_>, h: u32, id: u32, out: &mut Emitter)
         } => {
             between(env, h, value, low, high, out);
             if negated {
-                let h1 = out.sum(h, 1);
-                out.put(env, h1, Instr::Flip);
+                out.put_above(env, h, 1, Instr::Flip);
             }
         }
         Expr::If {
@@ -241,8 +212,7 @@ pub fn emit(env: &Env<'_>, h: u32, id: u32, out: &mut Emitter)
         } => conditional(env, h, condition, value, otherwise, out),
         Expr::Convert { check, value } => {
             emit(env, h, value, out);
-            let h1 = out.sum(h, 1);
-            checked(env, h1, check.scalar, out);
+            checked(env, h, check.scalar, out);
         }
         Expr::Call { sub, actuals, .. } => call(env, h, sub, actuals, out),
         Expr::Reduction { .. } => reduction(env, h, id, out),
@@ -341,8 +311,7 @@ fn indexed(env: &Env<'_>, h: u32, index: u32, low: i64, high: i64, stride: u32, 
         Some(own) => out.put(env, h, Instr::IndexL(own, low, high, stride)),
         None => {
             emit(env, h, index, out);
-            let h1 = out.sum(h, 1);
-            out.put(env, h1, Instr::Index(low, high, stride));
+            out.put_above(env, h, 1, Instr::Index(low, high, stride));
         }
     }
 }
@@ -357,8 +326,7 @@ fn item(env: &Env<'_>, h: u32, index: u32, low: i64, high: i64, stride: u32, out
         Some(own) => out.put(env, h, Instr::ItemL(own, low, high, stride)),
         None => {
             emit(env, h, index, out);
-            let h1 = out.sum(h, 1);
-            out.put(env, h1, Instr::Item(low, high, stride));
+            out.put_above(env, h, 1, Instr::Item(low, high, stride));
         }
     }
 }
@@ -435,8 +403,7 @@ fn applied(env: &Env<'_>, h: u32, operand: u32, instr: Instr, out: &mut Emitter)
     ensures { Emits (spec.emit (tables env.now) (env_of env.now) h (expr_at (nodes env.now) operand) ⨟ one (env_of env.now) (h + 1) instr) out.old out.new }
 {
     emit(env, h, operand, out);
-    let h1 = out.sum(h, 1);
-    out.put(env, h1, instr);
+    out.put_above(env, h, 1, instr);
 }
 
 #[cycle(emit)]
@@ -447,8 +414,7 @@ fn two(env: &Env<'_>, h: u32, left: u32, right: u32, instr: Instr, out: &mut Emi
     emit(env, h, left, out);
     let h1 = out.sum(h, 1);
     emit(env, h1, right, out);
-    let h2 = out.sum(h1, 1);
-    out.put(env, h2, instr);
+    out.put_above(env, h, 2, instr);
 }
 
 #[cycle(emit)]
@@ -502,13 +468,12 @@ fn conditional(env: &Env<'_>, h: u32, condition: u32, value: u32, otherwise: u32
 fn between(env: &Env<'_>, h: u32, value: u32, low: u32, high: u32, out: &mut Emitter)
     ensures { Emits (spec.emit (tables env.now) (env_of env.now) h (expr_at (nodes env.now) value) ⨟ keep (env_of env.now) (h + 1) env.now.free ⨟ spec.emit (tables env.now) (taking 1 (env_of env.now)) h (expr_at (nodes env.now) low) ⨟ keep (env_of env.now) (h + 1) (env.now.free + 1) ⨟ spec.emit (tables env.now) (taking 2 (env_of env.now)) h (expr_at (nodes env.now) high) ⨟ spec.within (env_of env.now) h env.now.free) out.old out.new }
 {
-    let h1 = out.sum(h, 1);
     let free1 = out.sum(env.free, 1);
     let free2 = out.sum(env.free, 2);
     emit(env, h, value, out);
-    out.keep(env, h1, env.free);
+    out.keep(env, h, env.free);
     emit(&env.with_free(free1), h, low, out);
-    out.keep(env, h1, free1);
+    out.keep(env, h, free1);
     emit(&env.with_free(free2), h, high, out);
     within(env, h, env.free, out);
 }
@@ -516,16 +481,13 @@ fn between(env: &Env<'_>, h: u32, value: u32, low: u32, high: u32, out: &mut Emi
 fn within(env: &Env<'_>, h: u32, d: u32, out: &mut Emitter)
     ensures { Emits (spec.within (env_of env.now) h d) out.old out.new }
 {
-    let h1 = out.sum(h, 1);
-    let h2 = out.sum(h1, 1);
-    let h3 = out.sum(h2, 1);
     let d1 = out.sum(d, 1);
-    out.put(env, h1, Instr::LoadL(d));
-    out.put(env, h2, Instr::Ge);
-    out.put(env, h1, Instr::LoadL(d1));
-    out.put(env, h2, Instr::LoadL(d));
-    out.put(env, h3, Instr::Le);
-    out.put(env, h2, Instr::Min);
+    out.put_above(env, h, 1, Instr::LoadL(d));
+    out.put_above(env, h, 2, Instr::Ge);
+    out.put_above(env, h, 1, Instr::LoadL(d1));
+    out.put_above(env, h, 2, Instr::LoadL(d));
+    out.put_above(env, h, 3, Instr::Le);
+    out.put_above(env, h, 2, Instr::Min);
 }
 
 /// A value goes to the cells of the frame from one on.
@@ -538,8 +500,7 @@ pub fn put_into(env: &Env<'_>, h: u32, to: u32, id: u32, out: &mut Emitter)
     match env.typed.nodes.value(id) {
         Some(Value::Number { check, value }) => {
             emit(env, h, value, out);
-            let h1 = out.sum(h, 1);
-            out.keep_checked(env, h1, check.scalar, to);
+            out.keep_checked(env, h, check.scalar, to);
         }
         Some(Value::Cells { composite }) => composed(env, h, to, composite, out),
         None => {

@@ -21,12 +21,10 @@ use typed_tree::{Chunk, Iteration, Root};
 pub fn ascending(env: &Env<'_>, h: u32, d: u32, out: &mut Emitter)
     ensures { Emits (spec.ascending (env_of env.now) h d) out.old out.new }
 {
-    let h1 = out.sum(h, 1);
-    let h2 = out.sum(h1, 1);
     let d1 = out.sum(d, 1);
     out.put(env, h, Instr::LoadL(d));
-    out.put(env, h1, Instr::LoadL(d1));
-    out.put(env, h2, Instr::Le);
+    out.put_above(env, h, 1, Instr::LoadL(d1));
+    out.put_above(env, h, 2, Instr::Le);
 }
 
 /// The bounds that stand in a cell and the next one are checked.
@@ -34,14 +32,13 @@ pub fn bounds_code(env: &Env<'_>, h: u32, d: u32, check: u32, out: &mut Emitter)
     ensures { Emits (spec.bounds_code (env_of env.now) h d (check_at (nodes env.now) check)) out.old out.new }
 {
     if let Some(found) = env.typed.nodes.check(check) {
-        let h1 = out.sum(h, 1);
         let d1 = out.sum(d, 1);
         out.put(env, h, Instr::LoadL(d));
-        checked(env, h1, found.scalar, out);
-        out.put(env, h1, Instr::Pop);
+        checked(env, h, found.scalar, out);
+        out.put_above(env, h, 1, Instr::Pop);
         out.put(env, h, Instr::LoadL(d1));
-        checked(env, h1, found.scalar, out);
-        out.put(env, h1, Instr::Pop);
+        checked(env, h, found.scalar, out);
+        out.put_above(env, h, 1, Instr::Pop);
     }
 }
 
@@ -51,12 +48,11 @@ pub fn bounds_code(env: &Env<'_>, h: u32, d: u32, check: u32, out: &mut Emitter)
 pub fn bounds(env: &Env<'_>, h: u32, low: u32, high: u32, out: &mut Emitter)
     ensures { Emits (spec.emit (tables env.now) (env_of env.now) h (expr_at (nodes env.now) low) ⨟ keep (env_of env.now) (h + 1) env.now.free ⨟ spec.emit (tables env.now) (taking 1 (env_of env.now)) h (expr_at (nodes env.now) high) ⨟ keep (env_of env.now) (h + 1) (env.now.free + 1)) out.old out.new }
 {
-    let h1 = out.sum(h, 1);
     let free1 = out.sum(env.free, 1);
     emit(env, h, low, out);
-    out.keep(env, h1, env.free);
+    out.keep(env, h, env.free);
     emit(&env.with_free(free1), h, high, out);
-    out.keep(env, h1, free1);
+    out.keep(env, h, free1);
 }
 
 /// A range of values, up or down.
@@ -104,34 +100,31 @@ pub fn array_address(env: &Env<'_>, h: u32, array: Array, out: &mut Emitter)
     ensures { Emits (spec.address (env_of env.now) h (array_root_of array.constant (env_of env.now) array.root) ⨟ spec.selected (tables env.now) (env_of env.now) (h + 1) (selections_at (nodes env.now) array.selections) ⨟ keep (env_of env.now) (h + 1) env.now.free) out.old out.new }
 {
     let h1 = out.sum(h, 1);
-    let found = env.array_root(array.constant, array.root, out);
+    let found = env.root(array.constant, array.root, out);
     address(env, h, found, out);
     selected(env, h1, array.selections, out);
-    out.keep(env, h1, env.free);
+    out.keep(env, h, env.free);
 }
 
 /// The first and the last position of an array go to the cells behind that of its address.
 pub fn positions(env: &Env<'_>, h: u32, count: u32, out: &mut Emitter)
     ensures { Emits (one (env_of env.now) h (i.Push (pos 1)) ⨟ keep (env_of env.now) (h + 1) (env.now.free + 1) ⨟ one (env_of env.now) h (i.Push (pos count)) ⨟ keep (env_of env.now) (h + 1) (env.now.free + 1 + 1)) out.old out.new }
 {
-    let h1 = out.sum(h, 1);
     let free1 = out.sum(env.free, 1);
     let free2 = out.sum(free1, 1);
     out.put(env, h, Instr::Push(1));
-    out.keep(env, h1, free1);
+    out.keep(env, h, free1);
     out.put(env, h, Instr::Push(i64::from(count)));
-    out.keep(env, h1, free2);
+    out.keep(env, h, free2);
 }
 
 fn raise_above(env: &Env<'_>, h: u32, d: u32, out: &mut Emitter)
     ensures { Emits (spec.raise_above (env_of env.now) h d) out.old out.new }
 {
-    let h1 = out.sum(h, 1);
-    let h2 = out.sum(h1, 1);
     let d1 = out.sum(d, 1);
     out.put(env, h, Instr::LoadL(d));
-    out.put(env, h1, Instr::LoadL(d1));
-    out.put(env, h2, Instr::Gt);
+    out.put_above(env, h, 1, Instr::LoadL(d1));
+    out.put_above(env, h, 2, Instr::Gt);
     let over = out.gap(env, h);
     out.put(env, h, Instr::Raise(Reason::ProgramError));
     out.aim_false(env, h, over);
@@ -141,13 +134,11 @@ fn raise_above(env: &Env<'_>, h: u32, d: u32, out: &mut Emitter)
 fn raise_beyond(env: &Env<'_>, h: u32, out: &mut Emitter)
     ensures { Emits (spec.raise_beyond (env_of env.now) h) out.old out.new }
 {
-    let h1 = out.sum(h, 1);
-    let h2 = out.sum(h1, 1);
     let free1 = out.sum(env.free, 1);
     out.put(env, h, Instr::LoadL(env.free));
-    out.put(env, h1, Instr::Field(MOST_THREADS));
-    out.put(env, h1, Instr::LoadL(free1));
-    out.put(env, h2, Instr::Le);
+    out.put_above(env, h, 1, Instr::Field(MOST_THREADS));
+    out.put_above(env, h, 1, Instr::LoadL(free1));
+    out.put_above(env, h, 2, Instr::Le);
     let over = out.gap(env, h);
     out.put(env, h, Instr::Raise(Reason::StorageError));
     out.aim_false(env, h, over);
@@ -160,15 +151,13 @@ fn raise_beyond(env: &Env<'_>, h: u32, out: &mut Emitter)
 pub fn thread_numbers(env: &Env<'_>, h: u32, count: u32, out: &mut Emitter)
     ensures { Emits (spec.chunk_code (tables env.now) (env_of env.now) h (Count (expr_at (nodes env.now) count))) out.old out.new }
 {
-    let h1 = out.sum(h, 1);
-    let h2 = out.sum(h1, 1);
     let free1 = out.sum(env.free, 1);
     out.put(env, h, Instr::Push(1));
-    out.keep(env, h1, env.free);
+    out.keep(env, h, env.free);
     emit(&env.with_free(free1), h, count, out);
-    out.put(env, h1, Instr::Push(i64::from(MOST_THREADS)));
-    out.put(env, h2, Instr::Min);
-    out.keep(env, h1, free1);
+    out.put_above(env, h, 1, Instr::Push(i64::from(MOST_THREADS)));
+    out.put_above(env, h, 2, Instr::Min);
+    out.keep(env, h, free1);
     raise_above(env, h, env.free, out);
 }
 
@@ -176,12 +165,11 @@ pub fn thread_numbers(env: &Env<'_>, h: u32, count: u32, out: &mut Emitter)
 pub fn all_threads(env: &Env<'_>, h: u32, out: &mut Emitter)
     ensures { Emits (one (env_of env.now) h (i.Push (pos 1)) ⨟ keep (env_of env.now) (h + 1) env.now.free ⨟ one (env_of env.now) h (i.Push (pos most_threads)) ⨟ keep (env_of env.now) (h + 1) (env.now.free + 1)) out.old out.new }
 {
-    let h1 = out.sum(h, 1);
     let free1 = out.sum(env.free, 1);
     out.put(env, h, Instr::Push(1));
-    out.keep(env, h1, env.free);
+    out.keep(env, h, env.free);
     out.put(env, h, Instr::Push(i64::from(MOST_THREADS)));
-    out.keep(env, h1, free1);
+    out.keep(env, h, free1);
 }
 
 /// The first and the last chunk value, or the numbers of threads, go to the first free cells.
@@ -257,16 +245,15 @@ pub fn course_code(env: &Env<'_>, h: u32, iteration: u32, out: &mut Emitter)
 pub fn ends_code(env: &Env<'_>, h: u32, iteration: u32, out: &mut Emitter)
     ensures { Emits (spec.ends_code (env_of env.now) h (iteration_at (nodes env.now) iteration)) out.old out.new }
 {
-    let h1 = out.sum(h, 1);
     match env.typed.nodes.iteration(iteration) {
         Some(Iteration::Range { .. }) => {
             let free1 = out.sum(env.free, 1);
             out.put(env, h, Instr::LoadL(env.free));
-            out.put(env, h1, Instr::LoadL(free1));
+            out.put_above(env, h, 1, Instr::LoadL(free1));
         }
         Some(Iteration::Components { count, .. }) => {
             out.put(env, h, Instr::Push(1));
-            out.put(env, h1, Instr::Push(i64::from(count)));
+            out.put_above(env, h, 1, Instr::Push(i64::from(count)));
         }
         None => {
             out.whole = false;
@@ -280,7 +267,7 @@ pub fn chunk_env<'a>(env: &'a Env<'_>, chunk: u32) -> Env<'a>
 {
     match env.typed.nodes.chunk(chunk) {
         Some(Chunk::Each { parameter, .. }) => env.with_parameter(parameter, own(0), env.free),
-        _ => *env,
+        _ => env.with_free(env.free),
     }
 }
 
@@ -289,16 +276,11 @@ pub fn chunk_env<'a>(env: &'a Env<'_>, chunk: u32) -> Env<'a>
 pub fn first_item(env: &Env<'_>, h: u32, around: u32, components: Components, out: &mut Emitter)
     ensures { Emits (one (env_of env.now) h (i.LoadO 1 around) ⨟ one (env_of env.now) (h + 1) (i.LoadL env.now.free) ⨟ one (env_of env.now) (h + 1 + 1) (i.Index (pos 1) (pos components.count) components.size) ⨟ keep (env_of env.now) (h + 1) (env.now.free + 1 + 1)) out.old out.new }
 {
-    let h1 = out.sum(h, 1);
-    let h2 = out.sum(h1, 1);
     let free1 = out.sum(env.free, 1);
     let free2 = out.sum(free1, 1);
     out.put(env, h, Instr::LoadO(1, around));
-    out.put(env, h1, Instr::LoadL(env.free));
-    out.put(
-        env,
-        h2,
-        Instr::Index(1, i64::from(components.count), components.size),
-    );
-    out.keep(env, h1, free2);
+    out.put_above(env, h, 1, Instr::LoadL(env.free));
+    let index = Instr::Index(1, i64::from(components.count), components.size);
+    out.put_above(env, h, 2, index);
+    out.keep(env, h, free2);
 }

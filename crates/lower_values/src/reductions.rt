@@ -98,9 +98,8 @@ fn folding(env: &Env<'_>, h: u32, by: Reducer, out: &mut Emitter)
     ensures { Emits (spec.folding (env_of env.now) h by) out.old out.new }
 {
     let h1 = out.sum(h, 1);
-    let h2 = out.sum(h1, 1);
     match by {
-        Reducer::Operator { op, class, .. } => out.put(env, h2, binary_instr(op, class)),
+        Reducer::Operator { op, class, .. } => out.put_above(env, h, 2, binary_instr(op, class)),
         Reducer::Function {
             sub,
             accumulator,
@@ -109,10 +108,10 @@ fn folding(env: &Env<'_>, h: u32, by: Reducer, out: &mut Emitter)
         } => {
             let free1 = out.sum(env.free, 1);
             let number = out.sum(sub, 1);
-            out.keep(env, h2, free1);
-            out.keep_checked(env, h1, accumulator, env.free);
+            out.keep(env, h1, free1);
+            out.keep_checked(env, h, accumulator, env.free);
             out.put(env, h, Instr::LoadL(free1));
-            checked(env, h1, value, out);
+            checked(env, h, value, out);
             out.put(env, h1, Instr::Pop);
             out.put(env, h, Instr::CallAt(number, env.free));
         }
@@ -228,17 +227,14 @@ fn range_folds(
         reverse,
         first: env.free,
     };
-    let enter = out.gap(env, h1);
-    let leave = out.gap(env, h1);
-    let head = out.here();
-    out.put(env, h1, Instr::Turn);
+    let begun = out.begin(env, h1);
     let cell = first_parameter(counted, out);
     let free = out.sum(env.free, 2);
     let inner = env.with_parameter(parameter, own(cell), free);
     fold_turn(&inner, h, turns.filter, turns.fold, out);
-    out.aim_at(env, h1, enter, head);
-    counting(env, h1, counted, head, out);
-    out.aim(env, h1, leave);
+    out.aim_at(env, h1, begun.enter, begun.head);
+    counting(env, h1, counted, begun.head, out);
+    out.aim(env, h1, begun.leave);
 }
 
 /// What a loop goes through: its item, and how far the next is.
@@ -257,21 +253,18 @@ fn item_folds(env: &Env<'_>, h: u32, through: Through, turns: Turns, out: &mut E
     let h1 = out.sum(h, 1);
     let first = out.sum(env.free, 1);
     let free = out.sum(env.free, 3);
-    let enter = out.gap(env, h1);
-    let leave = out.gap(env, h1);
-    let head = out.here();
-    out.put(env, h1, Instr::Turn);
+    let begun = out.begin(env, h1);
     let reached = reached(env.free, through.stride);
     let inner = env.with_item(through.constant, through.item, reached, free);
     fold_turn(&inner, h, turns.filter, turns.fold, out);
-    out.aim_at(env, h1, enter, head);
+    out.aim_at(env, h1, begun.enter, begun.head);
     let steps = Steps {
         address: env.free,
         stride: through.stride,
         first,
     };
-    stepping(env, h1, steps, head, out);
-    out.aim(env, h1, leave);
+    stepping(env, h1, steps, begun.head, out);
+    out.aim(env, h1, begun.leave);
 }
 
 /// A parallel reduction.
@@ -285,15 +278,15 @@ fn fork(env: &Env<'_>, h: u32, parallel: Parallel, forked: Forked, fold: Fold, o
     let free = out.sum(env.free, 1);
     let nest = out.sum(env.nest, 1);
     emit(env, h, parallel.initial, out);
-    out.keep(env, h1, env.free);
+    out.keep(env, h, env.free);
     out.put(env, h, Instr::Nest);
     let inside = env.with_free(free).with_nest(nest);
     let question = Question {
         site: parallel.site,
         kind: reduction_kind(env.typed, fold.by, forked.chunk),
-        initial: env.free,
+        initial: Instr::LoadL(env.free),
     };
-    forking(&inside, h, forked, question, out);
+    forking(&inside, h, forked.chunk, forked.iteration, question, out);
     let over = out.gap(&inside, h1);
     thread(env, parallel.site, forked, fold, out);
     out.aim(&inside, h1, over);
@@ -303,18 +296,25 @@ fn fork(env: &Env<'_>, h: u32, parallel: Parallel, forked: Forked, fold: Fold, o
     combined(&env.with_free(behind), h, fold.by, out);
 }
 
-/// A fork, with what it is asked.
+/// The fork of a loop or a reduction, with what it is asked.
 #[cycle(emit)]
 #[inline(never)]
-fn forking(env: &Env<'_>, h: u32, forked: Forked, question: Question, out: &mut Emitter)
-    ensures { Emits (spec.chunk_code (tables env.now) (env_of env.now) h (chunk_at (nodes env.now) forked.chunk) ⨟ spec.course_code (tables env.now) (taking 2 (env_of env.now)) h (iteration_at (nodes env.now) forked.iteration) ⨟ spec.ends_code (taking 2 (env_of env.now)) h (iteration_at (nodes env.now) forked.iteration)
-        ⨟ one (env_of env.now) (h + 1 + 1) (i.LoadL env.now.free) ⨟ one (env_of env.now) (h + 1 + 1 + 1) (i.LoadL (env.now.free + 1)) ⨟ one (env_of env.now) (h + 1 + 1 + 1 + 1) (i.LoadL question.initial) ⨟ forks (env_of env.now) (h + 1 + 1 + 1 + 1 + 1) question.kind question.site) out.old out.new }
+pub fn forking(
+    env: &Env<'_>,
+    h: u32,
+    chunk: u32,
+    iteration: u32,
+    question: Question,
+    out: &mut Emitter,
+)
+    ensures { Emits (spec.chunk_code (tables env.now) (env_of env.now) h (chunk_at (nodes env.now) chunk) ⨟ spec.course_code (tables env.now) (taking 2 (env_of env.now)) h (iteration_at (nodes env.now) iteration) ⨟ spec.ends_code (taking 2 (env_of env.now)) h (iteration_at (nodes env.now) iteration)
+        ⨟ one (env_of env.now) (h + 1 + 1) (i.LoadL env.now.free) ⨟ one (env_of env.now) (h + 1 + 1 + 1) (i.LoadL (env.now.free + 1)) ⨟ one (env_of env.now) (h + 1 + 1 + 1 + 1) question.initial ⨟ forks (env_of env.now) (h + 1 + 1 + 1 + 1 + 1) question.kind question.site) out.old out.new }
 {
     let free = out.sum(env.free, 2);
-    chunk_code(env, h, forked.chunk, out);
+    chunk_code(env, h, chunk, out);
     let course = env.with_free(free);
-    course_code(&course, h, forked.iteration, out);
-    ends_code(&course, h, forked.iteration, out);
+    course_code(&course, h, iteration, out);
+    ends_code(&course, h, iteration, out);
     ask(env, h, question, out);
 }
 
@@ -330,14 +330,13 @@ fn combined(env: &Env<'_>, h: u32, by: Reducer, out: &mut Emitter)
             value,
             ..
         } => {
-            let h1 = out.sum(h, 1);
-            let h2 = out.sum(h1, 1);
+            let h2 = out.sum(h, 2);
             let number = out.sum(sub, 1);
             let head = out.here();
-            out.put(env, h1, Instr::Part);
+            out.put_above(env, h, 1, Instr::Part);
             let none = out.gap(env, h2);
             reducing(env, h, accumulator, value, out);
-            out.put(env, h1, Instr::CallTo(number, env.free, head));
+            out.put_above(env, h, 1, Instr::CallTo(number, env.free, head));
             out.aim_false(env, h2, none);
             out.put(env, h2, Instr::Pop);
         }
@@ -349,51 +348,44 @@ fn reducing(env: &Env<'_>, h: u32, accumulator: Scalar, value: Scalar, out: &mut
     ensures { Emits (spec.reducing (env_of env.now) h accumulator value) out.old out.new }
 {
     let h1 = out.sum(h, 1);
-    let h2 = out.sum(h1, 1);
     let free1 = out.sum(env.free, 1);
-    out.keep(env, h2, free1);
-    out.keep(env, h1, env.free);
+    out.keep(env, h1, free1);
+    out.keep(env, h, env.free);
     ranged(env, h, env.free, accumulator, out);
     ranged(env, h1, free1, value, out);
-    out.put(env, h2, Instr::Min);
+    out.put_above(env, h, 2, Instr::Min);
 }
 
 /// Tests whether the number in a cell is one of the subtype's.
 fn ranged(env: &Env<'_>, h: u32, cell: u32, subtype: Scalar, out: &mut Emitter)
     ensures { Emits (spec.ranged (env_of env.now) h cell subtype) out.old out.new }
 {
-    let h1 = out.sum(h, 1);
-    let h2 = out.sum(h1, 1);
-    let h3 = out.sum(h2, 1);
     out.put(env, h, Instr::LoadL(cell));
-    out.put(env, h1, Instr::Push(subtype.low));
-    out.put(env, h2, Instr::Ge);
-    out.put(env, h1, Instr::LoadL(cell));
-    out.put(env, h2, Instr::Push(subtype.high));
-    out.put(env, h3, Instr::Le);
-    out.put(env, h2, Instr::Min);
+    out.put_above(env, h, 1, Instr::Push(subtype.low));
+    out.put_above(env, h, 2, Instr::Ge);
+    out.put_above(env, h, 1, Instr::LoadL(cell));
+    out.put_above(env, h, 2, Instr::Push(subtype.high));
+    out.put_above(env, h, 3, Instr::Le);
+    out.put_above(env, h, 2, Instr::Min);
 }
 
-/// A fork's site, what it begins, and the cell of the initial value.
+/// A fork's site, what it begins, and the instruction that gives its initial value.
 #[derive(Clone, Copy)]
-struct Question {
-    site: u32,
-    kind: SiteKind,
-    initial: u32,
+pub struct Question {
+    pub site: u32,
+    pub kind: SiteKind,
+    pub initial: Instr,
 }
 
-fn ask(env: &Env<'_>, h: u32, question: Question, out: &mut Emitter)
-    ensures { Emits (one (env_of env.now) (h + 1 + 1) (i.LoadL env.now.free) ⨟ one (env_of env.now) (h + 1 + 1 + 1) (i.LoadL (env.now.free + 1)) ⨟ one (env_of env.now) (h + 1 + 1 + 1 + 1) (i.LoadL question.initial) ⨟ forks (env_of env.now) (h + 1 + 1 + 1 + 1 + 1) question.kind question.site) out.old out.new }
+/// A fork, whose first and last chunk value are in the first free cells, with what it is asked.
+pub fn ask(env: &Env<'_>, h: u32, question: Question, out: &mut Emitter)
+    ensures { Emits (one (env_of env.now) (h + 1 + 1) (i.LoadL env.now.free) ⨟ one (env_of env.now) (h + 1 + 1 + 1) (i.LoadL (env.now.free + 1)) ⨟ one (env_of env.now) (h + 1 + 1 + 1 + 1) question.initial ⨟ forks (env_of env.now) (h + 1 + 1 + 1 + 1 + 1) question.kind question.site) out.old out.new }
 {
-    let h1 = out.sum(h, 1);
-    let h2 = out.sum(h1, 1);
-    let h3 = out.sum(h2, 1);
-    let h4 = out.sum(h3, 1);
-    let h5 = out.sum(h4, 1);
+    let h5 = out.sum(h, 5);
     let free1 = out.sum(env.free, 1);
-    out.put(env, h2, Instr::LoadL(env.free));
-    out.put(env, h3, Instr::LoadL(free1));
-    out.put(env, h4, Instr::LoadL(question.initial));
+    out.put_above(env, h, 2, Instr::LoadL(env.free));
+    out.put_above(env, h, 3, Instr::LoadL(free1));
+    out.put_above(env, h, 4, question.initial);
     out.fork(env, h5, question.kind, question.site);
 }
 
@@ -481,20 +473,17 @@ fn item_thread(
         count,
     };
     first_item(env, 1, around, components, out);
-    let enter = out.gap(env, 1);
-    let leave = out.gap(env, 1);
-    let head = out.here();
-    out.put(env, 1, Instr::Turn);
+    let begun = out.begin(env, 1);
     let reached = reached(free2, through.stride);
     let inner = env.with_item(through.constant, through.item, reached, free);
     fold_turn(&inner, 0, turns.filter, turns.fold, out);
-    out.aim_at(env, 1, enter, head);
+    out.aim_at(env, 1, begun.enter, begun.head);
     let steps = Steps {
         address: free2,
         stride: through.stride,
         first: env.free,
     };
-    stepping(env, 1, steps, head, out);
-    out.aim(env, 1, leave);
+    stepping(env, 1, steps, begun.head, out);
+    out.aim(env, 1, begun.leave);
     out.aim_false(env, 1, over);
 }

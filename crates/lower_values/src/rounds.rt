@@ -67,11 +67,10 @@ pub fn repeating(env: &Env<'_>, h: u32, to: u32, value: u32, runs: u32, out: &mu
 {
     let count = components_of(env, runs, out);
     if count != 0 {
-        let h1 = out.sum(h, 1);
         let free1 = out.sum(env.free, 1);
         let free = out.sum(env.free, 2);
         out.put(env, h, Instr::Push(0));
-        out.keep(env, h1, env.free);
+        out.keep(env, h, env.free);
         out.put(env, h, Instr::Repeat(count));
         let head = out.here();
         locating_in(env, h, to, Left { number: 0, runs }, out);
@@ -84,10 +83,9 @@ pub fn repeating(env: &Env<'_>, h: u32, to: u32, value: u32, runs: u32, out: &mu
 fn next_round(env: &Env<'_>, h: u32, head: u32, out: &mut Emitter)
     ensures { Emits (one (env_of env.now) h (i.LoadL env.now.free) ⨟ one (env_of env.now) (h + 1) (i.Field 1) ⨟ keep (env_of env.now) (h + 1) env.now.free ⨟ one (env_of env.now) h (i.Again head)) out.old out.new }
 {
-    let h1 = out.sum(h, 1);
     out.put(env, h, Instr::LoadL(env.free));
-    out.put(env, h1, Instr::Field(1));
-    out.keep(env, h1, env.free);
+    out.put_above(env, h, 1, Instr::Field(1));
+    out.keep(env, h, env.free);
     out.put(env, h, Instr::Again(head));
 }
 
@@ -97,16 +95,14 @@ fn locating(env: &Env<'_>, h: u32, to: u32, number: u64, run: Run, out: &mut Emi
     ensures { Emits (spec.locating (env_of env.now) h to number run) out.old out.new }
 {
     if run.count != 0 {
-        let h1 = out.sum(h, 1);
-        let h2 = out.sum(h1, 1);
         let first = out.sum(to, run.first);
         let free1 = out.sum(env.free, 1);
         let low = coded(number, out);
         let high = last_value(low, run.count, out);
         out.put(env, h, Instr::Local(first));
-        out.put(env, h1, Instr::LoadL(env.free));
-        out.put(env, h2, Instr::Index(low, high, run.stride));
-        out.keep(env, h1, free1);
+        out.put_above(env, h, 1, Instr::LoadL(env.free));
+        out.put_above(env, h, 2, Instr::Index(low, high, run.stride));
+        out.keep(env, h, free1);
     }
 }
 
@@ -123,7 +119,10 @@ fn locating_in(env: &Env<'_>, h: u32, to: u32, left: Left, out: &mut Emitter)
                     number,
                     runs: found.rest,
                 };
-                is_before(env, h, number, out);
+                let limit = coded(number, out);
+                out.put(env, h, Instr::LoadL(env.free));
+                out.put_above(env, h, 1, Instr::Push(limit));
+                out.put_above(env, h, 2, Instr::Lt);
                 let first = out.gap(env, h);
                 locating(env, h, to, left.number, found.run, out);
                 let second = out.gap(env, h);
@@ -133,16 +132,4 @@ fn locating_in(env: &Env<'_>, h: u32, to: u32, left: Left, out: &mut Emitter)
             }
         }
     }
-}
-
-/// Whether the number of the round is below that one.
-fn is_before(env: &Env<'_>, h: u32, number: u64, out: &mut Emitter)
-    ensures { Emits (one (env_of env.now) h (i.LoadL env.now.free) ⨟ one (env_of env.now) (h + 1) (i.Push (pos number)) ⨟ one (env_of env.now) (h + 1 + 1) i.Lt) out.old out.new }
-{
-    let h1 = out.sum(h, 1);
-    let h2 = out.sum(h1, 1);
-    let limit = coded(number, out);
-    out.put(env, h, Instr::LoadL(env.free));
-    out.put(env, h1, Instr::Push(limit));
-    out.put(env, h2, Instr::Lt);
 }

@@ -118,19 +118,16 @@ fn run_loop(env: &Env<'_>, h: u32, to: u32, turned: Turned, left: Left, out: &mu
     let h1 = out.sum(h, 1);
     let free1 = out.sum(env.free, 1);
     let free2 = out.sum(free1, 1);
-    let enter = out.gap(env, h1);
-    let leave = out.gap(env, h1);
-    let head = out.here();
-    out.put(env, h1, Instr::Turn);
+    let begun = out.begin(env, h1);
     turned_component(env, h1, turned, free2, out);
-    out.aim_at(env, h1, enter, head);
+    out.aim_at(env, h1, begun.enter, begun.head);
     let goal = Goal {
         to,
         low: turned.parameter.first,
-        head,
+        head: begun.head,
     };
     run_steps(env, h, goal, left, out);
-    out.aim(env, h1, leave);
+    out.aim(env, h1, begun.leave);
 }
 
 /// Where an aggregate's cells begin, the first value of a parameter, and where the turns of a loop begin.
@@ -177,13 +174,11 @@ fn run_step(env: &Env<'_>, h: u32, goal: Goal, number: u32, run: Behind, out: &m
     ensures { Emits (one (env_of env.now) (h + 1) i.Dup ⨟ one (env_of env.now) (h + 1 + 1) (i.Push (pos number)) ⨟ one (env_of env.now) (h + 1 + 1 + 1) i.Eq ⨟ when_ (env_of env.now) (h + 1) (spec.stepping (env_of env.now) (h + 1) (env.now.free + 1 + 1) run.stride env.now.free goal.head ⨟ spec.entering_next (env_of env.now) h goal.to goal.low goal.head run.rest.number (as_runs (part_at (nodes env.now) run.rest.runs)))) out.old out.new }
 {
     let h1 = out.sum(h, 1);
-    let h2 = out.sum(h1, 1);
-    let h3 = out.sum(h2, 1);
     let free1 = out.sum(env.free, 1);
     let address = out.sum(free1, 1);
     out.put(env, h1, Instr::Dup);
-    out.put(env, h2, Instr::Push(i64::from(number)));
-    out.put(env, h3, Instr::Eq);
+    out.put_above(env, h, 2, Instr::Push(i64::from(number)));
+    out.put_above(env, h, 3, Instr::Eq);
     let skip = out.gap(env, h1);
     let steps = Steps {
         address,

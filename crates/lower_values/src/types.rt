@@ -6,44 +6,42 @@ use lower_emission::types::{Leaving, Named, Placed, Where};
 use stack_code::Around;
 use typed_tree::Typed;
 
-/// What names stand for: each link adds one to those outward.
+/// What a link adds to the names outward.
 #[derive(Clone, Copy)]
-pub enum Names<'a> {
-    Outset,
+pub enum Link {
     Object {
-        outer: &'a Names<'a>,
         constant: bool,
         object: u32,
         named: Named,
     },
     Parameter {
-        outer: &'a Names<'a>,
         number: u32,
         place: Where,
     },
     Item {
-        outer: &'a Names<'a>,
         constant: bool,
         number: u32,
         named: Named,
     },
     Target {
-        outer: &'a Names<'a>,
         named: Named,
     },
     Handled {
-        outer: &'a Names<'a>,
         place: Where,
     },
     Exit {
-        outer: &'a Names<'a>,
         number: u32,
         to: u32,
     },
     /// The threads of a construct begin: what is outward is a frame further outward.
-    Thread {
-        outer: &'a Names<'a>,
-    },
+    Thread,
+}
+
+/// What names stand for.
+#[derive(Clone, Copy)]
+pub enum Names<'a> {
+    Outset,
+    And { link: Link, outer: &'a Names<'a> },
 }
 
 /// What is known where code is emitted: the program, names, the texts of the program, the first free cell of the frame, the handler,

@@ -69,9 +69,6 @@ decreases-parallel::item_turns l = 17179869184 * l.turns.stmts + 20
 abbrev pub decreases-parallel::parallel_block : goal.decreases-parallel::parallel_block
 decreases-parallel::parallel_block l = 17179869184 * l.arms + 95
 
-abbrev pub decreases-parallel::arm_thread : goal.decreases-parallel::arm_thread
-decreases-parallel::arm_thread l = 17179869184 * l.id + 10
-
 abbrev pub decreases-parallel::arms_from : goal.decreases-parallel::arms_from
 decreases-parallel::arms_from l = 17179869184 * l.id + 1
 

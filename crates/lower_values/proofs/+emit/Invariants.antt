@@ -150,7 +150,7 @@ abbrev pub decreases-reductions::ordered : goal.decreases-reductions::ordered
 decreases-reductions::ordered l = 17179869184 * max l.initial (max l.forked.iteration l.fold.value) + 90
 
 abbrev pub decreases-reductions::forking : goal.decreases-reductions::forking
-decreases-reductions::forking l = 17179869184 * max l.forked.chunk l.forked.iteration + 20
+decreases-reductions::forking l = 17179869184 * max l.chunk l.iteration + 20
 
 abbrev pub decreases-reductions::thread : goal.decreases-reductions::thread
 decreases-reductions::thread l = 17179869184 * max l.forked.iteration l.fold.value + 70
