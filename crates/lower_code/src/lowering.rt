@@ -1,9 +1,10 @@
 //! The code of a whole program.
 
-ghost use Rattle.std.specs.Prelude.{◌≡◌, ◌∷◌, [], false, get_or, map, IfOk, IfSome};
+ghost use Rattle.std.specs.Prelude.{◌≡◌, ◌∷◌, [], None, false, get_or, map, IfOk, IfSome};
 ghost use Rattle.lower_emission.specs.Bodies.{program_code};
 ghost use Rattle.lower_emission.specs.Emits.{listed};
 ghost use Rattle.lower_emission.specs.Programs as spec;
+ghost use Rattle.lower_emission.specs.Tables.{instrs_from, spots_from, unwinds_from};
 ghost use Rattle.lower_emission.specs.Texts.{place};
 ghost use Rattle.lower_tables.specs.Bodies as tables;
 ghost use Rattle.lower_code.specs.Lowered as lowered;
@@ -19,7 +20,7 @@ use lower_tables::bodies::{Start, sites_of, subs_of};
 use lower_tables::{instrs_of, spots_of, unwinds_of};
 use lower_values::texts::Texts;
 use lower_values::types::{Emitter, Env, Names};
-use stack_code::{Around, Code, Lease};
+use stack_code::{Around, Code, Instr, Lease, Spot, Unwind, Words};
 use std::alloc::{AllocError, Global};
 use typed_tree::Typed;
 
@@ -49,14 +50,15 @@ fn main_start() -> Start
 fn laid_out<'a>(typed: &'a Typed, texts: &'a Texts, alloc: Global) -> Option<Laid>
     ensures { IfSome result (λ laid. lowered.Lays (program_of typed.now) texts.now laid) }
 {
-    let mut out = Emitter {
-        code: Items::new(alloc),
-        whole: true,
-    };
+    let parts = typed.nodes.body(typed.body)?;
     let mut subs = Items::new(alloc);
     if subs.push(main_start()).is_err() {
         return None;
     }
+    let mut out = Emitter {
+        code: Items::new(alloc),
+        whole: true,
+    };
     let env = Env {
         typed,
         names: Names::Outset,
@@ -67,7 +69,6 @@ fn laid_out<'a>(typed: &'a Typed, texts: &'a Texts, alloc: Global) -> Option<Lai
         body: Around::Sub(0),
         nest: 0,
     };
-    let parts = typed.nodes.body(typed.body)?;
     main_declared(&env, parts.decls, &mut out, &mut subs);
     idle_forks(&env, &mut out, alloc);
     laws();
@@ -81,30 +82,52 @@ fn laid_out<'a>(typed: &'a Typed, texts: &'a Texts, alloc: Global) -> Option<Lai
     }
 }
 
+/// The tables that go by instructions alone.
+struct Rows {
+    instrs: Items<Instr>,
+    spots: Items<Spot>,
+    unwind: Items<Unwind>,
+}
+
+fn rows_of(code: &[Placed], alloc: Global) -> Result<Rows, AllocError>
+    ensures { IfOk result (λ rows. rows ≡ record { instrs = instrs_from code.now 0 code.now; spots = spots_from None 0 code.now; unwind = unwinds_from code.now None 0 code.now }) }
+{
+    let instrs = instrs_of(code, alloc)?;
+    let spots = spots_of(code, alloc)?;
+    let unwind = unwinds_of(code, alloc)?;
+    Ok(Rows {
+        instrs,
+        spots,
+        unwind,
+    })
+}
+
 /// The code that was laid out, with its tables.
 #[tactic(auto, using(crate::proofs::Starting::sites_of_typed))]
 fn tabled(
     typed: &Typed,
     laid: Laid,
-    texts: Texts,
+    texts: Items<Words>,
     leases: Items<Items<Lease>>,
     alloc: Global,
 ) -> Result<Code, AllocError>
     ensures { IfOk result (λ code. code ≡ lowered.tabled (program_of typed.now) laid texts leases) }
 {
     let Laid { code, subs: starts } = laid;
-    let subs = subs_of(code.as_slice(), starts, alloc)?;
-    let instrs = instrs_of(code.as_slice(), alloc)?;
-    let spots = spots_of(code.as_slice(), alloc)?;
-    let unwind = unwinds_of(code.as_slice(), alloc)?;
     let sites = sites_of(code.as_slice(), leases, typed.sites.len(), alloc)?;
+    let subs = subs_of(code.as_slice(), starts, alloc)?;
+    let Rows {
+        instrs,
+        spots,
+        unwind,
+    } = rows_of(code.as_slice(), alloc)?;
     Ok(Code {
         instrs,
         spots,
         unwind,
         sites,
         subs,
-        texts: texts.into_list(),
+        texts,
     })
 }
 
@@ -121,7 +144,7 @@ pub fn lower(typed: &Typed, leases: Items<Items<Lease>>, alloc: Global) -> Resul
     let Some(laid) = laid_out(typed, &texts, alloc) else {
         return Err(AllocError);
     };
-    match tabled(typed, laid, texts, leases, alloc) {
+    match tabled(typed, laid, texts.into_list(), leases, alloc) {
         Ok(code) => Ok(code),
         Err(_) => Err(AllocError),
     }
