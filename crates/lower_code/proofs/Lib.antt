@@ -1,5 +1,8 @@
 -- Lemmas.
+pub mod Each
+pub mod ForkFlags
 pub mod Gathered
+pub mod Grown
 pub mod Leavings
 pub mod Levels
 pub mod Missing
@@ -8,4 +11,5 @@ pub mod Programs
 pub mod Reading
 pub mod Starting
 pub mod Subs
+pub mod TableSteps
 pub mod Texts

@@ -7,7 +7,7 @@ use Rattle.lower_emission.specs.Emits.{Emit, written, listed}
 use Rattle.lower_emission.specs.Laws.{WrittenLaw}
 use Rattle.lower_emission.specs.Scope.{Scope, none, ◌⨟◌}
 use Rattle.lower_emission.specs.Programs.{has_fork, idle_fork, idle_forks, is_fork}
-use Rattle.lower_tables.specs.Bodies.{each, flag_after, fork_flags}
+use Rattle.lower_code.specs.BodyTables.{each, flag_after, fork_flags}
 use Rattle.lower_code.specs.Idle.{missing}
 use Rattle.lower_code.proofs.Texts.{drop_at, none_past}
 

@@ -27,9 +27,9 @@ use Rattle.lower_emission.specs.Scope.{Scope, taking}
 use Rattle.lower_emission.specs.Tables.{instrs_from, spots_from, unwinds_from}
 use Rattle.lower_emission.specs.Statements.{defaulted}
 use Rattle.lower_emission.specs.Texts.{place, texts_of}
-use Rattle.lower_tables.specs.declared.bodies.Begun.{Begun}
-use Rattle.lower_tables.specs.declared.bodies.Start.{Start}
-use Rattle.lower_tables.specs.Bodies.{each, fork_flags, fresh, site_after, site_with, sites_from, sub_after, sub_table, sub_with, subs_by}
+use Rattle.lower_code.specs.declared.body_tables.Begun.{Begun}
+use Rattle.lower_code.specs.declared.body_tables.Start.{Start}
+use Rattle.lower_code.specs.BodyTables.{each, fork_flags, fresh, site_after, site_with, sites_from, sub_after, sub_table, sub_with, subs_by}
 use Rattle.lower_values.specs.Words.{program_of}
 use Rattle.lower_code.specs.declared.lowering.Laid.{Laid}
 use Rattle.lower_code.specs.Idle.{missing}

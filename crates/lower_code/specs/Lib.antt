@@ -1,4 +1,5 @@
 -- Definitions of lowering.
+pub mod BodyTables
 pub mod Gathered
 pub mod Idle
 pub mod Lowered

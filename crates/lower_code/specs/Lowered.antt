@@ -8,7 +8,7 @@ use Rattle.lower_emission.specs.Emits.{listed}
 use Rattle.lower_emission.specs.Programs.{at_least, whole_code}
 use Rattle.lower_emission.specs.Tables.{instrs_from, spots_from, unwinds_from}
 use Rattle.lower_emission.specs.Texts.{place}
-use Rattle.lower_tables.specs.Bodies.{site_table, sub_table}
+use Rattle.lower_code.specs.BodyTables.{site_table, sub_table}
 use Rattle.lower_code.specs.Starts.{main_starts}
 use Rattle.lower_code.specs.declared.lowering.Laid.{Laid}
 

@@ -10,7 +10,7 @@ use Rattle.lower_emission.specs.Emission.{put_into, shapes, shapes_cells, width}
 use Rattle.lower_emission.specs.Statements.{defaulted}
 use Rattle.lower_emission.specs.Bodies.{main_object, sub_code, sub_scope}
 use Rattle.lower_emission.specs.Programs.{at_least, has_result, main_halts}
-use Rattle.lower_tables.specs.declared.bodies.Start.{Start}
+use Rattle.lower_code.specs.declared.body_tables.Start.{Start}
 use Rattle.lower_values.specs.declared.types.Emitter.{Emitter}
 
 module _ (program : Program) where

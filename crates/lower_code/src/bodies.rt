@@ -18,10 +18,10 @@ ghost use Rattle.lower_code.specs.Starts.{Begins};
 ghost use Rattle.lower_values.specs.Words.{env_of, entity, nodes, tables, Emits};
 
 use crate::blocks::{block, body as main_body};
+use crate::body_tables::Start;
 use crate::defaults::defaulted;
 use ada_base::{Items, Reason};
 use lower_emission::types::{Leaving, Level, Named, Need, Where};
-use lower_tables::bodies::Start;
 use lower_values::aggregates::held;
 use lower_values::cells::{cells_from, object_cells, width};
 use lower_values::exprs::put_into;

@@ -5,11 +5,11 @@ ghost use Rattle.lower_emission.specs.Emits.{written};
 ghost use Rattle.lower_emission.specs.Programs as programs;
 ghost use Rattle.lower_emission.specs.Scope.{none};
 ghost use Rattle.lower_code.specs.Idle.{missing};
-ghost use Rattle.lower_tables.specs.Bodies.{fork_flags};
+ghost use Rattle.lower_code.specs.BodyTables.{fork_flags};
 ghost use Rattle.lower_values.specs.Words.{env_of, tables, Emits};
 
+use crate::forks::forks_of;
 use ada_base::Reason;
-use lower_tables::forks::forks_of;
 use lower_values::types::{Emitter, Env};
 use stack_code::{Instr, SiteKind};
 use std::alloc::Global;

@@ -3,8 +3,10 @@
 
 pub mod blocks;
 pub mod bodies;
+pub mod body_tables;
 pub mod defaults;
 pub mod exits;
+pub mod forks;
 pub mod gathering;
 pub mod idle;
 pub mod loops;
@@ -13,3 +15,4 @@ pub mod output;
 pub mod parallel;
 pub mod simple;
 pub mod stmts;
+pub mod tables;

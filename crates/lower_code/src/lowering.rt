@@ -1,26 +1,25 @@
 //! The code of a whole program.
 
-ghost use Rattle.std.specs.Prelude.{◌≡◌, ◌∷◌, [], None, false, get_or, map, IfOk, IfSome};
+ghost use Rattle.std.specs.Prelude.{◌≡◌, ◌∷◌, [], false, get_or, map, IfOk, IfSome};
 ghost use Rattle.lower_emission.specs.Bodies.{program_code};
 ghost use Rattle.lower_emission.specs.Emits.{listed};
 ghost use Rattle.lower_emission.specs.Programs as spec;
-ghost use Rattle.lower_emission.specs.Tables.{instrs_from, spots_from, unwinds_from};
 ghost use Rattle.lower_emission.specs.Texts.{place};
-ghost use Rattle.lower_tables.specs.Bodies as tables;
+ghost use Rattle.lower_code.specs.BodyTables as tables;
 ghost use Rattle.lower_code.specs.Lowered as lowered;
 ghost use Rattle.lower_values.specs.Words.{program_of};
 
 use crate::bodies::main_declared;
+use crate::body_tables::{Start, sites_of, subs_of};
 use crate::gathering::texts_of;
 use crate::idle::idle_forks;
+use crate::tables::{Rows, rows_of};
 use ada_base::Items;
 use lower_emission::laws;
 use lower_emission::types::{Leaving, Need, Placed};
-use lower_tables::bodies::{Start, sites_of, subs_of};
-use lower_tables::{instrs_of, spots_of, unwinds_of};
 use lower_values::texts::Texts;
 use lower_values::types::{Emitter, Env, Names};
-use stack_code::{Around, Code, Instr, Lease, Spot, Unwind, Words};
+use stack_code::{Around, Code, Lease, Words};
 use std::alloc::{AllocError, Global};
 use typed_tree::Typed;
 
@@ -80,26 +79,6 @@ fn laid_out<'a>(typed: &'a Typed, texts: &'a Texts, alloc: Global) -> Option<Lai
     } else {
         None
     }
-}
-
-/// The tables that go by instructions alone.
-struct Rows {
-    instrs: Items<Instr>,
-    spots: Items<Spot>,
-    unwind: Items<Unwind>,
-}
-
-fn rows_of(code: &[Placed], alloc: Global) -> Result<Rows, AllocError>
-    ensures { IfOk result (λ rows. rows ≡ record { instrs = instrs_from code.now 0 code.now; spots = spots_from None 0 code.now; unwind = unwinds_from code.now None 0 code.now }) }
-{
-    let instrs = instrs_of(code, alloc)?;
-    let spots = spots_of(code, alloc)?;
-    let unwind = unwinds_of(code, alloc)?;
-    Ok(Rows {
-        instrs,
-        spots,
-        unwind,
-    })
 }
 
 /// The code that was laid out, with its tables.

@@ -1,0 +1,10 @@
+use Rattle.std.proofs.Common.{◌≡◌, ◌-◌, ◌++◌, drop, length}
+use Rattle.std.specs.Prelude.{None}
+use Rattle.lower_emission.specs.Tables as spec
+use Rattle.lower_code.proofs.tables.unwinds_of.Given as goal
+
+abbrev pub invariant-loop-placed : goal.invariant-loop-placed
+invariant-loop-placed l = l.all ++ spec.unwinds_from l.code l.before l.at (drop l.at l.code) ≡ spec.unwinds_from l.code None 0 l.code
+
+abbrev pub decreases-loop-placed : goal.decreases-loop-placed
+decreases-loop-placed l = length l.code - l.at

@@ -1,5 +1,0 @@
--- Lemmas.
-pub mod Each
-pub mod Flags
-pub mod Grown
-pub mod Steps

@@ -1,7 +1,0 @@
-use Rattle.std.proofs.Common.{◌≡◌, ◌++◌, drop}
-use Rattle.std.specs.Vec.Iter.{into_iter_items}
-use Rattle.lower_tables.specs.Bodies as spec
-use Rattle.lower_tables.proofs.bodies.leased.Given as goal
-
-abbrev pub invariant-loop-site : goal.invariant-loop-site
-invariant-loop-site l = (l.all ++ spec.sites_from l.fn.leases l.site-index (drop l.site-index l.begun) ≡ spec.sites_from l.fn.leases 0 l.fn.begun) × (into_iter_items l.rest ≡ drop l.site-index l.fn.leases)

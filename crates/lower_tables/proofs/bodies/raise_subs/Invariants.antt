@@ -1,7 +1,0 @@
-use Rattle.std.proofs.Common.{◌≡◌, drop}
-use Rattle.lower_tables.specs.Bodies as spec
-use Rattle.lower_tables.specs.Bodies.{each}
-use Rattle.lower_tables.proofs.bodies.raise_subs.Given as goal
-
-abbrev pub invariant-loop-placed : goal.invariant-loop-placed
-invariant-loop-placed l = each (λ k s. spec.sub_after (drop l.placed-index l.code) k s) 0 l.subs ≡ each (λ k s. spec.sub_after l.code k s) 0 l.fn.subs

@@ -1,7 +1,0 @@
-use Rattle.std.proofs.Common.{◌≡◌, drop}
-use Rattle.lower_tables.specs.Bodies as spec
-use Rattle.lower_tables.specs.Bodies.{each}
-use Rattle.lower_tables.proofs.forks.flag_forks.Given as goal
-
-abbrev pub invariant-loop-placed : goal.invariant-loop-placed
-invariant-loop-placed l = each (λ k b. spec.flag_after (drop l.placed-index l.code) k b) 0 l.flags ≡ each (λ k b. spec.flag_after l.code k b) 0 l.fn.flags

@@ -1,2 +1,0 @@
--- What tables are made of.
-pub mod Bodies
