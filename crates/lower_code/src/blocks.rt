@@ -268,12 +268,8 @@ fn chosen(env: &Env<'_>, d: u32, id: u32, out: &mut Emitter)
 fn in_span(env: &Env<'_>, d: u32, low: i64, high: i64, out: &mut Emitter)
     ensures { Emits (spec.in_span (env_of env.now) d low high) out.old out.new }
 {
-    out.put(env, 0, Instr::LoadL(d));
-    out.put(env, 1, Instr::Push(low));
-    out.put(env, 2, Instr::Ge);
-    out.put(env, 1, Instr::LoadL(d));
-    out.put(env, 2, Instr::Push(high));
-    out.put(env, 3, Instr::Le);
+    out.operate(env, 0, Instr::LoadL(d), Instr::Push(low), Instr::Ge);
+    out.operate(env, 1, Instr::LoadL(d), Instr::Push(high), Instr::Le);
     out.put(env, 2, Instr::Min);
 }
 

@@ -21,9 +21,13 @@ pub struct Left {
 pub fn left_by(env: &Env<'_>, d: u32, way: u32, out: &mut Emitter)
     ensures { Emits (spec.left_by (env_of env.now) d way) out.old out.new }
 {
-    out.put(env, 0, Instr::LoadL(d));
-    out.put(env, 1, Instr::Push(i64::from(way)));
-    out.put(env, 2, Instr::Eq);
+    out.operate(
+        env,
+        0,
+        Instr::LoadL(d),
+        Instr::Push(i64::from(way)),
+        Instr::Eq,
+    );
 }
 
 fn is_own(number: Option<u32>, n: u32) -> bool

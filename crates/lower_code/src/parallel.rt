@@ -297,12 +297,9 @@ fn arms_count(env: &Env<'_>, id: u32, out: &mut Emitter) -> u32
 fn in_share(env: &Env<'_>, number: u32, out: &mut Emitter)
     ensures { Emits (spec.in_share (tables env.now) (env_of env.now) number) out.old out.new }
 {
-    out.put(env, 0, Instr::LoadL(2));
-    out.put(env, 1, Instr::Push(i64::from(number)));
-    out.put(env, 2, Instr::Le);
-    out.put(env, 1, Instr::Push(i64::from(number)));
-    out.put(env, 2, Instr::LoadL(3));
-    out.put(env, 3, Instr::Le);
+    let number = i64::from(number);
+    out.operate(env, 0, Instr::LoadL(2), Instr::Push(number), Instr::Le);
+    out.operate(env, 1, Instr::Push(number), Instr::LoadL(3), Instr::Le);
     out.put(env, 2, Instr::Min);
 }
 

@@ -103,9 +103,13 @@ pub fn assign_cells(
     out.keep(env, 0, env.free);
     let inner = env.with_target(reached(env.free, cells), free);
     composed(&inner, 0, first, composite, out);
-    out.put(env, 0, Instr::LoadL(env.free));
-    out.put(env, 1, Instr::Local(first));
-    out.put(env, 2, Instr::Copy(cells));
+    out.operate(
+        env,
+        0,
+        Instr::LoadL(env.free),
+        Instr::Local(first),
+        Instr::Copy(cells),
+    );
 }
 
 /// A call of a procedure, and what it copies back.
@@ -180,9 +184,13 @@ fn back_cells(env: &Env<'_>, from: u32, subtype: u32, out: &mut Emitter)
 {
     let value = out.sum(from, 1);
     let cells = cells_of(env, subtype, out);
-    out.put(env, 0, Instr::LoadL(from));
-    out.put(env, 1, Instr::Local(value));
-    out.put(env, 2, Instr::Copy(cells));
+    out.operate(
+        env,
+        0,
+        Instr::LoadL(from),
+        Instr::Local(value),
+        Instr::Copy(cells),
+    );
 }
 
 /// A loop is left.

@@ -209,9 +209,13 @@ fn copies(env: &Env<'_>, h: u32, first: u32, size: u32, progress: Progress, out:
     let behind = product(progress.done, size, out);
     let to = out.sum(first, behind);
     let cells = product(progress.more, size, out);
-    out.put(env, h, Instr::Local(to));
-    out.put_above(env, h, 1, Instr::Local(first));
-    out.put_above(env, h, 2, Instr::Copy(cells));
+    out.operate(
+        env,
+        h,
+        Instr::Local(to),
+        Instr::Local(first),
+        Instr::Copy(cells),
+    );
 }
 
 #[cycle(emit)]

@@ -2,7 +2,7 @@
 
 ghost use Rattle.std.specs.Prelude.{◌≡◌, ◌+◌, ◌++◌, ◌∷◌, [], length, slice_set, IsTrue};
 ghost use Rattle.lower_emission.specs.Emits.{put, gap, aimed, aimed_at, aimed_false};
-ghost use Rattle.lower_emission.specs.Scope.{forks, keep, keep_checked, mark};
+ghost use Rattle.lower_emission.specs.Scope.{◌⨟◌, forks, keep, keep_checked, mark, one};
 ghost use Rattle.lower_values.specs.Words.{env_of, Emits, Wrote, Finds, Leaps};
 ghost use Rattle.stack_code.specs.declared.instr.Instr.TheVariants as i;
 
@@ -42,6 +42,15 @@ impl Emitter {
     {
         let above = self.sum(height, operands);
         self.put(env, above, instr);
+    }
+
+    /// Two operands are pushed, and an instruction takes them.
+    pub fn operate(&mut self, env: &Env<'_>, height: u32, left: Instr, right: Instr, instr: Instr)
+        ensures { Emits (one (env_of env.now) height left ⨟ one (env_of env.now) (height + 1) right ⨟ one (env_of env.now) (height + 1 + 1) instr) self.old self.new }
+    {
+        self.put(env, height, left);
+        self.put_above(env, height, 1, right);
+        self.put_above(env, height, 2, instr);
     }
 
     /// The operand above that height goes to a cell of the frame.

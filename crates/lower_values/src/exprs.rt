@@ -481,12 +481,11 @@ fn between(env: &Env<'_>, h: u32, value: u32, low: u32, high: u32, out: &mut Emi
 fn within(env: &Env<'_>, h: u32, d: u32, out: &mut Emitter)
     ensures { Emits (spec.within (env_of env.now) h d) out.old out.new }
 {
+    let h1 = out.sum(h, 1);
     let d1 = out.sum(d, 1);
-    out.put_above(env, h, 1, Instr::LoadL(d));
+    out.put(env, h1, Instr::LoadL(d));
     out.put_above(env, h, 2, Instr::Ge);
-    out.put_above(env, h, 1, Instr::LoadL(d1));
-    out.put_above(env, h, 2, Instr::LoadL(d));
-    out.put_above(env, h, 3, Instr::Le);
+    out.operate(env, h1, Instr::LoadL(d1), Instr::LoadL(d), Instr::Le);
     out.put_above(env, h, 2, Instr::Min);
 }
 

@@ -22,9 +22,7 @@ pub fn ascending(env: &Env<'_>, h: u32, d: u32, out: &mut Emitter)
     ensures { Emits (spec.ascending (env_of env.now) h d) out.old out.new }
 {
     let d1 = out.sum(d, 1);
-    out.put(env, h, Instr::LoadL(d));
-    out.put_above(env, h, 1, Instr::LoadL(d1));
-    out.put_above(env, h, 2, Instr::Le);
+    out.operate(env, h, Instr::LoadL(d), Instr::LoadL(d1), Instr::Le);
 }
 
 /// The bounds that stand in a cell and the next one are checked.
@@ -122,9 +120,7 @@ fn raise_above(env: &Env<'_>, h: u32, d: u32, out: &mut Emitter)
     ensures { Emits (spec.raise_above (env_of env.now) h d) out.old out.new }
 {
     let d1 = out.sum(d, 1);
-    out.put(env, h, Instr::LoadL(d));
-    out.put_above(env, h, 1, Instr::LoadL(d1));
-    out.put_above(env, h, 2, Instr::Gt);
+    out.operate(env, h, Instr::LoadL(d), Instr::LoadL(d1), Instr::Gt);
     let over = out.gap(env, h);
     out.put(env, h, Instr::Raise(Reason::ProgramError));
     out.aim_false(env, h, over);

@@ -360,12 +360,21 @@ fn reducing(env: &Env<'_>, h: u32, accumulator: Scalar, value: Scalar, out: &mut
 fn ranged(env: &Env<'_>, h: u32, cell: u32, subtype: Scalar, out: &mut Emitter)
     ensures { Emits (spec.ranged (env_of env.now) h cell subtype) out.old out.new }
 {
-    out.put(env, h, Instr::LoadL(cell));
-    out.put_above(env, h, 1, Instr::Push(subtype.low));
-    out.put_above(env, h, 2, Instr::Ge);
-    out.put_above(env, h, 1, Instr::LoadL(cell));
-    out.put_above(env, h, 2, Instr::Push(subtype.high));
-    out.put_above(env, h, 3, Instr::Le);
+    let h1 = out.sum(h, 1);
+    out.operate(
+        env,
+        h,
+        Instr::LoadL(cell),
+        Instr::Push(subtype.low),
+        Instr::Ge,
+    );
+    out.operate(
+        env,
+        h1,
+        Instr::LoadL(cell),
+        Instr::Push(subtype.high),
+        Instr::Le,
+    );
     out.put_above(env, h, 2, Instr::Min);
 }
 

@@ -99,9 +99,8 @@ fn locating(env: &Env<'_>, h: u32, to: u32, number: u64, run: Run, out: &mut Emi
         let free1 = out.sum(env.free, 1);
         let low = coded(number, out);
         let high = last_value(low, run.count, out);
-        out.put(env, h, Instr::Local(first));
-        out.put_above(env, h, 1, Instr::LoadL(env.free));
-        out.put_above(env, h, 2, Instr::Index(low, high, run.stride));
+        let index = Instr::Index(low, high, run.stride);
+        out.operate(env, h, Instr::Local(first), Instr::LoadL(env.free), index);
         out.keep(env, h, free1);
     }
 }
@@ -120,9 +119,13 @@ fn locating_in(env: &Env<'_>, h: u32, to: u32, left: Left, out: &mut Emitter)
                     runs: found.rest,
                 };
                 let limit = coded(number, out);
-                out.put(env, h, Instr::LoadL(env.free));
-                out.put_above(env, h, 1, Instr::Push(limit));
-                out.put_above(env, h, 2, Instr::Lt);
+                out.operate(
+                    env,
+                    h,
+                    Instr::LoadL(env.free),
+                    Instr::Push(limit),
+                    Instr::Lt,
+                );
                 let first = out.gap(env, h);
                 locating(env, h, to, left.number, found.run, out);
                 let second = out.gap(env, h);

@@ -176,9 +176,13 @@ fn run_step(env: &Env<'_>, h: u32, goal: Goal, number: u32, run: Behind, out: &m
     let h1 = out.sum(h, 1);
     let free1 = out.sum(env.free, 1);
     let address = out.sum(free1, 1);
-    out.put(env, h1, Instr::Dup);
-    out.put_above(env, h, 2, Instr::Push(i64::from(number)));
-    out.put_above(env, h, 3, Instr::Eq);
+    out.operate(
+        env,
+        h1,
+        Instr::Dup,
+        Instr::Push(i64::from(number)),
+        Instr::Eq,
+    );
     let skip = out.gap(env, h1);
     let steps = Steps {
         address,
