@@ -1,6 +1,7 @@
 -- Calls and returns, as what they do to a state.
-use Rattle.std.proofs.Common.{◌≡◌, ℕ, ◌≤◌, ◌+◌, ◌-◌, ℤ, List, [], ◌∷◌, ◌++◌, length, Option, sym, ap, ◌∙◌, subst, Box, Global}
-use Rattle.std.specs.Prelude.{map, Result, Ok, Err, OnErr}
+use Rattle.std.proofs.Common.{◌≡◌, ℕ, ◌≤◌, ◌+◌, ◌-◌, ℤ, List, [], ◌∷◌, ◌++◌, length, reverse, Option, sym, ap, ◌∙◌, subst, Box, Global}
+use Rattle.std.specs.Prelude.{map, Result, Ok, Err, IfOk, IsErr, OnErr}
+use Rattle.std.proofs.lemmas.Bool.{false≢true}
 use Rattle.std.proofs.lemmas.List.{reverse-append}
 use Rattle.ada_base.specs.declared.reason.Reason.{Reason}
 use Rattle.stack_code.specs.Machine.{State, Goes, cut, ended, entered, entered_at, ending, pushed_for, unwound}
@@ -36,6 +37,14 @@ tops_last low s w rest ws e f t =
 pub on_err : {A E : Type 0} (r : Result A E) (P : Type 0) → P → OnErr r P
 on_err (Ok a) P h = tt
 on_err (Err e) P h = h
+
+pub no_ok : {A E : Type 0} (r : Result A E) (P : A → Type 0) → IsErr r → IfOk r P
+no_ok (Ok a) P e = absurd (false≢true e)
+no_ok (Err x) P e = tt
+
+-- room for more changes no operand and no caller
+pub same_state : (s : State) (st st' : List ℤ) (ws ws' : List Waiting) → st ≡ st' → ws ≡ ws' → record s { stack = reverse st; waiting = frames_of ws } ≡ record s { stack = reverse st'; waiting = frames_of ws' }
+same_state s st st' ws ws' e f = ap (λ l. record s { stack = reverse l; waiting = frames_of ws }) e ∙ ap (λ l. record s { stack = reverse st'; waiting = frames_of l }) f
 
 -- memory for what the own body keeps and repeats
 pub room_still : (aside : Option (Box Aside Global)) (m m' : Machine) → m'.kept ≡ m.kept → m'.rounds ≡ m.rounds → IsRoomFor aside m.kept.items m.rounds.items → IsRoomFor aside m'.kept.items m'.rounds.items
