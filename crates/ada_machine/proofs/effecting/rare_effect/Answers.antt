@@ -538,3 +538,180 @@ returns-in_default g c = absurd (none c.args.instr refl c.requires.more)
     none instr.Halt e h = c.in_default.not-Halt e
     none (instr.Combine x) e h = c.in_default.not-Combine x e
     none i e h = h
+
+pub call-requires-clause-calm : goal.call-requires-clause-calm
+call-requires-clause-calm g c = c.requires.calm
+
+pub call-requires-clause-within : goal.call-requires-clause-within
+call-requires-clause-within g c = c.requires.within
+
+pub call-requires-clause-next : goal.call-requires-clause-next
+call-requires-clause-next g c = c.requires.next
+
+pub call-requires-clause-whole : goal.call-requires-clause-whole
+call-requires-clause-whole g c = c.requires.whole
+
+pub call_to-requires-clause-calm : goal.call_to-requires-clause-calm
+call_to-requires-clause-calm g c = c.requires.calm
+
+pub call_to-requires-clause-within : goal.call_to-requires-clause-within
+call_to-requires-clause-within g c = c.requires.within
+
+pub call_to-requires-clause-next : goal.call_to-requires-clause-next
+call_to-requires-clause-next g c = c.requires.next
+
+pub call_to-requires-clause-whole : goal.call_to-requires-clause-whole
+call_to-requires-clause-whole g c = c.requires.whole
+
+pub draw-requires-clause-calm : goal.draw-requires-clause-calm
+draw-requires-clause-calm g c = c.requires.calm
+
+pub draw-requires-clause-within : goal.draw-requires-clause-within
+draw-requires-clause-within g c = c.requires.within
+
+pub draw-requires-clause-next : goal.draw-requires-clause-next
+draw-requires-clause-next g c = c.requires.next
+
+pub repeat-requires-clause-calm : goal.repeat-requires-clause-calm
+repeat-requires-clause-calm g c = c.requires.calm
+
+pub repeat-requires-clause-within : goal.repeat-requires-clause-within
+repeat-requires-clause-within g c = c.requires.within
+
+pub repeat-requires-clause-next : goal.repeat-requires-clause-next
+repeat-requires-clause-next g c = c.requires.next
+
+pub again-requires-clause-calm : goal.again-requires-clause-calm
+again-requires-clause-calm g c = c.requires.calm
+
+pub again-requires-clause-within : goal.again-requires-clause-within
+again-requires-clause-within g c = c.requires.within
+
+pub again-requires-clause-next : goal.again-requires-clause-next
+again-requires-clause-next g c = c.requires.next
+
+pub leave_with-requires-clause-calm : goal.leave_with-requires-clause-calm
+leave_with-requires-clause-calm g c = c.requires.calm
+
+pub leave_with-requires-clause-within : goal.leave_with-requires-clause-within
+leave_with-requires-clause-within g c = c.requires.within
+
+pub leave_with-requires-clause-next : goal.leave_with-requires-clause-next
+leave_with-requires-clause-next g c = c.requires.next
+
+pub fork-requires-clause-calm : goal.fork-requires-clause-calm
+fork-requires-clause-calm g c = c.requires.calm
+
+pub fork-requires-clause-within : goal.fork-requires-clause-within
+fork-requires-clause-within g c = c.requires.within
+
+pub fork-requires-clause-next : goal.fork-requires-clause-next
+fork-requires-clause-next g c = c.requires.next
+
+pub nest-requires-clause-calm : goal.nest-requires-clause-calm
+nest-requires-clause-calm g c = c.requires.calm
+
+pub nest-requires-clause-within : goal.nest-requires-clause-within
+nest-requires-clause-within g c = c.requires.within
+
+pub nest-requires-clause-next : goal.nest-requires-clause-next
+nest-requires-clause-next g c = c.requires.next
+
+pub unnest-requires-clause-calm : goal.unnest-requires-clause-calm
+unnest-requires-clause-calm g c = c.requires.calm
+
+pub unnest-requires-clause-within : goal.unnest-requires-clause-within
+unnest-requires-clause-within g c = c.requires.within
+
+pub unnest-requires-clause-next : goal.unnest-requires-clause-next
+unnest-requires-clause-next g c = c.requires.next
+
+pub words-requires-clause-calm : goal.words-requires-clause-calm
+words-requires-clause-calm g c = c.requires.calm
+
+pub words-requires-clause-within : goal.words-requires-clause-within
+words-requires-clause-within g c = c.requires.within
+
+pub words-requires-clause-next : goal.words-requires-clause-next
+words-requires-clause-next g c = c.requires.next
+
+pub put_image-requires-clause-calm : goal.put_image-requires-clause-calm
+put_image-requires-clause-calm g c = c.requires.calm
+
+pub put_image-requires-clause-within : goal.put_image-requires-clause-within
+put_image-requires-clause-within g c = c.requires.within
+
+pub put_image-requires-clause-next : goal.put_image-requires-clause-next
+put_image-requires-clause-next g c = c.requires.next
+
+pub put_truth-requires-clause-calm : goal.put_truth-requires-clause-calm
+put_truth-requires-clause-calm g c = c.requires.calm
+
+pub put_truth-requires-clause-within : goal.put_truth-requires-clause-within
+put_truth-requires-clause-within g c = c.requires.within
+
+pub put_truth-requires-clause-next : goal.put_truth-requires-clause-next
+put_truth-requires-clause-next g c = c.requires.next
+
+pub put_padded-requires-clause-calm : goal.put_padded-requires-clause-calm
+put_padded-requires-clause-calm g c = c.requires.calm
+
+pub put_padded-requires-clause-within : goal.put_padded-requires-clause-within
+put_padded-requires-clause-within g c = c.requires.within
+
+pub put_padded-requires-clause-next : goal.put_padded-requires-clause-next
+put_padded-requires-clause-next g c = c.requires.next
+
+pub send-requires-clause-calm : goal.send-requires-clause-calm
+send-requires-clause-calm g c = c.requires.calm
+
+pub send-requires-clause-within : goal.send-requires-clause-within
+send-requires-clause-within g c = c.requires.within
+
+pub send-requires-clause-next : goal.send-requires-clause-next
+send-requires-clause-next g c = c.requires.next
+
+pub send_line-requires-clause-calm : goal.send_line-requires-clause-calm
+send_line-requires-clause-calm g c = c.requires.calm
+
+pub send_line-requires-clause-within : goal.send_line-requires-clause-within
+send_line-requires-clause-within g c = c.requires.within
+
+pub send_line-requires-clause-next : goal.send_line-requires-clause-next
+send_line-requires-clause-next g c = c.requires.next
+
+pub end_with-requires-clause-calm : goal.end_with-requires-clause-calm
+end_with-requires-clause-calm g c = c.requires.calm
+
+pub end_with-requires-clause-within : goal.end_with-requires-clause-within
+end_with-requires-clause-within g c = c.requires.within
+
+pub end_with-requires-clause-next : goal.end_with-requires-clause-next
+end_with-requires-clause-next g c = c.requires.next
+
+pub combine-requires-clause-calm : goal.combine-requires-clause-calm
+combine-requires-clause-calm g c = c.requires.calm
+
+pub combine-requires-clause-within : goal.combine-requires-clause-within
+combine-requires-clause-within g c = c.requires.within
+
+pub combine-requires-clause-next : goal.combine-requires-clause-next
+combine-requires-clause-next g c = c.requires.next
+
+pub combine-requires-clause-whole : goal.combine-requires-clause-whole
+combine-requires-clause-whole g c = c.requires.whole
+
+pub returns-in-Exit-clause-paused : goal.returns-in-Exit-clause-paused
+returns-in-Exit-clause-paused g c = λ e. cc
+
+pub returns-in-Leave-clause-paused : goal.returns-in-Leave-clause-paused
+returns-in-Leave-clause-paused g c = λ e. cc
+
+pub returns-in-Get-clause-paused : goal.returns-in-Get-clause-paused
+returns-in-Get-clause-paused g c = λ e. cc
+
+pub returns-in-End-clause-paused : goal.returns-in-End-clause-paused
+returns-in-End-clause-paused g c = λ e. cc
+
+pub returns-in-Halt-clause-paused : goal.returns-in-Halt-clause-paused
+returns-in-Halt-clause-paused g c = λ e. cc
