@@ -1,5 +1,5 @@
 -- Numbers of 32 bits, and addresses of cells below 2 ** 30.
-use Rattle.std.proofs.Common.{◌≡◌, ℕ, zero, suc, ℤ, pos, negsuc, ◌+ℤ◌, ◌*ℤ◌, ◌≤ℤ◌, ◌≤◌, ◌<◌, Some, None, true, if◌then◌else◌, ap, arith, w64, FitsSigned}
+use Rattle.std.proofs.Common.{◌≡◌, ℕ, zero, suc, ℤ, pos, negsuc, ◌+ℤ◌, ◌-ℤ◌, ◌*ℤ◌, ◌≤ℤ◌, ◌≤◌, ◌<◌, Some, None, true, if◌then◌else◌, ap, arith, w64, FitsSigned}
 use Rattle.std.proofs.lemmas.Bool.Decides.{nat_tests}
 use Rattle.std.proofs.lemmas.Int.{ints, fits_signed_mul}
 use Rattle.std.specs.Prelude.{◌^◌, int_lt, unsigned_abs}
@@ -48,3 +48,9 @@ above_fits (pos n) (pos k) f g e = record { sfits = grind (arith, ints, nat_test
 above_fits (pos n) (negsuc k) f g e = cc
 above_fits (negsuc zero) y f g e = record { sfits = omega arith }
 above_fits (negsuc (suc n)) y f g e = record { sfits = grind (arith, ints, f.sfits) }
+
+-- and what is above another of 64 bits a last one
+pub below_fits : (x y : ℤ) → FitsSigned w64 x → FitsSigned w64 y → int_lt y x ≡ true → FitsSigned w64 (x -ℤ pos 1)
+below_fits (pos n) y f g e = record { sfits = grind (arith, ints, f.sfits) }
+below_fits (negsuc n) (pos k) f g e = cc
+below_fits (negsuc n) (negsuc k) f g e = record { sfits = grind (arith, ints, nat_tests, g.sfits) }

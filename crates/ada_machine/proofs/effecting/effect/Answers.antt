@@ -105,3 +105,57 @@ returns-in_default-clause-stays g c = c.rare_effect.ensures.stays
 
 pub returns-in_default-clause-looks : goal.returns-in_default-clause-looks
 returns-in_default-clause-looks g c = c.rare_effect.ensures.looks
+
+pub call_at-requires-clause-calm : goal.call_at-requires-clause-calm
+call_at-requires-clause-calm g c = c.requires.calm
+
+pub call_at-requires-clause-within : goal.call_at-requires-clause-within
+call_at-requires-clause-within g c = c.requires.within
+
+pub call_at-requires-clause-next : goal.call_at-requires-clause-next
+call_at-requires-clause-next g c = c.requires.next
+
+pub call_at-requires-clause-whole : goal.call_at-requires-clause-whole
+call_at-requires-clause-whole g c = c.requires.whole
+
+pub return_plain-requires-clause-calm : goal.return_plain-requires-clause-calm
+return_plain-requires-clause-calm g c = c.requires.calm
+
+pub return_plain-requires-clause-within : goal.return_plain-requires-clause-within
+return_plain-requires-clause-within g c = c.requires.within
+
+pub return_plain-requires-clause-next : goal.return_plain-requires-clause-next
+return_plain-requires-clause-next g c = c.requires.next
+
+pub return_plain-requires-clause-whole : goal.return_plain-requires-clause-whole
+return_plain-requires-clause-whole g c = c.requires.whole
+
+pub return_plain-requires-clause-tops : goal.return_plain-requires-clause-tops
+return_plain-requires-clause-tops g c = c.requires.tops
+
+pub return_value-requires-clause-calm : goal.return_value-requires-clause-calm
+return_value-requires-clause-calm g c = c.requires.calm
+
+pub return_value-requires-clause-within : goal.return_value-requires-clause-within
+return_value-requires-clause-within g c = c.requires.within
+
+pub return_value-requires-clause-next : goal.return_value-requires-clause-next
+return_value-requires-clause-next g c = c.requires.next
+
+pub return_value-requires-clause-whole : goal.return_value-requires-clause-whole
+return_value-requires-clause-whole g c = c.requires.whole
+
+pub return_value-requires-clause-tops : goal.return_value-requires-clause-tops
+return_value-requires-clause-tops g c = c.requires.tops
+
+pub rare_effect-requires-clause-calm : goal.rare_effect-requires-clause-calm
+rare_effect-requires-clause-calm g c = c.requires.calm
+
+pub rare_effect-requires-clause-within : goal.rare_effect-requires-clause-within
+rare_effect-requires-clause-within g c = c.requires.within
+
+pub rare_effect-requires-clause-next : goal.rare_effect-requires-clause-next
+rare_effect-requires-clause-next g c = c.requires.next
+
+pub rare_effect-requires-clause-whole : goal.rare_effect-requires-clause-whole
+rare_effect-requires-clause-whole g c = c.requires.whole
