@@ -47,10 +47,6 @@ pub no_ok : {A E : Type 0} (r : Result A E) (P : A → Type 0) → IsErr r → I
 no_ok (Ok a) P e = absurd (false≢true e)
 no_ok (Err x) P e = tt
 
--- room for more changes no operand and no caller
-pub same_state : (s : State) (st st' : List ℤ) (ws ws' : List Waiting) → st ≡ st' → ws ≡ ws' → record s { stack = reverse st; waiting = frames_of ws } ≡ record s { stack = reverse st'; waiting = frames_of ws' }
-same_state s st st' ws ws' e f = ap (λ l. record s { stack = reverse l; waiting = frames_of ws }) e ∙ ap (λ l. record s { stack = reverse st'; waiting = frames_of l }) f
-
 -- memory for what the own body keeps and repeats
 pub room_still : (aside : Option (Box Aside Global)) (m m' : Machine) → m'.kept ≡ m.kept → m'.rounds ≡ m.rounds → IsRoomFor aside m.kept.items m.rounds.items → IsRoomFor aside m'.kept.items m'.rounds.items
 room_still aside m m' e f h = subst (λ r. IsRoomFor aside m'.kept.items r) (sym (ap (λ v. v.items) f)) (subst (λ k. IsRoomFor aside k m.rounds.items) (sym (ap (λ v. v.items) e)) h)

@@ -1,8 +1,8 @@
-use Rattle.std.proofs.Common.{refl, ◌≡◌, ◌+◌, ◌∷◌, [], ◌++◌, ℤ, List, length, reverse, arith, ap, sym, ◌∙◌, SFits, w64}
+use Rattle.std.proofs.Common.{◌≡◌, ◌+◌, ◌∷◌, [], ◌++◌, ℤ, List, length, reverse, arith, ap, sym, ◌∙◌, SFits, w64}
 use Rattle.std.proofs.lemmas.Int.{to_z-of_z}
 use Rattle.stack_code.specs.Machine.{State, entered}
 use Rattle.ada_machine.specs.States.{state_of}
-use Rattle.ada_machine.proofs.Callers.{no_ok, on_err}
+use Rattle.ada_machine.proofs.Callers.{on_err}
 use Rattle.ada_machine.proofs.Doings as doings
 use Rattle.ada_machine.proofs.effecting.enter_next.Goals as goal
 
@@ -56,36 +56,3 @@ returns-in-Ok-clause-fits g c = c.in-Ok.ensures.fits
 
 pub returns-in-Ok-clause-near : goal.returns-in-Ok-clause-near
 returns-in-Ok-clause-near g c = c.in-Ok.ensures.near
-
-pub returns-in_err-reserve-clause-ok : goal.returns-in_err-reserve-clause-ok
-returns-in_err-reserve-clause-ok g c = no_ok c.from_residual.result _ c.from_residual.ensures.0
-
-pub returns-in_err-reserve-clause-fits : goal.returns-in_err-reserve-clause-fits
-returns-in_err-reserve-clause-fits g c = no_ok c.from_residual.result _ c.from_residual.ensures.0
-
-pub returns-in_err-reserve-clause-near : goal.returns-in_err-reserve-clause-near
-returns-in_err-reserve-clause-near g c = no_ok c.from_residual.result _ c.from_residual.ensures.0
-
-pub returns-in_err-reserve-clause-stays : goal.returns-in_err-reserve-clause-stays
-returns-in_err-reserve-clause-stays g c = (refl, λ h. h, refl)
-
-pub put-requires : goal.put-requires
-put-requires g c = omega (arith, c.in_ok-reserve.ensures.ok)
-
-pub enter-requires-clause-turns : goal.enter-requires-clause-turns
-enter-requires-clause-turns g c = c.requires.turns
-
-pub enter-requires-clause-calls : goal.enter-requires-clause-calls
-enter-requires-clause-calls g c = c.requires.calls
-
-pub enter-requires-clause-whole : goal.enter-requires-clause-whole
-enter-requires-clause-whole g c = c.requires.whole
-
-pub take-requires : goal.take-requires
-take-requires g c = omega (arith, ap length c.in-Err.ensures.same.0, c.put.ensures.len)
-
-pub returns-in-Ok-clause-looks : goal.returns-in-Ok-clause-looks
-returns-in-Ok-clause-looks g c = c.enter.ensures.looks
-
-pub returns-in-Err-clause-looks : goal.returns-in-Err-clause-looks
-returns-in-Err-clause-looks g c = c.enter.ensures.looks

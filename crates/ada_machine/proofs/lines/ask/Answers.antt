@@ -1,4 +1,4 @@
-use Rattle.std.proofs.Common.{◌≡◌, ℕ, ℤ, List, ◌∷◌, reverse, Bool, true, false, cond, sym, ap, ◌∙◌, arith, SFits, w64}
+use Rattle.std.proofs.Common.{◌≡◌, ℕ, ℤ, List, ◌∷◌, reverse, Bool, true, false, cond, sym, ap, ◌∙◌, SFits, w64}
 use Rattle.std.proofs.lemmas.Int.{to_z-of_z}
 use Rattle.ada_base.specs.declared.reason.Reason.TheVariants.{StorageError}
 use Rattle.stack_code.specs.Deeds.{Forks, Fails, asked, can_fork, forked, many}
@@ -43,30 +43,3 @@ returns-else-can_fork-clause-deed c =
     forked_by c.args.site c.many-count.result c.many-most.result c.take-initial.result c.take-last_chunk.result c.take-chunk.result c.take-last.result c.take-first.result (reverse c.args.stack.now.items) (reverse c.take-first.new.stack.items)
     (c.take-initial.ensures.top ∙ ap (λ st. c.take-initial.result ∷ st) (c.take-last_chunk.ensures.top ∙ ap (λ st. c.take-last_chunk.result ∷ st) (c.take-chunk.ensures.top ∙ ap (λ st. c.take-chunk.result ∷ st) (c.take-last.ensures.top ∙ ap (λ st. c.take-last.result ∷ st) c.take-first.ensures.top))))
     (simp (f, l) at c.many-count.ensures) (simp (k, m) at c.many-most.ensures) false (sym c.can_fork.ensures ∙ c.if-can_fork.false)
-
-pub take-initial-requires : goal.take-initial-requires
-take-initial-requires c = omega (arith, c.requires.five)
-
-pub take-last_chunk-requires : goal.take-last_chunk-requires
-take-last_chunk-requires c = omega (arith, c.requires.five, c.take-initial.ensures.len)
-
-pub take-chunk-requires : goal.take-chunk-requires
-take-chunk-requires c = omega (arith, c.requires.five, c.take-initial.ensures.len, c.take-last_chunk.ensures.len)
-
-pub take-last-requires : goal.take-last-requires
-take-last-requires c = omega (arith, c.requires.five, c.take-initial.ensures.len, c.take-last_chunk.ensures.len, c.take-chunk.ensures.len)
-
-pub take-first-requires : goal.take-first-requires
-take-first-requires c = omega (arith, c.requires.five, c.take-initial.ensures.len, c.take-last_chunk.ensures.len, c.take-chunk.ensures.len, c.take-last.ensures.len)
-
-pub returns-then-can_fork-clause-len : goal.returns-then-can_fork-clause-len
-returns-then-can_fork-clause-len c = omega (arith, c.take-initial.ensures.len, c.take-last_chunk.ensures.len, c.take-chunk.ensures.len, c.take-last.ensures.len, c.take-first.ensures.len)
-
-pub returns-then-can_fork-clause-room : goal.returns-then-can_fork-clause-room
-returns-then-can_fork-clause-room c = c.take-first.ensures.room ∙ c.take-last.ensures.room ∙ c.take-chunk.ensures.room ∙ c.take-last_chunk.ensures.room ∙ c.take-initial.ensures.room
-
-pub returns-else-can_fork-clause-len : goal.returns-else-can_fork-clause-len
-returns-else-can_fork-clause-len c = omega (arith, c.take-initial.ensures.len, c.take-last_chunk.ensures.len, c.take-chunk.ensures.len, c.take-last.ensures.len, c.take-first.ensures.len)
-
-pub returns-else-can_fork-clause-room : goal.returns-else-can_fork-clause-room
-returns-else-can_fork-clause-room c = c.take-first.ensures.room ∙ c.take-last.ensures.room ∙ c.take-chunk.ensures.room ∙ c.take-last_chunk.ensures.room ∙ c.take-initial.ensures.room
