@@ -1,6 +1,7 @@
 -- Calls and returns, as what they do to a state.
-use Rattle.std.proofs.Common.{◌≡◌, ℕ, ◌≤◌, ◌+◌, ◌-◌, ℤ, List, [], ◌∷◌, ◌++◌, length, Option, sym, ap, ◌∙◌, subst, Box, Global}
-use Rattle.std.specs.Prelude.{map, Result, Ok, Err, OnErr}
+use Rattle.std.proofs.Common.{◌≡◌, ℕ, ◌≤◌, ◌+◌, ◌-◌, ℤ, List, [], ◌∷◌, ◌++◌, length, reverse, Option, Some, None, refl, sym, ap, ◌∙◌, subst, Box, Global}
+use Rattle.std.specs.Prelude.{map, Result, Ok, Err, IfOk, IsErr, OnErr}
+use Rattle.std.proofs.lemmas.Bool.{false≢true}
 use Rattle.std.proofs.lemmas.List.{reverse-append}
 use Rattle.ada_base.specs.declared.reason.Reason.{Reason}
 use Rattle.stack_code.specs.Machine.{State, Goes, cut, ended, entered, entered_at, ending, pushed_for, unwound}
@@ -12,7 +13,8 @@ use Rattle.ada_machine.specs.declared.calls.Entry.{Entry}
 use Rattle.ada_machine.specs.declared.machine.Aside.{Aside}
 use Rattle.ada_machine.specs.declared.machine.Machine.{Machine}
 use Rattle.ada_machine.specs.declared.machine.Waiting.{Waiting}
-use Rattle.ada_machine.specs.States.{frame_of, frames_of, begins, IsRoomFor}
+use Rattle.stack_code.specs.declared.path.Round.{Round}
+use Rattle.ada_machine.specs.States.{state_of, kept_of, rounds_of, frame_of, frames_of, begins, IsRoomFor}
 
 pub frames_last : (ws rest : List Waiting) (w : Waiting) → ws ≡ rest ++ w ∷ [] → frames_of ws ≡ frame_of w ∷ frames_of rest
 frames_last ws rest w e = ap frames_of e ∙ ap (λ l. map frame_of l) (reverse-append rest (w ∷ []))
@@ -37,9 +39,32 @@ pub on_err : {A E : Type 0} (r : Result A E) (P : Type 0) → P → OnErr r P
 on_err (Ok a) P h = tt
 on_err (Err e) P h = h
 
+pub none_of : {A : Type 0} (o : Option A) → ((x : A) → o ≡ Some x → ⊥) → o ≡ None
+none_of None h = refl
+none_of (Some x) h = absurd (h x refl)
+
+pub no_ok : {A E : Type 0} (r : Result A E) (P : A → Type 0) → IsErr r → IfOk r P
+no_ok (Ok a) P e = absurd (false≢true e)
+no_ok (Err x) P e = tt
+
 -- memory for what the own body keeps and repeats
 pub room_still : (aside : Option (Box Aside Global)) (m m' : Machine) → m'.kept ≡ m.kept → m'.rounds ≡ m.rounds → IsRoomFor aside m.kept.items m.rounds.items → IsRoomFor aside m'.kept.items m'.rounds.items
 room_still aside m m' e f h = subst (λ r. IsRoomFor aside m'.kept.items r) (sym (ap (λ v. v.items) f)) (subst (λ k. IsRoomFor aside k m.rounds.items) (sym (ap (λ v. v.items) e)) h)
+
+-- a body begins once what the own one keeps and repeats is set aside
+pub begun : (f : CodeSub) (e : Entry) (m m' : Machine) (aside : Option (Box Aside Global)) (ws : List Waiting) (cells : List Cell) → m' ≡ record m { kept = m'.kept; rounds = m'.rounds } → m'.kept.items ≡ [] → m'.rounds.items ≡ [] → kept_of aside ≡ reverse m.kept.items → rounds_of aside ≡ reverse m.rounds.items
+    → ws ≡ m'.waiting.items ++ record { at = m'.pc; to = e.to; floor = m'.floor; base = m'.base; nest = m'.nest; aside = aside; top = e.top } ∷ []
+    → record (state_of m' cells) { pc = f.entry; floor = e.floor; nest = 0; base = e.base; waiting = frames_of ws; calls = m'.calls + 1; turns = m'.turns + 1 } ≡ begins f e (state_of m cells)
+begun f e m m' aside ws cells same a b c d w =
+    let at : Machine → List ℤ → List Round → List ℤ → List Round → State = λ q kept rounds was_kept was_rounds. record (begins f e (state_of q cells)) {
+      kept = kept;
+      rounds = rounds;
+      waiting = record { at = q.pc; to = e.to; floor = q.floor; base = q.base; nest = q.nest; kept = was_kept; rounds = was_rounds; top = e.top } ∷ frames_of q.waiting.items;
+    } in
+    ap (λ fs. record (state_of m' cells) { pc = f.entry; floor = e.floor; nest = 0; base = e.base; waiting = fs; calls = m'.calls + 1; turns = m'.turns + 1 }) (frames_more m'.waiting.items ws _ w)
+    ∙ ap (λ q. at q (reverse m'.kept.items) (reverse m'.rounds.items) (kept_of aside) (rounds_of aside)) same
+    ∙ ap (λ k. at m (reverse k) (reverse m'.rounds.items) (kept_of aside) (rounds_of aside)) a ∙ ap (λ r. at m [] (reverse r) (kept_of aside) (rounds_of aside)) b
+    ∙ ap (λ k. at m [] [] k (rounds_of aside)) c ∙ ap (λ r. at m [] [] (reverse m.kept.items) r) d
 
 -- a body that begins is a call
 pub begins_entered : (f : CodeSub) (e : Entry) (to : ℕ) (s : State) (cells : List Cell) → e.to ≡ to → e.floor ≡ length s.stack - f.takes → e.base ≡ length s.cells → e.top ≡ length s.cells → cells ≡ s.cells ++ zeros f.frame

@@ -1,7 +1,7 @@
 use Rattle.std.proofs.Common.{length, refl, ap, ◌∙◌, arith}
 use Rattle.std.proofs.lemmas.List.{length-reverse}
 use Rattle.ada_machine.specs.States.{state_of, begins}
-use Rattle.ada_machine.proofs.Callers.{on_err, begins_entered, room_still}
+use Rattle.ada_machine.proofs.Callers.{no_ok, on_err, begins_entered, room_still}
 use Rattle.ada_machine.proofs.calls.enter.Goals as goal
 
 pub returns-in_err-top-clause-err : goal.returns-in_err-top-clause-err
@@ -55,3 +55,30 @@ returns-in_err-top-clause-same g c = on_err c.from_residual-in_err-top.result _ 
 
 pub returns-in_err-aside-clause-same : goal.returns-in_err-aside-clause-same
 returns-in_err-aside-clause-same g c = on_err c.from_residual.result _ (refl, refl)
+
+pub returns-in_err-aside-clause-ok : goal.returns-in_err-aside-clause-ok
+returns-in_err-aside-clause-ok g c = no_ok c.from_residual.result _ c.from_residual.ensures.0
+
+pub returns-in_err-aside-clause-fits : goal.returns-in_err-aside-clause-fits
+returns-in_err-aside-clause-fits g c = no_ok c.from_residual.result _ c.from_residual.ensures.0
+
+pub returns-in_err-aside-clause-near : goal.returns-in_err-aside-clause-near
+returns-in_err-aside-clause-near g c = no_ok c.from_residual.result _ c.from_residual.ensures.0
+
+pub returns-in_err-top-clause-ok : goal.returns-in_err-top-clause-ok
+returns-in_err-top-clause-ok g c = no_ok c.from_residual-in_err-top.result _ c.from_residual-in_err-top.ensures.0
+
+pub returns-in_err-top-clause-fits : goal.returns-in_err-top-clause-fits
+returns-in_err-top-clause-fits g c = no_ok c.from_residual-in_err-top.result _ c.from_residual-in_err-top.ensures.0
+
+pub returns-in_err-top-clause-near : goal.returns-in_err-top-clause-near
+returns-in_err-top-clause-near g c = no_ok c.from_residual-in_err-top.result _ c.from_residual-in_err-top.ensures.0
+
+pub overflow_sub-floor : goal.overflow_sub-floor
+overflow_sub-floor g c = omega (arith, c.requires.takes, c.len.ensures, ap length c.make_room.ensures.same.3)
+
+pub returns-clause-fits : goal.returns-clause-fits
+returns-clause-fits g c = omega (arith, c.begin_body.ensures.floor, c.begin_body.ensures.room, c.len.ensures, c.in_ok-top.ensures.ok.2)
+
+pub returns-clause-near : goal.returns-clause-near
+returns-clause-near g c = omega (arith, c.begin_body.ensures.base, c.if-base-gt-FARTHEST.false)

@@ -2,7 +2,7 @@ use Rattle.std.proofs.Common.{◌+◌, length, refl, ap, ◌∙◌, arith}
 use Rattle.std.proofs.lemmas.List.{length-reverse}
 use Rattle.ada_machine.specs.declared.calls.Entry.{Entry}
 use Rattle.ada_machine.specs.States.{state_of, begins}
-use Rattle.ada_machine.proofs.Callers.{on_err, begins_entered_at, room_still}
+use Rattle.ada_machine.proofs.Callers.{no_ok, on_err, begins_entered_at, room_still}
 use Rattle.ada_machine.proofs.calls.enter_at.Goals as goal
 
 pub returns-in_err-top-clause-err : goal.returns-in_err-top-clause-err
@@ -51,3 +51,30 @@ returns-clause-stays g c = c.make_room.ensures.stays
 
 pub returns-clause-looks : goal.returns-clause-looks
 returns-clause-looks g c = c.begin_body.ensures.looks ∙ c.make_room.ensures.looks
+
+pub returns-in_err-aside-clause-ok : goal.returns-in_err-aside-clause-ok
+returns-in_err-aside-clause-ok g c = no_ok c.from_residual.result _ c.from_residual.ensures.0
+
+pub returns-in_err-aside-clause-fits : goal.returns-in_err-aside-clause-fits
+returns-in_err-aside-clause-fits g c = no_ok c.from_residual.result _ c.from_residual.ensures.0
+
+pub returns-in_err-aside-clause-near : goal.returns-in_err-aside-clause-near
+returns-in_err-aside-clause-near g c = no_ok c.from_residual.result _ c.from_residual.ensures.0
+
+pub returns-in_err-top-clause-ok : goal.returns-in_err-top-clause-ok
+returns-in_err-top-clause-ok g c = no_ok c.from_residual-in_err-top.result _ c.from_residual-in_err-top.ensures.0
+
+pub returns-in_err-top-clause-fits : goal.returns-in_err-top-clause-fits
+returns-in_err-top-clause-fits g c = no_ok c.from_residual-in_err-top.result _ c.from_residual-in_err-top.ensures.0
+
+pub returns-in_err-top-clause-near : goal.returns-in_err-top-clause-near
+returns-in_err-top-clause-near g c = no_ok c.from_residual-in_err-top.result _ c.from_residual-in_err-top.ensures.0
+
+pub overflow_add-base : goal.overflow_add-base
+overflow_add-base g c = record { fits = omega (arith, c.requires.near, c.from.ensures, c.ranges.cell.fits) }
+
+pub returns-clause-fits : goal.returns-clause-fits
+returns-clause-fits g c = omega (arith, c.begin_body.ensures.floor, c.begin_body.ensures.room, c.len-floor.ensures, c.in_ok-top.ensures.ok.2)
+
+pub returns-clause-near : goal.returns-clause-near
+returns-clause-near g c = omega (arith, c.begin_body.ensures.base, c.if-base-gt-FARTHEST.false)

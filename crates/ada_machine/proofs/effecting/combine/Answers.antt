@@ -149,3 +149,21 @@ returns-in-Ok-clause-looks g c = looks_kept went.On c.args.m.now.kept.items _ _ 
 
 pub returns-in-Err-clause-looks : goal.returns-in-Err-clause-looks
 returns-in-Err-clause-looks g c = c.enter_next.ensures.looks
+
+pub overflow_add-m : goal.overflow_add-m
+overflow_add-m g c = record { fits = omega (arith, c.requires.next) }
+
+pub overflow_add-m-then-m-ge-MOST_CALLS : goal.overflow_add-m-then-m-ge-MOST_CALLS
+overflow_add-m-then-m-ge-MOST_CALLS g c = record { fits = omega (arith, c.requires.within, c.if-m-limit.false, c.ranges.limit.fits) }
+
+pub fail-requires : goal.fail-requires
+fail-requires g c = omega (arith, c.len-height.ensures)
+
+pub enter_next-requires-clause-kept : goal.enter_next-requires-clause-kept
+enter_next-requires-clause-kept g c = omega (arith, c.len.ensures, c.if-len-eq0.false)
+
+pub enter_next-requires-clause-turns : goal.enter_next-requires-clause-turns
+enter_next-requires-clause-turns g c = omega (arith, c.requires.within, c.if-m-limit.false, c.ranges.limit.fits)
+
+pub enter_next-requires-clause-calls : goal.enter_next-requires-clause-calls
+enter_next-requires-clause-calls g c = omega (arith, c.if-m-ge-MOST_CALLS.false)
