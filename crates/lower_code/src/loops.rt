@@ -16,7 +16,6 @@ use lower_values::iterations::{
     positions,
 };
 use lower_values::types::{Emitter, Env};
-use stack_code::Instr;
 use typed_tree::Iteration;
 
 /// What is done in each turn.

@@ -1,11 +1,7 @@
 //! The code of a whole program.
 
-ghost use Rattle.std.specs.Prelude.{◌≡◌, ◌∷◌, [], false, get_or, map, IfOk, IfSome};
-ghost use Rattle.lower_emission.specs.Bodies.{program_code};
-ghost use Rattle.lower_emission.specs.Emits.{listed};
+ghost use Rattle.std.specs.Prelude.{◌≡◌, [], false, get_or, IfOk, IfSome};
 ghost use Rattle.lower_emission.specs.Programs as spec;
-ghost use Rattle.lower_emission.specs.Texts.{place};
-ghost use Rattle.lower_code.specs.BodyTables as tables;
 ghost use Rattle.lower_code.specs.Lowered as lowered;
 ghost use Rattle.lower_values.specs.Words.{program_of};
 
@@ -13,7 +9,7 @@ use crate::bodies::main_declared;
 use crate::body_tables::{Start, sites_of, subs_of};
 use crate::gathering::texts_of;
 use crate::idle::idle_forks;
-use crate::tables::{Rows, rows_of};
+use crate::tables::{Tables, tables_of};
 use ada_base::Items;
 use lower_emission::laws;
 use lower_emission::types::{Leaving, Need, Placed};
@@ -95,11 +91,11 @@ fn tabled(
     let Laid { code, subs: starts } = laid;
     let sites = sites_of(code.as_slice(), leases, typed.sites.len(), alloc)?;
     let subs = subs_of(code.as_slice(), starts, alloc)?;
-    let Rows {
+    let Tables {
         instrs,
         spots,
         unwind,
-    } = rows_of(code.as_slice(), alloc)?;
+    } = tables_of(code.as_slice(), alloc)?;
     Ok(Code {
         instrs,
         spots,

@@ -3,7 +3,7 @@
 ghost use Rattle.std.specs.Prelude.{◌≡◌, ◌<◌, ◌+◌, ◌-◌, None, Some, true, false, pos};
 ghost use Rattle.ada_meaning.specs.Meaning.{arms_of};
 ghost use Rattle.typed_tree.specs.Decoded.{arms_at, chunk_at, expr_at, iteration_at, optional_at, stmts_at};
-ghost use Rattle.lower_emission.specs.Emission.{chunk_code, chunk_scope, course_code, ends_code, filtered, items_code, loop_kind, range_scope, stepping, threaded, turn_item, turns_code};
+ghost use Rattle.lower_emission.specs.Emission.{chunk_code, chunk_scope, filtered, items_code, loop_kind, range_scope, stepping, threaded, turn_item, turns_code};
 ghost use Rattle.typed_tree.specs.Syntax.{Parallel, ParallelFor};
 ghost use Rattle.lower_code.specs.Parts as parts;
 ghost use Rattle.lower_emission.specs.Statements as spec;

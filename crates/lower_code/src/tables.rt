@@ -180,21 +180,21 @@ fn unwinds_of(code: &[Placed], alloc: Global) -> Result<Items<Unwind>, AllocErro
     Ok(all)
 }
 
-/// The tables that go by instructions alone.
-pub struct Rows {
+/// The tables of code that go by its instructions alone.
+pub struct Tables {
     pub instrs: Items<Instr>,
     pub spots: Items<Spot>,
     pub unwind: Items<Unwind>,
 }
 
 /// These tables. An Err is want of memory, also where there are more than 2^32 - 1 instructions.
-pub fn rows_of(code: &[Placed], alloc: Global) -> Result<Rows, AllocError>
-    ensures { IfOk result (λ rows. rows ≡ record { instrs = spec.instrs_from code.now 0 code.now; spots = spec.spots_from None 0 code.now; unwind = spec.unwinds_from code.now None 0 code.now }) }
+pub fn tables_of(code: &[Placed], alloc: Global) -> Result<Tables, AllocError>
+    ensures { IfOk result (λ tables. tables ≡ record { instrs = spec.instrs_from code.now 0 code.now; spots = spec.spots_from None 0 code.now; unwind = spec.unwinds_from code.now None 0 code.now }) }
 {
     let instrs = instrs_of(code, alloc)?;
     let spots = spots_of(code, alloc)?;
     let unwind = unwinds_of(code, alloc)?;
-    Ok(Rows {
+    Ok(Tables {
         instrs,
         spots,
         unwind,
