@@ -19,8 +19,8 @@ use Rattle.run_machine.specs.Running as machine
 use Rattle.run_machine.specs.Running.{ending_of}
 use Rattle.run_machine.specs.declared.ends.How.{How}
 use Rattle.run_machine.specs.declared.ends.How.TheVariants as how
-use Rattle.run_store.proofs.Getting.{some_input, told_input}
-use Rattle.run_store.specs.Outside.{Faults, Leaves, MayBe, Outside, fresh}
+use Rattle.run_outside.proofs.Getting.{some_input, told_input}
+use Rattle.run_outside.specs.Outside.{Faults, Leaves, MayBe, Outside, fresh}
 use Rattle.driver.specs.Kept.{IsRoom, read_over}
 use Rattle.driver.specs.Running.{Causes, EndsAs, Runs, end_by}
 use Rattle.driver.proofs.Reading.{finals_read}

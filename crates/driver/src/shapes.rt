@@ -6,7 +6,7 @@ ghost use Rattle.ada_meaning.specs.Values as spec;
 ghost use Rattle.driver.specs.Compiled.{is_boolean_class, truths};
 
 use ada_base::Items;
-use run_store::components;
+use run_values::components;
 use std::alloc::AllocError;
 use typed_tree::{Class, Leaf, Subtype, Typed};
 

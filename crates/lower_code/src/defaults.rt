@@ -12,7 +12,7 @@ ghost use Rattle.lower_values.specs.Words.{env_of, nodes, tables, Emits, Finds};
 use lower_values::aggregates::{Components, doubled};
 use lower_values::cells::{cells_of, object_cells};
 use lower_values::types::{Emitter, Env};
-use run_store::subtypes;
+use run_values::subtypes;
 use stack_code::Instr;
 use typed_tree::{Leaf, Subtype};
 

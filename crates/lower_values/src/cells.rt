@@ -10,7 +10,7 @@ ghost use Rattle.lower_emission.specs.Emission as spec;
 ghost use Rattle.lower_values.specs.Words.{entity, nodes, tables, Finds};
 
 use crate::types::{Emitter, Env};
-use run_store::subtypes;
+use run_values::subtypes;
 use typed_tree::{Composite, Formal, Leaf, Mode, Value};
 
 /// A product, if there is room for it.

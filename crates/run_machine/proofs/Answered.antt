@@ -16,7 +16,7 @@ use Rattle.stack_code.specs.Answers.{IsAnswer, IsIo}
 use Rattle.stack_code.specs.Stands.{Forked, Stands}
 use Rattle.ada_machine.specs.States.{Awaits, state_of}
 use Rattle.ada_machine.specs.declared.machine.Machine.{Machine}
-use Rattle.run_store.specs.Outside.{HasPut, MayBe, Outside}
+use Rattle.run_outside.specs.Outside.{HasPut, MayBe, Outside}
 use Rattle.run_machine.specs.Asked.{HasAnswered, ReadBy, ReadTo, with_turns}
 use Rattle.run_machine.specs.Loops.{Answers}
 use Rattle.run_machine.specs.Running.{IsGetting, IsSending}

@@ -27,7 +27,7 @@ use Rattle.ada_lower.proofs.WholeLaws.{forward_law}
 use Rattle.ada_machine.specs.States.{IsEntry, Ready, state_of}
 use Rattle.ada_machine.specs.declared.machine.Machine.{Machine}
 use Rattle.machine_paths.specs.Constructing.{with_schedule}
-use Rattle.run_store.specs.Outside.{Outside}
+use Rattle.run_outside.specs.Outside.{Outside}
 use Rattle.run_machine_laws.specs.Looping.{At, LoopLaw}
 use Rattle.run_machine_laws.specs.Programs.{IsLoaded}
 use Rattle.run_machine_laws.specs.Telling.{TellLaw}

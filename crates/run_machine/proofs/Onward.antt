@@ -25,8 +25,8 @@ use Rattle.ada_lower.specs.Asking as asking
 use Rattle.ada_lower.specs.Driven.{World, On, Forks, Safe, after_got, fork_ended, given_got}
 use Rattle.machine_paths.specs.Constructing.{ForksTo, with_schedule}
 use Rattle.ada_threads.specs.Sites.{forked}
-use Rattle.run_store.specs.Outside.{Follows, HasGot, Keeps, MayBe, Outside}
-use Rattle.run_store.proofs.Getting.{some_input}
+use Rattle.run_outside.specs.Outside.{Follows, HasGot, Keeps, MayBe, Outside}
+use Rattle.run_outside.proofs.Getting.{some_input}
 use Rattle.run_machine_laws.specs.Reading.{IsRest, ReadsTo, askings}
 use Rattle.run_machine_laws.specs.Standing.{schedule}
 use Rattle.run_machine_laws.specs.Law.{GetLaw, ending_by}

@@ -37,8 +37,8 @@ use Rattle.machine_paths.specs.Constructing.{ForksTo, with_schedule}
 use Rattle.ada_threads.specs.Lent.{FineLaw}
 use Rattle.ada_threads.specs.Sites.{Behind, SiteRan, note_of, forked as forked_to}
 use Rattle.ada_threads.specs.declared.site.Told.{Told}
-use Rattle.run_store.specs.Outside.{GetCauses, HasGot, HasPut, MayBe, Outside}
-use Rattle.run_store.proofs.Getting.{some_input}
+use Rattle.run_outside.specs.Outside.{GetCauses, HasGot, HasPut, MayBe, Outside}
+use Rattle.run_outside.proofs.Getting.{some_input}
 use Rattle.run_machine_laws.specs.Law.{GetLaw, StopLaw, ending_by}
 use Rattle.run_machine_laws.specs.Looping.{LoopLaw}
 use Rattle.run_machine_laws.specs.Reading.{askings}

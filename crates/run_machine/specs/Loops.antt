@@ -17,7 +17,7 @@ use Rattle.stack_code.specs.declared.path.Gave.TheVariants as gave
 use Rattle.stack_code.specs.Tops.{IsTopped}
 use Rattle.ada_machine.specs.States.{Ready, state_of}
 use Rattle.ada_machine.specs.declared.machine.Machine.{Machine}
-use Rattle.run_store.specs.Outside.{HasGot, HasPut, Keeps, MayBe, Outside}
+use Rattle.run_outside.specs.Outside.{HasGot, HasPut, Keeps, MayBe, Outside}
 use Rattle.run_machine_laws.specs.Programs.{IsLoaded}
 use Rattle.run_machine.specs.Asked.{HasAnswered, ReadTo}
 use Rattle.run_machine.specs.Running.{Causes, Over, Running}

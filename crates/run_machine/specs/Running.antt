@@ -15,7 +15,7 @@ use Rattle.stack_code.specs.declared.instr.Instr.TheVariants.{Send, SendLn, Get}
 use Rattle.stack_code.specs.Machine.{State}
 use Rattle.ada_lower.specs.Driven.{World, On, Safe}
 use Rattle.machine_paths.specs.Constructing.{with_schedule}
-use Rattle.run_store.specs.Outside.{Faults, Keeps, MayBe, Outside}
+use Rattle.run_outside.specs.Outside.{Faults, Keeps, MayBe, Outside}
 use Rattle.run_machine_laws.specs.Looping.{At}
 use Rattle.run_machine_laws.specs.Programs.{IsLoaded}
 use Rattle.run_machine_laws.specs.Telling.{EndsBy, Tells}

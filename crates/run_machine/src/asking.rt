@@ -2,7 +2,7 @@
 ghost use Rattle.std.specs.Prelude.{◌≡◌, ◌-◌, ◌≤◌, IfOk, OnOk, OnErr, slice_get};
 ghost use Rattle.ada_port.specs.Ports.{IsTold};
 ghost use Rattle.ada_machine.specs.States.{Awaits};
-ghost use Rattle.run_store.specs.Outside.{MayBe, HasPut, HasGot};
+ghost use Rattle.run_outside.specs.Outside.{MayBe, HasPut, HasGot};
 ghost use Rattle.run_machine.specs.Running.{IsGetting, IsSending};
 ghost use Rattle.run_machine.specs.Asked.{HasAnswered, ReadTo};
 
@@ -11,7 +11,7 @@ use ada_io::{GetEnd, Got};
 use ada_machine::Machine;
 use ada_port::{Failed, Sink, Source};
 use ada_threads::Team;
-use run_store::{Port, Ports};
+use run_outside::{Port, Ports};
 use stack_code::{Gave, Leave};
 use std::alloc::AllocError;
 

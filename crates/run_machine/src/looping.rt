@@ -19,7 +19,7 @@ use ada_machine::{Machine, Never, Stop, go};
 use ada_port::{Pulse, Sink, Source};
 use ada_threads::{Crew, Team, run_site, threads_of};
 use cell_memory::View;
-use run_store::Ports;
+use run_outside::Ports;
 use stack_code::{Asked, Io, Leave};
 use std::marker::Send;
 use std::thread::Threads;

@@ -16,7 +16,7 @@ use ada_machine::starting::Counts;
 use ada_port::{Pulse, Sink, Source};
 use ada_threads::{Crew, Team};
 use cell_memory::View;
-use run_store::Ports;
+use run_outside::Ports;
 use stack_code::Around;
 use std::marker::Send;
 use std::thread::Threads;

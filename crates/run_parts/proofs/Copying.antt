@@ -1,9 +1,9 @@
 -- Copies out of calls, a parameter at a time.
 use Rattle.std.proofs.Common.{arith, ◌≡◌, ℕ, ◌+◌, suc, zero, ℤ, List, [], ◌∷◌, ◌++◌, drop, take, map, length, slice_index_or, ◌<◌, refl, sym, subst, ap, ◌∙◌}
 use Rattle.std.specs.Prelude.{Result, Ok, Err, Option, Some, None, replicate}
-use Rattle.run_store.specs.Outside.{Outside}
+use Rattle.run_outside.specs.Outside.{Outside}
 use Rattle.run_store.specs.Shows.{Image, Shows, entity_of}
-use Rattle.run_store.specs.declared.ends.End.{End}
+use Rattle.run_values.specs.declared.ends.End.{End}
 use Rattle.run_store.proofs.Going.{goes_refl, goes_ends, stays, then_shows}
 use Rattle.typed_tree.specs.declared.scalars.Check.{Check}
 use Rattle.behaviours.specs.Paths.{Entity}

@@ -12,10 +12,10 @@ use Rattle.ada_meaning.specs.Operations.{RangeCheck}
 use Rattle.ada_meaning.specs.Meaning as meaning
 use Rattle.ada_meaning.specs.Meaning.{arms_of, with_parameter, most_threads}
 use Rattle.ada_meaning.specs.Stored.{Stored, ret, bind, leaves, checks}
-use Rattle.run_store.specs.declared.ends.End.{End}
-use Rattle.run_store.specs.declared.ends.End.TheVariants as end
-use Rattle.run_store.specs.declared.ends.Leave.TheVariants as leave
-use Rattle.run_store.specs.Outside.{Outside}
+use Rattle.run_values.specs.declared.ends.End.{End}
+use Rattle.run_values.specs.declared.ends.End.TheVariants as end
+use Rattle.run_values.specs.declared.ends.Leave.TheVariants as leave
+use Rattle.run_outside.specs.Outside.{Outside}
 use Rattle.run_store.specs.Shows.{Image, ShowsAs, Shows}
 use Rattle.run_store.proofs.Going.{stays, goes_refl, goes_ends, then_shows}
 use Rattle.run_parts.specs.declared.chunks.Chunking.{Chunking}

@@ -6,10 +6,11 @@ use Rattle.typed_tree.specs.declared.scalars.Scalar.{Scalar}
 use Rattle.ada_meaning.specs.Values.{laid, zeros}
 use Rattle.ada_meaning.specs.Stored.{Stored, bind, reads, writes}
 use Rattle.ada_meaning.proofs.Cells.{get_within}
-use Rattle.run_store.specs.Outside.{Outside}
-use Rattle.run_store.specs.Shows.{Image, Goes, ShowsAs, Shows, OrNoMemory}
-use Rattle.run_store.specs.declared.ends.End.TheVariants as end
-use Rattle.run_store.specs.declared.ends.End.{End}
+use Rattle.run_outside.specs.Outside.{Outside}
+use Rattle.run_store.specs.Shows.{Image, Goes, ShowsAs, Shows}
+use Rattle.run_values.specs.Values.{OrNoMemory}
+use Rattle.run_values.specs.declared.ends.End.TheVariants as end
+use Rattle.run_values.specs.declared.ends.End.{End}
 use Rattle.run_store.proofs.Going.{goes_then, goes_ends, goes_gives, goes_fails}
 use Rattle.std.specs.Prelude.{Result, Ok, Err}
 use Rattle.run_parts.specs.declared.work.Work.{Work}

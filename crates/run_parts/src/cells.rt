@@ -3,7 +3,8 @@
 ghost use Rattle.std.specs.Prelude.{◌≡◌, ◌+◌, ◌+ℤ◌, pos, [], ◌∷◌, ◌++◌, ◌<◌, length, slice_get, slice_set, IfSome};
 ghost use Rattle.ada_meaning.specs.Values.{zeros, laid};
 ghost use Rattle.ada_meaning.specs.Stored.{after_all, gathered};
-ghost use Rattle.run_store.specs.Shows.{Shows, entity_of, OrNoMemory};
+ghost use Rattle.run_store.specs.Shows.{Shows, entity_of};
+ghost use Rattle.run_values.specs.Values.{OrNoMemory};
 ghost use Rattle.run_parts.specs.Passing.{shape_of};
 ghost use Rattle.run_parts.specs.Words as spec;
 ghost use Rattle.run_parts.specs.Words.{cells_at};
@@ -12,7 +13,9 @@ use crate::held::Cells;
 use crate::passed::Shape;
 use crate::work::Work;
 use ada_base::Items;
-use run_store::{End, Object, Port, Store, cells_of};
+use run_outside::Port;
+use run_store::{Object, Store};
+use run_values::{End, cells_of};
 
 /// An iteration or a call begins.
 #[tactic(auto, unfolding(ada_meaning::specs::Stored::bind, ada_meaning::specs::Stored::ret, ada_meaning::specs::Stored::turn))]

@@ -3,12 +3,12 @@
 ghost use Rattle.std.specs.Prelude.{◌≡◌, ◌≤◌};
 ghost use Rattle.typed_tree.specs.Chained.{linked, AreBelow};
 ghost use Rattle.typed_tree.specs.Decoded.{expr_at, part_at};
-ghost use Rattle.run_store.specs.Shows.{OrNoMemory};
+ghost use Rattle.run_values.specs.Values.{OrNoMemory};
 ghost use Rattle.run_parts.specs.Words.{nodes_of};
 
 use crate::work::Work;
 use ada_base::Items;
-use run_store::End;
+use run_values::End;
 use typed_tree::Link;
 
 /// An expression as operators over its first operand; the operator that is applied first stands last.

@@ -4,7 +4,8 @@ ghost use Rattle.std.specs.Prelude.{◌≡◌, ◌<ℤ◌, int_le, nat_le, pos, 
 ghost use Rattle.ada_meaning.specs.Meaning.{most_threads};
 ghost use Rattle.ada_meaning.specs.Values.{count, to_nat};
 ghost use Rattle.run_store.specs.Environment.{env_of};
-ghost use Rattle.run_store.specs.Shows.{OrNoMemory, Shows, ShowsAs};
+ghost use Rattle.run_store.specs.Shows.{Shows, ShowsAs};
+ghost use Rattle.run_values.specs.Values.{OrNoMemory};
 ghost use Rattle.run_parts.specs.Dealing.{chunking_of};
 ghost use Rattle.run_parts.specs.Dealing as spec;
 
@@ -13,7 +14,9 @@ use crate::courses::bounds_hold;
 use crate::work::Work;
 use ada_base::Reason;
 use ada_meaning::MOST_THREADS;
-use run_store::{End, Env, Leave, Port, Range, Store, last_of};
+use run_outside::Port;
+use run_store::{Env, Store};
+use run_values::{End, Leave, Range, last_of};
 use typed_tree::Check;
 
 /// How many threads a loop or a reduction has: by the plan, and no more than so many; or one for each value of a chunk

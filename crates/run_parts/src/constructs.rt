@@ -6,7 +6,8 @@ ghost use Rattle.typed_tree.specs.Decoded.{arms_at, stmts_at};
 ghost use Rattle.ada_meaning.specs.Meaning.{arms_of};
 ghost use Rattle.ada_meaning.specs.Meaning as meaning;
 ghost use Rattle.run_store.specs.Environment.{env_of};
-ghost use Rattle.run_store.specs.Shows.{OrNoMemory, Shows};
+ghost use Rattle.run_store.specs.Shows.{Shows};
+ghost use Rattle.run_values.specs.Values.{OrNoMemory};
 ghost use Rattle.run_parts.specs.Dealing.{found_arm};
 ghost use Rattle.run_parts.specs.Dealing as spec;
 ghost use Rattle.run_parts.specs.Passing.{course_of};
@@ -15,7 +16,9 @@ ghost use Rattle.run_parts.specs.Words.{nodes_of};
 use crate::courses::Course;
 use crate::work::Work;
 use ada_base::Reason;
-use run_store::{End, Env, Leave, Port, Store};
+use run_outside::Port;
+use run_store::{Env, Store};
+use run_values::{End, Leave};
 
 // iterations that a construct may have
 const MOST_ITERATIONS: u64 = 4_611_686_018_427_387_904;

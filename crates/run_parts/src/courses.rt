@@ -2,12 +2,13 @@
 
 ghost use Rattle.std.specs.Prelude.{◌≡◌, ◌+◌, ◌+ℤ◌, ◌-ℤ◌, pos, cond, MatchOption};
 ghost use Rattle.run_store.specs.Environment.{env_of, part_of};
-ghost use Rattle.run_store.specs.Shows.{OrNoMemory};
+ghost use Rattle.run_values.specs.Values.{OrNoMemory};
 ghost use Rattle.run_parts.specs.Passing.{course_of};
 ghost use Rattle.run_parts.specs.Words as spec;
 
 use crate::offsets::moved;
-use run_store::{End, Env, ObjectPart, Range, count, is_in, last_of};
+use run_store::{Env, ObjectPart};
+use run_values::{End, Range, count, is_in, last_of};
 use typed_tree::Check;
 
 /// What an iteration goes through, once that is evaluated: the values of a range, or components of an array.

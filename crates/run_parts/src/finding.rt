@@ -8,7 +8,7 @@ ghost use Rattle.run_parts.specs.Words.{nodes_of};
 
 use crate::work::Work;
 use ada_base::Reason;
-use run_store::between;
+use run_values::between;
 use typed_tree::{Handler, Leaf};
 
 /// The statements of the first handler of a reason.

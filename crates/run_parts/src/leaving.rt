@@ -3,7 +3,7 @@
 ghost use Rattle.std.specs.Prelude.{◌≡◌};
 ghost use Rattle.run_parts.specs.Caught.{caught};
 
-use run_store::{End, Leave};
+use run_values::{End, Leave};
 
 /// What is left of a loop that an exit of it leaves (5.7).
 pub fn caught(number: u32, how: Result<(), End>) -> Result<(), End>

@@ -4,9 +4,10 @@ ghost use Rattle.std.specs.Prelude.{◌≡◌, ◌*◌, ◌-ℤ◌};
 ghost use Rattle.ada_meaning.specs.Values.{to_nat};
 ghost use Rattle.ada_meaning.specs.Meaning as meaning;
 ghost use Rattle.run_store.specs.Environment.{part_of};
-ghost use Rattle.run_store.specs.Shows.{OrNoMemory};
+ghost use Rattle.run_values.specs.Values.{OrNoMemory};
 
-use run_store::{End, ObjectPart};
+use run_store::ObjectPart;
+use run_values::End;
 
 /// A part so many cells further on
 pub fn moved(part: ObjectPart, count: u64) -> Result<ObjectPart, End>

@@ -1,14 +1,15 @@
 //! Actual parameters that were evaluated, and what a call gives (6.4).
 
 ghost use Rattle.std.specs.Prelude.{◌≡◌, ◌∷◌, ◌++◌, []};
-ghost use Rattle.run_store.specs.Shows.{OrNoMemory};
+ghost use Rattle.run_values.specs.Values.{OrNoMemory};
 ghost use Rattle.run_parts.specs.Passing.{passed_of, passed_list};
 
 use crate::copies::BackCells;
 use crate::held::Cells;
 use crate::work::Work;
 use ada_base::Items;
-use run_store::{End, Object, ObjectPart};
+use run_store::{Object, ObjectPart};
+use run_values::End;
 use typed_tree::{Check, Scalar};
 
 /// The subtypes of cells: a scalar's, or those of a whole array or record.

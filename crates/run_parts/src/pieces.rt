@@ -4,13 +4,13 @@ ghost use Rattle.std.specs.Prelude.{◌≡◌, ◌++◌, ◌∷◌, [], cond};
 ghost use Rattle.ada_base.specs.Image.{image, padded};
 ghost use Rattle.typed_tree.specs.Decoded.{bytes_in, leaves_at};
 ghost use Rattle.ada_meaning.specs.Values.{image_of, to_nat};
-ghost use Rattle.run_store.specs.Shows.{OrNoMemory};
+ghost use Rattle.run_values.specs.Values.{OrNoMemory};
 ghost use Rattle.run_parts.specs.Words.{nodes_of, text_with};
 
 use crate::work::Work;
 use ada_base::Items;
 use ada_io::{append_image, append_padded, truth_image};
-use run_store::{End, is_true};
+use run_values::{End, is_true};
 use typed_tree::{Class, Leaf};
 
 /// The bytes of a text, behind others.

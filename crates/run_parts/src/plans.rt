@@ -4,7 +4,7 @@ ghost use Rattle.std.specs.Prelude.{◌≡◌, ◌≤◌, MatchOption};
 ghost use Rattle.ada_base.specs.Cuts.{cuts_of, evens};
 ghost use Rattle.ada_meaning.specs.Values.{without_zeros};
 ghost use Rattle.run_plan.specs.Plans.{HasNoZero, plan_of};
-ghost use Rattle.run_store.specs.Shows.{OrNoMemory};
+ghost use Rattle.run_values.specs.Values.{OrNoMemory};
 ghost use Rattle.run_parts.specs.Dealing as spec;
 
 use crate::cells::size_at;
@@ -12,7 +12,7 @@ use crate::chunks::Chunking;
 use crate::work::Work;
 use ada_base::Items;
 use run_plan::{Plan, cuts, evenly};
-use run_store::End;
+use run_values::End;
 use std::marker::Model;
 
 /// A plan of which each number is at least 1.

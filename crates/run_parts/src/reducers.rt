@@ -3,7 +3,7 @@
 ghost use Rattle.std.specs.Prelude.{◌≡◌};
 ghost use Rattle.typed_tree.specs.Decoded.{formals_in, leaves_at};
 ghost use Rattle.ada_meaning.specs.Meaning.{formal_at};
-ghost use Rattle.run_store.specs.Shows.{OrNoMemory};
+ghost use Rattle.run_values.specs.Values.{OrNoMemory};
 ghost use Rattle.run_parts.specs.Passing.{passed_list, passed_of, value_passed};
 ghost use Rattle.run_parts.specs.Reducing.{both_hold};
 ghost use Rattle.run_parts.specs.Words as spec;
@@ -14,7 +14,8 @@ use crate::copies::find_sub;
 use crate::passed::{Passed, push};
 use crate::work::Work;
 use ada_base::Items;
-use run_store::{End, Object, is_in};
+use run_store::Object;
+use run_values::{End, is_in};
 use typed_tree::{Leaf, Scalar};
 
 /// An accumulator and a value for a function that reduces, the subtypes of its parameters, and its token.

@@ -2,9 +2,9 @@
 use Rattle.std.specs.Prelude.{ℕ, ℤ, List, Result, Ok, Err}
 use Rattle.ada_meaning.specs.Stored.{finals_of}
 use Rattle.typed_tree.specs.Syntax.{Program}
-use Rattle.run_store.specs.declared.ends.End.{End}
-use Rattle.run_store.specs.declared.ends.End.TheVariants as end
-use Rattle.run_store.specs.declared.ends.Leave.TheVariants as leave
+use Rattle.run_values.specs.declared.ends.End.{End}
+use Rattle.run_values.specs.declared.ends.End.TheVariants as end
+use Rattle.run_values.specs.declared.ends.Leave.TheVariants as leave
 use Rattle.run_reports.specs.declared.ends.Finals.{Finals}
 use Rattle.run_reports.specs.declared.ends.RunEnd.{RunEnd}
 use Rattle.run_reports.specs.declared.ends.RunEnd.TheVariants as run_end

@@ -5,7 +5,7 @@ ghost use Rattle.run_reports.specs.Ends.{end_of};
 
 use ada_base::{Items, Reason};
 use ada_meaning::Variable;
-use run_store::{End, Leave};
+use run_values::{End, Leave};
 
 /// A variable of the main procedure's declarative part: its name as declared, and which of its cells are Boolean.
 #[derive(Drop)]

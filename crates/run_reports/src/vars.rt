@@ -14,7 +14,7 @@ use ada_base::Items;
 use ada_io::truth_image;
 use ada_meaning::Variable;
 use ada_port::Sink;
-use run_store::{cells_of, is_true};
+use run_values::{cells_of, is_true};
 use std::alloc::{AllocError, Global};
 use typed_tree::Typed;
 

@@ -3,11 +3,11 @@ use Rattle.std.proofs.Common.{◌≡◌, ℕ, ℤ, ◌+◌, List, Bool, true, fa
 use Rattle.behaviours.specs.Paths as operations
 use Rattle.behaviours.specs.Paths.{Here, Everywhere}
 use Rattle.ada_meaning.specs.Stored.{State, Stored, After, Cause, Left, OutOfTurns, Outage, MemoryFault, InputFault, OutputFault, Stops, at, next, next_halts, ret, bind, elaborates, apart, begun, ended, has_room, key, slot_at}
-use Rattle.run_store.specs.declared.ends.Mark.{Mark}
-use Rattle.run_store.specs.declared.ends.Object.{Object}
-use Rattle.run_store.specs.declared.ends.End.{End}
-use Rattle.run_store.specs.declared.ends.End.TheVariants as end
-use Rattle.run_store.specs.Outside.{Outside, Faults, Keeps}
+use Rattle.run_store.specs.declared.objects.Mark.{Mark}
+use Rattle.run_store.specs.declared.objects.Object.{Object}
+use Rattle.run_values.specs.declared.ends.End.{End}
+use Rattle.run_values.specs.declared.ends.End.TheVariants as end
+use Rattle.run_outside.specs.Outside.{Outside, Faults, Keeps}
 use Rattle.run_store.specs.Shows.{Image, outside_of, facing, Causes, ShowsAs, Does, Goes, leave_of, entity_of, table_of, Begins, cut_back, finished, Enters, unframed}
 
 -- a fault's cause, where nothing failed before

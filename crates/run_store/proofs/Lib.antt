@@ -1,5 +1,5 @@
 pub mod Going
 pub mod StoredGet
 pub mod Getting
-pub mod Layouts
+pub mod Slots
 pub mod Signs

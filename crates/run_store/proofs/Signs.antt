@@ -1,11 +1,11 @@
 -- A value that a check lets pass.
-use Rattle.std.proofs.Common.{◌≡◌, ℕ, ℤ, List, Option, Some, None, IfSome, Ok, Bool, true, false, cond, refl, sym, subst}
+use Rattle.std.proofs.Common.{◌≡◌, ℕ, ℤ, List, Option, Some, None, Ok, Bool, true, false, cond, refl, subst}
 use Rattle.ada_base.specs.declared.operation.Base.{Base}
 use Rattle.ada_base.specs.Operation.{within, is_in_base}
 use Rattle.ada_meaning.specs.Operations.{CheckKind}
 use Rattle.ada_meaning.specs.Stored.{checks, bind, ret}
-use Rattle.run_store.specs.Outside.{Outside}
-use Rattle.run_store.specs.Shows.{Image, Shows, ComesTo}
+use Rattle.run_outside.specs.Outside.{Outside}
+use Rattle.run_store.specs.Shows.{Image, Shows}
 use Rattle.run_store.proofs.Going.{stays}
 
 pub checked_shows : {Tells : List ℕ → Outside → Type 0} (kind : CheckKind) (token : ℕ) (base : Base) (z other : ℤ) (s : Image) → within base (Some z) ≡ Some other → Shows Tells (bind (checks kind token (is_in_base base z)) (λ _. ret z)) (Ok other) s s
@@ -15,12 +15,3 @@ checked_shows {Tells = Tells} kind token base z other s e = go (is_in_base base 
     go : (b : Bool) → cond b (Some z) None ≡ Some other → Shows Tells (bind (checks kind token b) (λ _. ret z)) (Ok other) s s
     go true e = let q : z ≡ other = cc in subst (λ x. Shows Tells (bind (checks kind token true) (λ _. ret z)) (Ok x) s s) q (refl, stays, λ w told. refl)
     go false e = cc
-
--- whatever the token, where it passes
-pub checked_comes : (kind : CheckKind) (base : Base) (z : ℤ) (r : Option ℤ) → r ≡ within base (Some z) → IfSome r (λ v. (token : ℕ) → ComesTo (bind (checks kind token (is_in_base base z)) (λ _. ret z)) v)
-unfolding bind ret
-checked_comes kind base z r e = subst (λ x. IfSome x (λ v. (token : ℕ) → ComesTo (bind (checks kind token (is_in_base base z)) (λ _. ret z)) v)) (sym e) (go (is_in_base base z))
-  where
-    go : (b : Bool) → IfSome (cond b (Some z) None) (λ v. (token : ℕ) → ComesTo (bind (checks kind token b) (λ _. ret z)) v)
-    go true = λ token s. refl
-    go false = tt

@@ -1,4 +1,3 @@
-pub mod Outside
 pub mod Shows
-pub mod Operating
+pub mod Input
 pub mod Environment

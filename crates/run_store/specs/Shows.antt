@@ -4,19 +4,19 @@ use Rattle.ada_base.specs.declared.reason.Reason.TheVariants as reason
 use Rattle.ada_meaning.specs.declared.slots.Slot.{Slot}
 use Rattle.ada_meaning.specs.declared.slots.Variable.{Variable}
 use Rattle.ada_port.specs.Counts.{Risen}
-use Rattle.run_store.specs.Outside.{Outside, Faults, Keeps}
+use Rattle.run_outside.specs.Outside.{Outside, Faults, Keeps}
 use Rattle.behaviours.specs.Paths as operations
 use Rattle.behaviours.specs.Paths.{Entity, VariableOf, ConstantOf, Region, Here, Everywhere}
 use Rattle.ada_meaning.specs.Stored.{State, Stored, Left, OutOfTurns, MemoryFault, InputFault, OutputFault, Outage, Stops, at, key, slot_at, begun, has_room, declares}
-use Rattle.run_store.specs.declared.ends.Mark.{Mark}
-use Rattle.run_store.specs.declared.ends.Leave.{Leave}
-use Rattle.run_store.specs.declared.ends.Leave.TheVariants as leave
-use Rattle.run_store.specs.declared.ends.End.{End}
-use Rattle.run_store.specs.declared.ends.End.TheVariants as end
-use Rattle.run_store.specs.declared.ends.Object.{Object}
-use Rattle.run_store.specs.declared.ends.Object.TheVariants as object
-use Rattle.run_store.specs.declared.ends.Region as ends
-use Rattle.run_store.specs.declared.ends.Region.TheVariants as region
+use Rattle.run_store.specs.declared.objects.Mark.{Mark}
+use Rattle.run_values.specs.declared.ends.Leave.{Leave}
+use Rattle.run_values.specs.declared.ends.Leave.TheVariants as leave
+use Rattle.run_values.specs.declared.ends.End.{End}
+use Rattle.run_values.specs.declared.ends.End.TheVariants as end
+use Rattle.run_store.specs.declared.objects.Object.{Object}
+use Rattle.run_store.specs.declared.objects.Object.TheVariants as object
+use Rattle.run_store.specs.declared.objects.Region as ends
+use Rattle.run_store.specs.declared.objects.Region.TheVariants as region
 
 -- ---- the state of a run, whose input is what came so far, what the source tells to be left, and how often the outside has failed
 
@@ -77,10 +77,6 @@ Does Tells m s t =
     (t.faults ≡ s.faults)
     × Keeps Tells (outside_of s) (outside_of t)
     × ((w : List ℕ) → Tells w (outside_of t) → m.does (facing w s.state) ≡ at (facing w t.state) (Ok tt))
-
--- from each state a part comes to a value, and leaves the state as it is
-abbrev pub ComesTo : {A : Type 0} → Stored A → A → Type 0
-ComesTo m v = (s : State) → m.does s ≡ at s (Ok v)
 
 -- a value, where there is one, is what the part comes to on each input that may be the whole one, and the state is left as
 -- it is; the value stands for one of the meaning's
@@ -150,9 +146,3 @@ pub record Goes {A : Type 0} (Tells : List ℕ → Outside → Type 0) (whole : 
   pub keeps : Keeps Tells (outside_of s) (outside_of t)
   pub same : (w : List ℕ) → Tells w (outside_of t) → whole.does (facing w s.state) ≡ rest.does (facing w t.state)
   pub stops : (w : List ℕ) → Tells w (outside_of t) → (f : Outage) (u : State) → Stops rest (facing w t.state) f u → Stops whole (facing w s.state) f u
-
--- nothing but want of memory is in the way
-abbrev pub OrNoMemory : {A : Type 0} → (A → Type 0) → Result A End → Type 0
-OrNoMemory P (Ok a) = P a
-OrNoMemory P (Err end.NoMemory) = Unit {0}
-OrNoMemory P (Err _) = ⊥

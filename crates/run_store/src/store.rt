@@ -3,14 +3,16 @@
 ghost use Rattle.std.specs.Prelude.{◌≡◌, ◌<◌, ◌*◌, ◌+◌, length, replicate, slice_get, slice_set, IfOk, IfSome, MatchResult, Ok};
 ghost use Rattle.ada_meaning.specs.Stored as spec;
 ghost use Rattle.behaviours.specs.Paths as spec';
-ghost use Rattle.run_store.specs.Operating.{begins_at, got, number_of};
-ghost use Rattle.run_store.specs.Shows.{Shows, Gives, Does, outside_of, entity_of, region_of, Enters, unframed, Begins, Declares, finished, IsCell, IsSet, OrNoMemory};
+ghost use Rattle.run_store.specs.Input.{begins_at, got, number_of};
+ghost use Rattle.run_store.specs.Shows.{Shows, Gives, Does, outside_of, entity_of, region_of, Enters, unframed, Begins, Declares, finished, IsCell, IsSet};
+ghost use Rattle.run_values.specs.Values.{OrNoMemory};
 
-use crate::ends::{End, Leave, Mark, Object, Region};
-use crate::outside::Port;
+use crate::objects::{Mark, Object, Region};
 use ada_base::{Items, Reason};
 use ada_io::GetEnd;
 use ada_meaning::{Slot, Variable};
+use run_outside::Port;
+use run_values::{End, Leave};
 use std::alloc::{AllocError, Global};
 use std::marker::Model;
 

@@ -11,9 +11,9 @@ use Rattle.ada_meaning.specs.Operations.{operate}
 use Rattle.typed_tree.specs.Chained.{linked, right_of, AreBelow}
 use Rattle.ada_meaning.specs.Meaning.{Env}
 use Rattle.ada_meaning.specs.Stored.{Stored, After, Outage, Stops, State, next, next_halts, bind, doings, checks}
-use Rattle.run_store.specs.declared.ends.End.{End}
-use Rattle.run_store.specs.Outside.{Outside}
-use Rattle.run_store.specs.Operating.{outside_of}
+use Rattle.run_values.specs.declared.ends.End.{End}
+use Rattle.run_outside.specs.Outside.{Outside}
+use Rattle.run_store.specs.Shows.{outside_of}
 use Rattle.run_store.specs.Shows.{Image, facing, Goes, Shows}
 use Rattle.run_store.proofs.Going.{also, goes_refl, goes_then, goes_ends, goes_shows, then_shows}
 use Rattle.run_parts.specs.declared.work.Work.{Work}

@@ -12,8 +12,8 @@ use Rattle.ada_meaning.specs.Meaning.{Env, Course, inside}
 use Rattle.ada_meaning.specs.Stored
 use Rattle.ada_meaning.specs.Stored.{Stored, threads, first_of_both, bind, ret}
 use Rattle.ada_meaning.proofs.Computing.{through_more, through_done}
-use Rattle.run_store.specs.declared.ends.End.{End}
-use Rattle.run_store.specs.Outside.{Outside}
+use Rattle.run_values.specs.declared.ends.End.{End}
+use Rattle.run_outside.specs.Outside.{Outside}
 use Rattle.run_store.specs.Shows.{Image, Goes, ShowsAs, Shows}
 use Rattle.run_store.proofs.Going.{stays, goes_refl, goes_instead, goes_then, goes_ends, goes_gives, then_shows, same_shows}
 use Rattle.run_parts.specs.declared.work.Work.{Work}

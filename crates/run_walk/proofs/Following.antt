@@ -6,8 +6,9 @@ use Rattle.behaviours.specs.Paths.{Entity}
 use Rattle.ada_meaning.specs.Meaning as meaning
 use Rattle.ada_meaning.specs.Meaning.{Env}
 use Rattle.ada_meaning.specs.Stored.{State, at, next, bind, ret, reads}
-use Rattle.run_store.specs.Outside.{Outside}
-use Rattle.run_store.specs.Shows.{Image, ComesTo, Gives, facing}
+use Rattle.run_outside.specs.Outside.{Outside}
+use Rattle.run_store.specs.Shows.{Image, Gives, facing}
+use Rattle.run_values.specs.Values.{ComesTo}
 use Rattle.run_parts.specs.Paths.{index_by, path_at}
 use Rattle.run_parts.specs.Words.{nodes_of}
 use Rattle.run_parts.specs.declared.paths.ParameterIndex.{ParameterIndex}

@@ -12,14 +12,14 @@ use Rattle.ada_meaning.specs.Operations.{IndexCheck, RangeCheck}
 use Rattle.ada_meaning.specs.Meaning as meaning
 use Rattle.ada_meaning.specs.Meaning.{Env, variable_root, with_parameter, moved}
 use Rattle.ada_meaning.specs.Stored.{Stored, ret, bind, leaves, writes, checks}
-use Rattle.run_store.specs.declared.ends.End.{End}
-use Rattle.run_store.specs.declared.ends.End.TheVariants as end
-use Rattle.run_store.specs.declared.ends.Leave.TheVariants as leave
+use Rattle.run_values.specs.declared.ends.End.{End}
+use Rattle.run_values.specs.declared.ends.End.TheVariants as end
+use Rattle.run_values.specs.declared.ends.Leave.TheVariants as leave
 use Rattle.run_store.specs.declared.env.ObjectPart.{ObjectPart}
-use Rattle.run_store.specs.declared.values.Range as code
-use Rattle.run_store.specs.Operating.{got}
+use Rattle.run_values.specs.declared.values.Range as code
+use Rattle.run_store.specs.Input.{got}
 use Rattle.run_store.specs.Environment.{part_of}
-use Rattle.run_store.specs.Outside.{Outside}
+use Rattle.run_outside.specs.Outside.{Outside}
 use Rattle.run_store.specs.Shows.{Image, ShowsAs, Shows}
 use Rattle.run_store.proofs.Going.{stays, goes_refl, goes_ends, then_shows, same_shows}
 use Rattle.run_parts.specs.declared.work.Work.{Work}

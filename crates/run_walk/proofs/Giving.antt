@@ -12,11 +12,11 @@ use Rattle.ada_meaning.specs.Values.{is_in}
 use Rattle.ada_meaning.specs.Meaning as meaning
 use Rattle.ada_meaning.specs.Meaning.{Env}
 use Rattle.ada_meaning.specs.Stored.{State, Stored, After, at, next, ret, bind}
-use Rattle.run_store.specs.Outside.{Outside}
+use Rattle.run_outside.specs.Outside.{Outside}
 use Rattle.run_store.specs.Shows.{Image, facing, Shows, ShowsAs, Begins, finished}
-use Rattle.run_store.specs.declared.ends.Mark.{Mark}
-use Rattle.run_store.specs.declared.ends.End.{End}
-use Rattle.run_store.specs.declared.ends.Object.TheVariants as object
+use Rattle.run_store.specs.declared.objects.Mark.{Mark}
+use Rattle.run_values.specs.declared.ends.End.{End}
+use Rattle.run_store.specs.declared.objects.Object.TheVariants as object
 use Rattle.run_store.proofs.Going.{stays, goes_refl, goes_ends, then_shows, elaborates_shows, elaborates_fails}
 use Rattle.run_parts.specs.declared.work.Work.{Work}
 use Rattle.run_parts.specs.declared.scalars.InScalar.{InScalar}

@@ -8,12 +8,12 @@ use Rattle.typed_tree.specs.Syntax.{Expr, Stmts, Handlers, NoHandler, Handler, A
 use Rattle.ada_meaning.specs.Values.{handles_reason, is_chosen}
 use Rattle.ada_meaning.specs.Meaning.{Env, exits, raises, has_handlers, with_handled, reason_of}
 use Rattle.ada_meaning.specs.Stored.{Stored, ret, bind, leaves}
-use Rattle.run_store.specs.Outside.{Outside}
+use Rattle.run_outside.specs.Outside.{Outside}
 use Rattle.run_store.specs.Shows.{Image, Shows, leave_of}
-use Rattle.run_store.specs.declared.ends.End as ends
-use Rattle.run_store.specs.declared.ends.End.TheVariants as end
-use Rattle.run_store.specs.declared.ends.Leave as ends-leave
-use Rattle.run_store.specs.declared.ends.Leave.TheVariants as leave
+use Rattle.run_values.specs.declared.ends.End as ends
+use Rattle.run_values.specs.declared.ends.End.TheVariants as end
+use Rattle.run_values.specs.declared.ends.Leave as ends-leave
+use Rattle.run_values.specs.declared.ends.Leave.TheVariants as leave
 use Rattle.run_store.proofs.Going.{stays, same_shows, then_shows}
 use Rattle.run_parts.specs.declared.work.Work.{Work}
 use Rattle.run_parts.specs.Found.{found_handler, found_alternative}

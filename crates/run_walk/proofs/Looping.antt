@@ -8,11 +8,11 @@ use Rattle.ada_meaning.specs.Values.{laid}
 use Rattle.ada_meaning.specs.Meaning.{Env, Course}
 use Rattle.ada_meaning.specs.Stored.{Stored, After, Left, Outage, Stops, at, State, ret, bind, spent, handles, handled, handled_halts}
 use Rattle.ada_meaning.proofs.Computing.{through_more, through_done}
-use Rattle.run_store.specs.Outside.{Outside}
+use Rattle.run_outside.specs.Outside.{Outside}
 use Rattle.run_store.specs.Shows.{Image, facing, Goes, Shows, leave_of}
-use Rattle.run_store.specs.declared.ends.End as ends
-use Rattle.run_store.specs.declared.ends.End.TheVariants as end
-use Rattle.run_store.specs.declared.ends.Leave as ends-leave
+use Rattle.run_values.specs.declared.ends.End as ends
+use Rattle.run_values.specs.declared.ends.End.TheVariants as end
+use Rattle.run_values.specs.declared.ends.Leave as ends-leave
 use Rattle.run_store.proofs.Going.{goes_refl, goes_instead, goes_then, goes_ends, goes_gives, goes_shows}
 use Rattle.run_parts.specs.declared.work.Work.{Work}
 use Rattle.run_parts.specs.Words.{turned}

@@ -12,10 +12,10 @@ use Rattle.ada_meaning.specs.Values.{is_in}
 use Rattle.ada_meaning.specs.Meaning as meaning
 use Rattle.ada_meaning.specs.Meaning.{Env}
 use Rattle.ada_meaning.specs.Stored.{State, Stored, Cause, Outage, Stops, at, next, next_halts, ret, bind}
-use Rattle.run_store.specs.declared.ends.End.{End}
-use Rattle.run_store.specs.declared.ends.End.TheVariants as end
-use Rattle.run_store.specs.declared.ends.Object.TheVariants as object
-use Rattle.run_store.specs.Outside.{Outside}
+use Rattle.run_values.specs.declared.ends.End.{End}
+use Rattle.run_values.specs.declared.ends.End.TheVariants as end
+use Rattle.run_store.specs.declared.objects.Object.TheVariants as object
+use Rattle.run_outside.specs.Outside.{Outside}
 use Rattle.run_store.specs.Shows.{Image, facing, Goes, ShowsAs, Shows}
 use Rattle.run_store.proofs.Going.{stays, goes_then, goes_ends, goes_fails, goes_gives, then_shows}
 use Rattle.run_parts.specs.declared.work.Work.{Work}

@@ -6,7 +6,7 @@ use Rattle.typed_tree.specs.Syntax.{Expr, Unary, Selections, Whole}
 use Rattle.ada_meaning.specs.Meaning as meaning
 use Rattle.ada_meaning.specs.Meaning.{Env}
 use Rattle.ada_meaning.specs.Stored.{Stored, bind, ret}
-use Rattle.run_store.specs.Outside.{Outside}
+use Rattle.run_outside.specs.Outside.{Outside}
 use Rattle.run_store.specs.Shows.{Image, facing}
 use Rattle.run_parts.specs.declared.work.Work.{Work}
 use Rattle.run_walk.specs.Walk as walk

@@ -9,11 +9,11 @@ use Rattle.ada_meaning.specs.Meaning.{raises}
 use Rattle.ada_meaning.specs.Stored.{State, Stored, Computes, handles, ret}
 use Rattle.ada_meaning.specs.Programs.{by_one_worker}
 use Rattle.ada_meaning.proofs.StoredProof.{stored_law}
-use Rattle.run_store.specs.declared.ends.End.{End}
-use Rattle.run_store.specs.declared.ends.End.TheVariants as end
-use Rattle.run_store.specs.declared.ends.Leave as ends-leave
-use Rattle.run_store.specs.declared.ends.Leave.TheVariants as leave
-use Rattle.run_store.specs.Outside.{Outside}
+use Rattle.run_values.specs.declared.ends.End.{End}
+use Rattle.run_values.specs.declared.ends.End.TheVariants as end
+use Rattle.run_values.specs.declared.ends.Leave as ends-leave
+use Rattle.run_values.specs.declared.ends.Leave.TheVariants as leave
+use Rattle.run_outside.specs.Outside.{Outside}
 use Rattle.run_store.specs.Shows.{Image, facing, Shows, Answers, leave_of}
 use Rattle.run_store.proofs.Going.{stays, same_shows}
 use Rattle.run_parts.specs.declared.work.Work.{Work}

@@ -10,11 +10,11 @@ use Rattle.ada_meaning.specs.Values.{defaults}
 use Rattle.ada_meaning.specs.Meaning as meaning
 use Rattle.ada_meaning.specs.Meaning.{Env, sub_at, object_layout}
 use Rattle.ada_meaning.specs.Stored.{ret, bind, leaves, elaborates, apart}
-use Rattle.run_store.specs.Outside.{Outside}
+use Rattle.run_outside.specs.Outside.{Outside}
 use Rattle.run_store.specs.Shows.{Image, ShowsAs, Shows, Begins, finished, Enters, unframed}
-use Rattle.run_store.specs.declared.ends.Mark.{Mark}
-use Rattle.run_store.specs.declared.ends.End.{End}
-use Rattle.run_store.specs.declared.ends.Object.TheVariants as object
+use Rattle.run_store.specs.declared.objects.Mark.{Mark}
+use Rattle.run_values.specs.declared.ends.End.{End}
+use Rattle.run_store.specs.declared.objects.Object.TheVariants as object
 use Rattle.run_store.proofs.Going.{stays, goes_refl, goes_ends, then_shows, same_shows, elaborates_shows, elaborates_fails, apart_shows, apart_fails}
 use Rattle.run_parts.specs.declared.work.Work.{Work}
 use Rattle.run_parts.specs.declared.passed.Passed.{Passed}

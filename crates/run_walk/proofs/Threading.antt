@@ -3,11 +3,12 @@ use Rattle.std.proofs.Common.{◌≡◌, ℕ, zero, suc, ◌+◌, max, List, [],
 use Rattle.std.specs.Prelude.{Result, Ok, Err}
 use Rattle.behaviours.specs.Joins.{Share, deal}
 use Rattle.ada_meaning.specs.Stored.{Stored, After, Took, took, Left, at, bind, ret, spent, rewinds, thread, threads, par, is_spent, gathered, first_of_both}
-use Rattle.run_store.specs.declared.ends.End.{End}
-use Rattle.run_store.specs.declared.ends.End.TheVariants as end
-use Rattle.run_store.specs.declared.ends.Leave.{Leave}
-use Rattle.run_store.specs.Outside.{Outside}
-use Rattle.run_store.specs.Shows.{Image, facing, Goes, ShowsAs, Shows, Does, OrNoMemory, leave_of}
+use Rattle.run_values.specs.declared.ends.End.{End}
+use Rattle.run_values.specs.declared.ends.End.TheVariants as end
+use Rattle.run_values.specs.declared.ends.Leave.{Leave}
+use Rattle.run_outside.specs.Outside.{Outside}
+use Rattle.run_store.specs.Shows.{Image, facing, Goes, ShowsAs, Shows, Does, leave_of}
+use Rattle.run_values.specs.Values.{OrNoMemory}
 use Rattle.run_store.proofs.Going.{also, stays, goes_refl, goes_on, goes_then, goes_ends, goes_gives, goes_fails, then_shows}
 
 -- ---- one thread, where an answer of the code stands for what it took

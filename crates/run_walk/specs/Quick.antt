@@ -2,7 +2,7 @@
 use Rattle.std.specs.Prelude.{◌≡◌, ℕ, List}
 use Rattle.ada_meaning.specs.Meaning as meaning
 use Rattle.ada_meaning.specs.Stored.{Stored}
-use Rattle.run_store.specs.Outside.{Outside}
+use Rattle.run_outside.specs.Outside.{Outside}
 use Rattle.run_store.specs.Shows.{Image, outside_of, facing}
 pub use Rattle.run_store.specs.Shows.{Gives, GivesAs}
 

@@ -6,11 +6,11 @@ use Rattle.ada_meaning.specs.Programs.{by_one_worker}
 use Rattle.ada_meaning.specs.Law.{IsPermitted}
 use Rattle.ada_meaning.specs.Meaning as meaning
 use Rattle.ada_meaning.specs.Stored.{Stored, Stop, Goes, Fails, Left, OutOfTurns, MemoryFault, InputFault, OutputFault, outset, put_out, outcome_of}
-use Rattle.run_store.specs.Outside.{Outside}
+use Rattle.run_outside.specs.Outside.{Outside}
 use Rattle.run_store.specs.Shows.{Image, outside_of, Causes, leave_of}
-use Rattle.run_store.specs.declared.ends.End.{End}
-use Rattle.run_store.specs.declared.ends.End.TheVariants as end
-use Rattle.run_store.specs.declared.ends.Leave.TheVariants as leave
+use Rattle.run_values.specs.declared.ends.End.{End}
+use Rattle.run_values.specs.declared.ends.End.TheVariants as end
+use Rattle.run_values.specs.declared.ends.Leave.TheVariants as leave
 use Rattle.run_parts.specs.declared.work.Work.{Work}
 use Rattle.run_parts.specs.Words.{ops}
 

@@ -28,7 +28,8 @@ use Rattle.ada_meaning.specs.Meaning.{Env, ObjectPart, Passed, Returned, Back, C
 use Rattle.ada_meaning.specs.Stored
 use Rattle.ada_meaning.specs.Stored.{Stored, Took, thread, par, first_of_both, after_all, doings, bind, ret, leaves, handles, apart, reads, writes, checks, puts}
 use Rattle.ada_base.specs.Image.{padded}
-use Rattle.run_store.specs.Operating.{unary_then, got}
+use Rattle.run_store.specs.Input.{got}
+use Rattle.run_values.specs.Values.{unary_then}
 use Rattle.run_parts.specs.declared.work.Work.{Work}
 use Rattle.run_parts.specs.Dealing.{opened, count_checked, chunking_of}
 use Rattle.run_parts.specs.Passing.{course_of}

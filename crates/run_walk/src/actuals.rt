@@ -11,8 +11,10 @@ use crate::exprs::eval;
 use crate::names::select;
 use crate::values::cells;
 use ada_base::{Items, Reason};
+use run_outside::Port;
 use run_parts::{Back, Cells, Passed, Shape, Work, read_whole};
-use run_store::{End, Env, Leave, Object, Port, Store, is_in};
+use run_store::{Env, Object, Store};
+use run_values::{End, Leave, is_in};
 use typed_tree::{Actual, Check, Root, Value};
 
 /// Actual parameters, evaluated, read and checked from left to right, behind others.

@@ -4,15 +4,18 @@ ghost use Rattle.std.specs.Prelude.{◌≡◌, ◌<◌, IfSome, option_map};
 ghost use Rattle.typed_tree.specs.Decoded.{body_at, decls_at, handlers_at, leaves_at, reasons_in, stmts_at};
 ghost use Rattle.ada_meaning.specs.Values.{has_reason, reason_eq};
 ghost use Rattle.run_store.specs.Environment.{env_of};
-ghost use Rattle.run_store.specs.Shows.{Shows, OrNoMemory, region_of};
+ghost use Rattle.run_store.specs.Shows.{Shows, region_of};
+ghost use Rattle.run_values.specs.Values.{OrNoMemory};
 ghost use Rattle.run_parts.specs.Found.{found_handler};
 ghost use Rattle.run_walk.specs.Walk as spec;
 ghost use Rattle.run_parts.specs.Words.{nodes_of};
 
 use crate::stmts::exec_all;
 use crate::values::cells;
+use run_outside::Port;
 use run_parts::{Work, find_handler, first_cells};
-use run_store::{End, Env, Leave, Object, Port, Region, Store};
+use run_store::{Env, Object, Region, Store};
+use run_values::{End, Leave};
 use typed_tree::Decl;
 
 /// A body.

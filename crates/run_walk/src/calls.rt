@@ -5,7 +5,8 @@ ghost use Rattle.typed_tree.specs.Decoded.{body_at};
 ghost use Rattle.typed_tree.specs.Programs.{program, sub_of};
 ghost use Rattle.ada_meaning.specs.Meaning as meaning;
 ghost use Rattle.ada_meaning.specs.Stored.{ret};
-ghost use Rattle.run_store.specs.Shows.{Shows, ShowsAs, OrNoMemory, entity_of};
+ghost use Rattle.run_store.specs.Shows.{Shows, ShowsAs, entity_of};
+ghost use Rattle.run_values.specs.Values.{OrNoMemory};
 ghost use Rattle.run_parts.specs.Passing.{passed_of, passed_list, back_option, returned_of, shape_of};
 ghost use Rattle.run_parts.specs.Words as words;
 ghost use Rattle.run_parts.specs.Reducing.{both_checked};
@@ -13,8 +14,10 @@ ghost use Rattle.run_walk.specs.Walk as spec;
 
 use crate::bodies::body;
 use ada_base::Reason;
+use run_outside::Port;
 use run_parts::{BackCells, Both, Passed, Returned, Work, back_cells, find_sub, turned};
-use run_store::{End, Env, Leave, Port, Region, Store};
+use run_store::{Env, Region, Store};
+use run_values::{End, Leave};
 use typed_tree::Sub;
 
 /// A call, where so many more may be active.

@@ -8,8 +8,10 @@ ghost use Rattle.run_walk.specs.Walk as spec;
 ghost use Rattle.run_parts.specs.Words.{nodes_of};
 
 use crate::exprs::eval;
+use run_outside::Port;
 use run_parts::{Work, operands};
-use run_store::{End, Env, Port, Store, is_true};
+use run_store::{Env, Store};
+use run_values::{End, is_true};
 use typed_tree::Link;
 
 /// An operator and its operands.

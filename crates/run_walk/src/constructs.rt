@@ -17,11 +17,13 @@ use crate::exprs::eval;
 use crate::loops::iterate;
 use crate::stmts::exec_all;
 use ada_meaning::MOST_THREADS;
+use run_outside::Port;
 use run_parts::{
     Chunking, Course, Work, caught, check_count, count_arms, each_chunk, either, even_sizes,
     find_arm, inside, later, loop_sizes, most_of, opened, size_at,
 };
-use run_store::{End, Env, Port, Range, Store};
+use run_store::{Env, Store};
+use run_values::{End, Range};
 use typed_tree::Chunk;
 
 /// What the threads of a construct do: iterations of a loop, or arms of a block.

@@ -4,7 +4,8 @@ ghost use Rattle.std.specs.Prelude.{◌≡◌, ◌<◌, ◌*◌, length};
 ghost use Rattle.typed_tree.specs.Decoded.{expr_at, selections_at, iteration_at, optional_at};
 ghost use Rattle.ada_meaning.specs.Meaning as meaning;
 ghost use Rattle.run_store.specs.Environment.{env_of, part_of};
-ghost use Rattle.run_store.specs.Shows.{Shows, ShowsAs, OrNoMemory};
+ghost use Rattle.run_store.specs.Shows.{Shows, ShowsAs};
+ghost use Rattle.run_values.specs.Values.{OrNoMemory};
 ghost use Rattle.run_parts.specs.Passing.{course_of};
 ghost use Rattle.run_walk.specs.Walk as spec;
 ghost use Rattle.run_parts.specs.Words.{nodes_of};
@@ -12,8 +13,10 @@ ghost use Rattle.run_parts.specs.Words.{nodes_of};
 use crate::exprs::{eval, holds};
 use crate::names::select;
 use ada_base::Reason;
+use run_outside::Port;
 use run_parts::{Course, Work, bounds_hold};
-use run_store::{End, Env, Leave, ObjectPart, Port, Range, Store};
+use run_store::{Env, ObjectPart, Store};
+use run_values::{End, Leave, Range};
 use typed_tree::Iteration;
 
 /// The range or array of an iteration.

@@ -15,8 +15,10 @@ use crate::names::select;
 use crate::quick::{LEVELS, quick};
 use crate::scalars::{call_scalars, pass_scalars};
 use ada_base::{Comparison, Items, Reason};
+use run_outside::Port;
 use run_parts::Work;
-use run_store::{End, Env, Leave, Object, Port, Store, between, bit, compares, is_in, is_true};
+use run_store::{Env, Object, Store};
+use run_values::{End, Leave, between, bit, compares, is_in, is_true};
 use typed_tree::{Check, Class, Expr, Link, Root, Sign};
 
 /// The value of an expression, where so many more calls may be active.

@@ -16,11 +16,13 @@ use crate::constructs::begin_chunks;
 use crate::courses::{begin_course, filtered};
 use crate::exprs::eval;
 use ada_base::{Items, Reason};
+use run_outside::Port;
 use run_parts::{
     Both, Chunking, Course, Work, check_count, either, fold_sizes, inside, is_spent, later, opened,
     push_some, reduced_by, size_at, turned, value_at,
 };
-use run_store::{End, Env, Leave, Port, Store};
+use run_store::{Env, Store};
+use run_values::{End, Leave};
 use typed_tree::Reducer;
 
 /// What is folded in a reduction, and by what: the token of its attribute, and the nodes of its iteration and its value.

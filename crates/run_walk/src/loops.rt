@@ -12,8 +12,10 @@ ghost use Rattle.run_parts.specs.Words.{nodes_of};
 use crate::courses::{begin_course, filtered};
 use crate::exprs::holds;
 use crate::stmts::exec_all;
+use run_outside::Port;
 use run_parts::{Course, Work, caught, turned};
-use run_store::{End, Env, Port, Store};
+use run_store::{Env, Store};
+use run_values::End;
 
 /// `loop` and `while` (5.5)
 #[cycle(walk)]

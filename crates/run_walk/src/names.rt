@@ -3,7 +3,8 @@
 ghost use Rattle.std.specs.Prelude.{◌≡◌, ◌<◌, ◌+◌, ◌*◌, ◌-ℤ◌, length};
 ghost use Rattle.typed_tree.specs.Decoded.{expr_at, selections_at};
 ghost use Rattle.run_store.specs.Environment.{env_of, part_of};
-ghost use Rattle.run_store.specs.Shows.{ShowsAs, OrNoMemory};
+ghost use Rattle.run_store.specs.Shows.{ShowsAs};
+ghost use Rattle.run_values.specs.Values.{OrNoMemory};
 ghost use Rattle.ada_meaning.specs.Values.{to_nat};
 ghost use Rattle.ada_meaning.specs.Meaning as meaning;
 ghost use Rattle.run_walk.specs.Walk as spec;
@@ -12,8 +13,10 @@ ghost use Rattle.run_parts.specs.Words.{nodes_of};
 use crate::exprs::eval;
 use crate::quick::{LEVELS, quick_rest};
 use ada_base::Reason;
+use run_outside::Port;
 use run_parts::{Work, component, moved};
-use run_store::{End, Env, Leave, ObjectPart, Port, Range, Store, between};
+use run_store::{Env, ObjectPart, Store};
+use run_values::{End, Leave, Range, between};
 use typed_tree::Selection;
 
 /// The part that selections lead to (4.1.1, 4.1.3).

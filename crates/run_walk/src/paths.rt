@@ -6,14 +6,15 @@ ghost use Rattle.typed_tree.specs.Decoded.{selections_at};
 ghost use Rattle.typed_tree.specs.Syntax.{Selections};
 ghost use Rattle.ada_meaning.specs.Stored.{State};
 ghost use Rattle.run_store.specs.Environment.{env_of};
-ghost use Rattle.run_store.specs.Shows.{ComesTo};
+ghost use Rattle.run_values.specs.Values.{ComesTo};
 ghost use Rattle.run_parts.specs.Paths.{index_by};
 ghost use Rattle.run_parts.specs.Words.{nodes_of};
 ghost use Rattle.run_walk.specs.Quick.{Gives, at_offset};
 ghost use Rattle.run_walk.specs.Walk as spec;
 
+use run_outside::Port;
 use run_parts::{ParameterIndex, Path, Work};
-use run_store::{Env, Object, Port, Store};
+use run_store::{Env, Object, Store};
 use typed_tree::Root;
 
 // how many cells come before the component of an index, where the parameter is in its range

@@ -11,10 +11,10 @@ ghost use Rattle.run_parts.specs.Words.{nodes_of};
 
 use crate::paths::{constant_by_path, place_by_path, variable_by_path};
 use ada_base::Comparison;
+use run_outside::Port;
 use run_parts::Work;
-use run_store::{
-    Env, Object, Port, Store, between, bit, compares, is_in, is_true, operated, unary_result,
-};
+use run_store::{Env, Object, Store};
+use run_values::{between, bit, compares, is_in, is_true, operated, unary_result};
 use typed_tree::{Check, Class, Expr, Link, Root, Selection, Sign};
 
 /// How many levels of operands, and how many selections of a name, are gone through before it is left to the walk. So a

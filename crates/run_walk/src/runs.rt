@@ -7,8 +7,10 @@ ghost use Rattle.run_walk.specs.Run.{IsRun};
 ghost use Rattle.run_walk.specs.Run as spec;
 
 use crate::bodies::body;
+use run_outside::Port;
 use run_parts::Work;
-use run_store::{End, Env, Leave, Port, Region, Store};
+use run_store::{Env, Region, Store};
+use run_values::{End, Leave};
 
 // How many calls may be active at once (11.1).
 const MOST_CALLS: u32 = 1000;

@@ -19,8 +19,10 @@ ghost use Rattle.run_walk.specs.Walk as spec;
 use crate::calls::function_value;
 use crate::quick::{LEVELS, quick_operand};
 use ada_base::Reason;
+use run_outside::Port;
 use run_parts::{InScalar, InScalars, Work, find_sub, turned};
-use run_store::{End, Env, Leave, Object, Port, Region, Store, is_in};
+use run_store::{Env, Object, Region, Store};
+use run_values::{End, Leave, is_in};
 use typed_tree::{Actual, Sub, Value};
 
 /// Actual parameters, where they are at most four scalars of mode `in` that have values without a call.

@@ -19,8 +19,10 @@ use crate::scalars::{call_scalars, pass_scalars};
 use crate::texts::{get, put};
 use crate::values::{assign, cells};
 use ada_base::{Items, Reason};
+use run_outside::Port;
 use run_parts::{Work, all_copied_back, find_alternative};
-use run_store::{End, Env, Leave, Port, Region, Store, is_in, is_true};
+use run_store::{Env, Region, Store};
+use run_values::{End, Leave, is_in, is_true};
 use typed_tree::{Stmt, Value};
 
 /// A statement.

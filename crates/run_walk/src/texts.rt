@@ -10,8 +10,10 @@ ghost use Rattle.run_parts.specs.Words.{nodes_of};
 use crate::exprs::eval;
 use crate::names::select;
 use ada_base::{Items, Reason};
+use run_outside::Port;
 use run_parts::{Work, with_field, with_image, with_line, with_text};
-use run_store::{End, Env, Leave, Port, Store, is_in};
+use run_store::{Env, Store};
+use run_values::{End, Leave, is_in};
 use typed_tree::{Class, Piece, Root, Scalar};
 
 /// `Put`, `Put_Line`, `New_Line`: all pieces are evaluated, and then put out as one.

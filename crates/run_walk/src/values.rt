@@ -3,15 +3,18 @@
 ghost use Rattle.std.specs.Prelude.{◌≡◌, ◌<◌, ◌+◌, ◌-◌, ◌+ℤ◌, pos, []};
 ghost use Rattle.typed_tree.specs.Decoded.{expr_at, selections_at, value_at, composite_at, associations_at, leaves_at, runs_in};
 ghost use Rattle.run_store.specs.Environment.{env_of, part_of};
-ghost use Rattle.run_store.specs.Shows.{Shows, ShowsAs, OrNoMemory};
+ghost use Rattle.run_store.specs.Shows.{Shows, ShowsAs};
+ghost use Rattle.run_values.specs.Values.{OrNoMemory};
 ghost use Rattle.run_walk.specs.Walk as spec;
 ghost use Rattle.run_parts.specs.Words.{nodes_of};
 
 use crate::exprs::eval;
 use crate::names::select;
 use ada_base::{Items, Reason};
+use run_outside::Port;
 use run_parts::{Cells, Work, further, lay, one, placed, read_whole, turned, write_all, zeros};
-use run_store::{End, Env, Leave, Object, ObjectPart, Port, Store, is_in, is_true};
+use run_store::{Env, Object, ObjectPart, Store};
+use run_values::{End, Leave, is_in, is_true};
 use typed_tree::{Association, Check, Composite, Iterated, Leaf, Root, Run, Value};
 
 /// The cells of what is stored.

@@ -1,7 +1,9 @@
 use ada_base::{Base, Items, Op};
 use ada_port::{HeldSink, SureSource};
+use run_outside::Ports;
 use run_plan::Plan;
-use run_store::{End, Leave, Ports, Region, Store};
+use run_store::{Region, Store};
+use run_values::{End, Leave};
 use run_walk::{Paths, SoundPlan, Work, run};
 use std::alloc::{AllocError, Global};
 use std::test::Fail;

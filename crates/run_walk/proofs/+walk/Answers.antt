@@ -3,7 +3,7 @@ use Rattle.typed_tree.specs.Decoded.{reducer_at, stmts_at, stmt_at, optional_at,
 use Rattle.typed_tree.specs.Programs.{sub_of}
 use Rattle.behaviours.specs.Paths as paths
 use Rattle.run_store.specs.Environment.{env_of, part_of}
-use Rattle.run_store.specs.declared.ends.End.TheVariants as end
+use Rattle.run_values.specs.declared.ends.End.TheVariants as end
 use Rattle.run_store.specs.Shows.{Shows, ShowsAs, region_of}
 use Rattle.run_parts.specs.Passing.{course_of, passed_list, returned_of}
 use Rattle.run_parts.specs.Given.{in_list, value_returned}

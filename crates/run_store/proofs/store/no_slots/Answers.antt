@@ -1,6 +1,6 @@
 use Rattle.std.proofs.Common.{arith}
 use Rattle.ada_meaning.specs.Stored.{no_slot}
-use Rattle.run_store.proofs.Layouts.{slots_more}
+use Rattle.run_store.proofs.Slots.{slots_more}
 use Rattle.run_store.proofs.store.no_slots.Goals as goal
 
 pub loop-k-preserved : goal.loop-k-preserved

@@ -1,0 +1,13 @@
+//! Values of runs, what is computed from them alone, and cells of subtypes.
+#![tactic(auto)]
+
+pub mod ends;
+pub mod subtypes;
+pub mod values;
+
+pub use ends::{End, Leave};
+pub use subtypes::{cells_of, components, defaults_of};
+pub use values::{
+    Range, base_of, between, bit, compares, count, divides, is_in, is_true, last_of, magnitude,
+    negated, operated, overflows, result_of, unary_result,
+};
