@@ -1,11 +1,7 @@
 //! How a run ended, and the values of the main procedure's variables then.
 
-ghost use Rattle.std.specs.Prelude.{◌≡◌};
-ghost use Rattle.run_reports.specs.Ends.{end_of};
-
 use ada_base::{Items, Reason};
 use ada_meaning::Variable;
-use run_values::{End, Leave};
 
 /// A variable of the main procedure's declarative part: its name as declared, and which of its cells are Boolean.
 #[derive(Drop)]
@@ -31,19 +27,4 @@ pub enum RunEnd {
     ReadFault,
     WriteFault,
     NoMemory,
-}
-
-/// The end of a run that an interpreter ended so, under a limit of turns, where the variables had these values then.
-pub fn end_of(how: Result<(), End>, limit: u64, finals: Finals) -> RunEnd
-    ensures { result ≡ end_of how limit finals }
-{
-    match how {
-        Ok(()) => RunEnd::Ended(finals),
-        Err(End::Left(Leave::Raises(reason))) => RunEnd::Raised(reason),
-        Err(End::Left(_)) => RunEnd::Ended(finals),
-        Err(End::Spent) => RunEnd::TurnsSpent(limit),
-        Err(End::NoMemory) => RunEnd::NoMemory,
-        Err(End::ReadFault) => RunEnd::ReadFault,
-        Err(End::WriteFault) => RunEnd::WriteFault,
-    }
 }

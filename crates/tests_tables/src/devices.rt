@@ -1,5 +1,5 @@
 //! Devices over files, readers and writers, and those that never fail. The source in memory that fails is tested by the
-//! Gets in integers.rt, the shelf and the sink in memory by the tests of ada_cmd.
+//! Gets in integers.rt, the shelf and the sink in memory by rows of tests_texts.
 ghost use Rattle.std.specs.Prelude.{◌≡◌, IfOk};
 
 use ada_port::files::read_text;

@@ -1,19 +1,21 @@
-//! Reads rows from its input, each a text and what is to be said of it, or a program and what is to come of it, or its code;
-//! compiles each text and runs or lists each program, and writes each row of which something else comes, and how many rows
-//! there were. With the letter M threads of a program look for each other, and with H one is held until the other left.
+//! Reads rows from its input, each a text and what is to be said of it, or a program and what is to come of it, or its code, or
+//! the words of a call with devices that fail, or a text and its canonical text; compiles each text, does what is asked with
+//! each program, and writes each row of which something else comes, and how many rows there were. With the letter M threads
+//! of a program look for each other, and with H one is held until the other left.
 #![tactic(auto)]
 
-mod listings;
+mod calls;
 mod programs;
 mod pulses;
 mod rows;
+mod words;
 
-use listings::listing_difference;
-use programs::program_difference;
+use programs::{listing_difference, program_difference};
 use pulses::{holding_difference, meeting_difference};
 use rows::{Row, row_of, said_of, text_of, wanted_of};
 use std::alloc::{AllocError, Global};
 use std::io;
+use words::{printing_difference, words_difference};
 
 /// What is said of a row, where it isn't what is to be said.
 fn difference(alloc: Global, row: &Row<'_>) -> Result<Option<String>, AllocError> {
@@ -34,7 +36,9 @@ fn main(rt: HostRuntime) -> io::Result<()> {
         count = count.saturating_add(1);
         let difference = match line.split_once('~') {
             Some(("R", fields)) => program_difference(&rt, alloc, fields)?,
-            Some(("L", fields)) => listing_difference(alloc, fields)?,
+            Some(("L", fields)) => listing_difference(&rt, alloc, fields)?,
+            Some(("W", fields)) => words_difference(&rt, alloc, fields)?,
+            Some(("C", fields)) => printing_difference(alloc, fields)?,
             Some(("M", fields)) => meeting_difference(&rt, alloc, fields)?,
             Some(("H", fields)) => holding_difference(&rt, alloc, fields)?,
             _ => difference(alloc, &row_of(line))?,

@@ -1,15 +1,7 @@
-//! Rows of programs that run: each with the words behind its file, its input, and what is to come of it.
+//! Rows of programs that run: each with the words behind its file, its input, and what is to come of it; or whose code is listed.
 
-ghost use Rattle.std.specs.Prelude.{◌<◌};
-ghost use Rattle.run_plan.specs.Plans.{HasNoZero};
-
-use ada_port::{HeldSink, MemSource, Pulse, Quiet};
-use command_words::{Request, read};
-use driver::{Unit, compile, execute};
-use run_reports::{
-    RunEnd, Status, put_vars, say, say_out_of_memory, say_raised, say_read_fault, say_spent,
-    say_usage, say_write_fault,
-};
+use crate::calls::{Call, Faults, came, swapped};
+use ada_port::{Pulse, Quiet};
 use std::alloc::{AllocError, Global};
 use std::thread::Threads;
 
@@ -19,6 +11,7 @@ use std::thread::Threads;
 /// the end of a line, and the end of a line for a bar.
 #[derive(Clone, Copy)]
 pub struct Program<'a> {
+    mode: &'a str,
     options: &'a str,
     policy: &'a str,
     declarations: &'a str,
@@ -39,6 +32,7 @@ pub fn program_of(fields: &str) -> Program<'_> {
     let (statements, rest) = field(rest);
     let (input, wanted) = field(rest);
     Program {
+        mode: "run",
         options,
         policy,
         declarations,
@@ -49,11 +43,12 @@ pub fn program_of(fields: &str) -> Program<'_> {
 }
 
 /// The program of a row whose code is listed.
-pub fn program_listed(fields: &str) -> Program<'_> {
+fn program_listed(fields: &str) -> Program<'_> {
     let (policy, rest) = field(fields);
     let (declarations, rest) = field(rest);
     let (statements, wanted) = field(rest);
     Program {
+        mode: "list",
         options: "",
         policy,
         declarations,
@@ -64,7 +59,7 @@ pub fn program_listed(fields: &str) -> Program<'_> {
 }
 
 /// The text of a row.
-pub fn text_of(alloc: Global, row: &Program<'_>) -> Result<String, AllocError> {
+fn text_of(alloc: Global, row: &Program<'_>) -> Result<String, AllocError> {
     let front = if row.policy == "K" {
         "pragma Conflict_Check_Policy (Known_Parallel_Conflict_Checks); "
     } else {
@@ -77,97 +72,13 @@ pub fn text_of(alloc: Global, row: &Program<'_>) -> Result<String, AllocError> {
     )
 }
 
-/// The words of a row.
-fn words_of(alloc: Global, row: &Program<'_>) -> Result<Vec<String>, AllocError> {
-    let mut words = Vec::new(alloc);
-    for word in ["run", "t.ada"] {
-        words.push(String::from_str(alloc, word)?)?;
-    }
-    for word in row.options.split_whitespace() {
-        words.push(String::from_str(alloc, word)?)?;
-    }
-    Ok(words)
-}
-
-fn swapped(byte: u8) -> u8 {
-    match byte {
-        b'|' => b'\n',
-        b'\n' => b'|',
-        other => other,
-    }
-}
-
 /// The input of a row.
-fn input_of(alloc: Global, row: &Program<'_>) -> Result<MemSource, AllocError> {
+fn input_of(alloc: Global, row: &Program<'_>) -> Result<Vec<u8>, AllocError> {
     let mut bytes = Vec::new(alloc);
     for byte in row.input.bytes() {
         bytes.push(swapped(byte))?;
     }
-    Ok(MemSource::new(bytes, Vec::new(alloc)))
-}
-
-/// Says how the run of a unit ended, with the lines of its variables where they are asked for.
-fn say_end(alloc: Global, unit: &Unit, vars: bool, end: RunEnd, said: &mut Said) -> Status {
-    let err = &mut said.err;
-    match end {
-        RunEnd::Ended(finals) if vars => {
-            match put_vars(alloc, &unit.typed, &unit.finals, &finals, &mut said.out) {
-                Ok(()) => Status::Done,
-                Err(_) => say_out_of_memory(err),
-            }
-        }
-        RunEnd::Ended(_) => Status::Done,
-        RunEnd::Raised(reason) => say_raised(alloc, unit.exceptions.as_slice(), reason, err),
-        RunEnd::TurnsSpent(turns) => say_spent(alloc, turns, err),
-        RunEnd::ReadFault => say_read_fault(err),
-        RunEnd::WriteFault => say_write_fault(err),
-        RunEnd::NoMemory => say_out_of_memory(err),
-    }
-}
-
-/// What was put to out and to err.
-#[derive(Drop)]
-struct Said {
-    out: HeldSink,
-    err: HeldSink,
-}
-
-fn run_text<R: Threads + Sync, P: Pulse + Sync>(
-    rt: &R,
-    alloc: Global,
-    request: Request<'_>,
-    text: &str,
-    input: MemSource,
-    pulse: &P,
-) -> Result<(Status, Said), AllocError>
-    requires planned { HasNoZero request.setting.plan }
-    requires some { 0 < request.setting.workers }
-{
-    let mut said = Said {
-        out: HeldSink::new(alloc),
-        err: HeldSink::new(alloc),
-    };
-    let status = match compile(alloc, text.as_bytes()) {
-        Err(refusal) => {
-            let line = refusal.line(alloc, request.file, text.as_bytes())?;
-            let line = format!(in alloc; "{line}\n")?;
-            say(&mut said.err, line.as_bytes(), Status::Refused)
-        }
-        Ok(unit) => {
-            let ran = execute(rt, alloc, &unit, request.setting, input, said.out, pulse);
-            said.out = ran.out;
-            say_end(alloc, &unit, request.vars, ran.end, &mut said)
-        }
-    };
-    Ok((status, said))
-}
-
-/// A text, as fields have it.
-pub fn push_field(line: &mut String, bytes: &[u8]) -> Result<(), AllocError> {
-    for byte in bytes {
-        line.push(char::from(swapped(*byte)))?;
-    }
-    Ok(())
+    Ok(bytes)
 }
 
 /// What came of a row, as its last fields have it. The pulse is told of the threads that begin.
@@ -177,19 +88,15 @@ pub fn outcome<R: Threads + Sync, P: Pulse + Sync>(
     row: &Program<'_>,
     pulse: &P,
 ) -> Result<String, AllocError> {
-    let words = words_of(alloc, row)?;
+    let words = format!(in alloc; "{} t.ada {}", row.mode, row.options)?;
     let text = text_of(alloc, row)?;
     let input = input_of(alloc, row)?;
-    let Ok(request) = read(alloc, &words) else {
-        let mut err = HeldSink::new(alloc);
-        return format!(in alloc; "{}~~usage", say_usage(&mut err).number());
+    let call = Call {
+        words: words.as_str(),
+        text: text.as_bytes(),
+        input: &input,
     };
-    let (status, said) = run_text(rt, alloc, request, text.as_str(), input, pulse)?;
-    let mut line = format!(in alloc; "{}~", status.number())?;
-    push_field(&mut line, said.out.bytes())?;
-    line.push('~')?;
-    push_field(&mut line, said.err.bytes())?;
-    Ok(line)
+    came(rt, alloc, call, Faults::none(alloc), pulse)
 }
 
 /// What comes of a row's program, where it isn't what is to come.
@@ -201,4 +108,18 @@ pub fn program_difference<R: Threads + Sync>(
     let row = program_of(fields);
     let line = outcome(rt, alloc, &row, &Quiet::new())?;
     Ok((line.as_str() != row.wanted).then_some(line))
+}
+
+/// What comes of a row's program where its code is to be listed, where it isn't the listing that is to come. The row's fields
+/// are between tildes, behind the letter L and a tilde: K or nothing, the declarations and the statements, as in a row of a run;
+/// and the listing.
+pub fn listing_difference<R: Threads + Sync>(
+    rt: &R,
+    alloc: Global,
+    fields: &str,
+) -> Result<Option<String>, AllocError> {
+    let row = program_listed(fields);
+    let line = outcome(rt, alloc, &row, &Quiet::new())?;
+    let wanted = format!(in alloc; "0~{}~", row.wanted)?;
+    Ok((line.as_str() != wanted.as_str()).then_some(line))
 }

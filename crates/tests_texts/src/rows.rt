@@ -82,7 +82,8 @@ pub fn text_of(alloc: Global, row: &Row<'_>) -> Result<String, AllocError> {
     Ok(text)
 }
 
-fn push_lines(text: &mut String, field: &str) -> Result<(), AllocError> {
+/// Appends a field, where `¶` ends a line.
+pub fn push_lines(text: &mut String, field: &str) -> Result<(), AllocError> {
     for part in field.chars() {
         text.push(if part == '¶' { '\n' } else { part })?;
     }

@@ -1,6 +1,0 @@
-use Rattle.std.proofs.Common.{◌∙◌}
-use Rattle.ada_cmd.proofs.Soaking.{same_text}
-use Rattle.ada_cmd.proofs.run.answer_soak.Goals as goal
-
-pub returns-in-Ok : goal.returns-in-Ok
-returns-in-Ok g c = same_text _ _ _ c.answer_text.result.status _ _ (c.as_bytes.ensures.value ∙ c.in-Ok.ensures) c.answer_text.ensures
