@@ -2,7 +2,7 @@
 use Rattle.std.proofs.Common.{refl}
 use Rattle.ada_lower.specs.Homes.{stmt_homes}
 use Rattle.ada_lower.specs.Standings.{expr_standings, decls_standings, stmt_standings}
-use Rattle.ada_lower.specs.LeaseRows.{Shares, Parts, Deals, Marks, Reaches, Nests}
+use Rattle.ada_lower.specs.LeaseRows.{Shares, Parts, Deals, Marks, Reaches, Nests, WayRows}
 
 pub shares : Shares
 unfolding stmt_homes stmt_standings decls_standings expr_standings
@@ -27,3 +27,6 @@ reaches = refl
 pub nests : Nests
 unfolding stmt_homes stmt_standings decls_standings expr_standings
 nests = refl
+
+pub ways : WayRows
+ways = (refl, refl, refl, refl, refl, refl)

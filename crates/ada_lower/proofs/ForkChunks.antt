@@ -195,7 +195,7 @@ module _ (limit : ℕ) (cuts : ℕ → ℕ → List ℕ) (program : Program) (c 
   -- ---- a range
 
   -- how many values it has, and the test of their number
-  few_same : (l h : ℤ) → int_le (l +ℤ pos most_threads) h ≡ not (nat_le (Values.count l h) most_threads)
+  few_same : (l h : ℤ) → Deeds.is_far most_threads l h ≡ not (nat_le (Values.count l h) most_threads)
   few_same l h = go (h +ℤ pos 1 -ℤ l) refl
     where
       leaf : (n : ℕ) (a b : Bool) → int_le (l +ℤ pos most_threads) h ≡ a → nat_le n most_threads ≡ b → (a ≡ true → b ≡ true → ⊥) → (a ≡ false → b ≡ false → ⊥) → int_le (l +ℤ pos most_threads) h ≡ not (nat_le n most_threads)
@@ -225,15 +225,14 @@ module _ (limit : ℕ) (cuts : ℕ → ℕ → List ℕ) (program : Program) (c 
     abbrev Onward : ℕ → Type 0
     Onward to = (k : Chunking) (cl ch : ℤ) → Chunks (Each kc low high check) cl ch k → nat_le 1 (many cl ch) ≡ true → nat_le (many cl ch) most_threads ≡ true → Runs limit c f x (bounds cl ch) any (then k) (λ d. on f to stk d) goal
 
-    few_goes : (l h : ℤ) (from to : ℕ) → int_le l h ≡ true → Stands c (one s.scope ht (i.LoadL s.scope.free) ⨟ one s.scope (ht + 1) (i.Field most_threads) ⨟ one s.scope (ht + 1) (i.LoadL (s.scope.free + 1)) ⨟ one s.scope (ht + 1 + 1) i.Le ⨟ when_ s.scope ht (one s.scope ht (i.Raise reason.StorageError))) from to → Onward to
+    few_goes : (l h : ℤ) (from to : ℕ) → int_le l h ≡ true → Stands c (one s.scope ht (i.LoadL s.scope.free) ⨟ one s.scope (ht + 1) (i.LoadL (s.scope.free + 1)) ⨟ one s.scope (ht + 1 + 1) (i.Far most_threads) ⨟ when_ s.scope ht (one s.scope ht (i.Raise reason.StorageError))) from to → Onward to
         → Doing limit c f x (bounds l h) g any (last_test l h) (λ d. on f from stk d) goal
-    few_goes l h from to le (j1, (j2, (j3, (j4, r)))) k =
-        let (at, ar) = stands_when c (from + 1 + 1 + 1 + 1) to s ht (one s.scope ht (i.Raise reason.StorageError)) r in
+    few_goes l h from to le (j1, (j2, (j3, r))) k =
+        let (at, ar) = stands_when c (from + 1 + 1 + 1) to s ht (one s.scope ht (i.Raise reason.StorageError)) r in
         does_by limit c f x (λ st d z. comes_on limit c (comes_kept limit cuts c f s.scope.free l stk d z (first_at limit cuts c f x s.scope.free l h g) j1)
-        (comes_on limit c (comes_goes limit c f (l ∷ stk) (from + 1 + 1) ((l +ℤ pos most_threads) ∷ stk) d j2 refl)
-        (comes_on limit c (comes_kept limit cuts c f (s.scope.free + 1) h ((l +ℤ pos most_threads) ∷ stk) d z (last_at limit cuts c f x s.scope.free l h g) j3)
-        (comes_goes limit c f (h ∷ (l +ℤ pos most_threads) ∷ stk) (from + 1 + 1 + 1 + 1) (Deeds.bit (int_le (l +ℤ pos most_threads) h) ∷ stk) d j4 refl))))
-        (raise_goes reason.StorageError (nat_le (Values.count l h) most_threads) l h (Deeds.bit (int_le (l +ℤ pos most_threads) h)) (from + 1 + 1 + 1 + 1) to (truth_bit (int_le (l +ℤ pos most_threads) h) ∙ few_same l h) (at_entry en at) ar
+        (comes_on limit c (comes_kept limit cuts c f (s.scope.free + 1) h (l ∷ stk) d z (last_at limit cuts c f x s.scope.free l h g) j2)
+        (comes_goes limit c f (h ∷ l ∷ stk) (from + 1 + 1 + 1) (Deeds.bit (Deeds.is_far most_threads l h) ∷ stk) d j3 refl)))
+        (raise_goes reason.StorageError (nat_le (Values.count l h) most_threads) l h (Deeds.bit (Deeds.is_far most_threads l h)) (from + 1 + 1 + 1) to (truth_bit (Deeds.is_far most_threads l h) ∙ few_same l h) (at_entry en at) ar
         (λ e. does_assoc limit c f x _ _ then
         (subst (λ b. Doing limit c f x (bounds l h) g any (stored.bind (Meaning.unless oper b reason.StorageError) (λ _. stored.bind (stored.ret (chunking_of l h)) then)) (λ d. on f to stk d) goal) (sym e)
         (does_returned limit c f x (λ _. stored.bind (stored.ret (chunking_of l h)) then) (tt {0})
@@ -249,7 +248,7 @@ module _ (limit : ℕ) (cuts : ℕ → ℕ → List ℕ) (program : Program) (c 
     tests_of l h = stored.bind (Meaning.unless oper (int_le l h) reason.ProgramError) (λ _. stored.bind (Meaning.unless oper (nat_le (Values.count l h) most_threads) reason.StorageError) (λ _. stored.ret (chunking_of l h)))
 
     abbrev tail_code : Emit
-    tail_code = one s.scope ht (i.LoadL s.scope.free) ⨟ one s.scope (ht + 1) (i.Field most_threads) ⨟ one s.scope (ht + 1) (i.LoadL (s.scope.free + 1)) ⨟ one s.scope (ht + 1 + 1) i.Le ⨟ when_ s.scope ht (one s.scope ht (i.Raise reason.StorageError))
+    tail_code = one s.scope ht (i.LoadL s.scope.free) ⨟ one s.scope (ht + 1) (i.LoadL (s.scope.free + 1)) ⨟ one s.scope (ht + 1 + 1) (i.Far most_threads) ⨟ when_ s.scope ht (one s.scope ht (i.Raise reason.StorageError))
 
     -- the range has a value
     passes : (l h : ℤ) (from to : ℕ) → int_le l h ≡ true → Stands c tail_code from to → Onward to → Doing limit c f x (bounds l h) g any (stored.bind (tests_of l h) then) (λ d. on f from stk d) goal

@@ -168,7 +168,7 @@ module _ (l t : ℕ → Type 0) (s : Scope) (k : Known l s) where
   fore_raise_above h d = (((λ n z. absurd z), k.0), (((λ n z. absurd z), k.0), (((λ n z. absurd z), k.0), (k.0, ((λ n z. absurd z), k.0)))))
 
   fore_raise_beyond : (h : ℕ) → Fore l t (raise_beyond s h)
-  fore_raise_beyond h = (((λ n z. absurd z), k.0), (((λ n z. absurd z), k.0), (((λ n z. absurd z), k.0), (((λ n z. absurd z), k.0), (k.0, ((λ n z. absurd z), k.0))))))
+  fore_raise_beyond h = (((λ n z. absurd z), k.0), (((λ n z. absurd z), k.0), (((λ n z. absurd z), k.0), (k.0, ((λ n z. absurd z), k.0)))))
 
   pub fore_ends : (h : ℕ) (it : Iteration) → Fore l t (ends_code s h it)
   fore_ends h (Range p reverse low high check filter) = (((λ n z. absurd z), k.0), ((λ n z. absurd z), k.0))

@@ -75,6 +75,7 @@ IsPlain i.Lt = Unit {0}
 IsPlain i.Le = Unit {0}
 IsPlain i.Gt = Unit {0}
 IsPlain i.Ge = Unit {0}
+IsPlain (i.Far n) = Unit {0}
 IsPlain i.Flip = Unit {0}
 IsPlain i.Differ = Unit {0}
 IsPlain (i.Range low high) = Unit {0}
@@ -261,6 +262,7 @@ module _ (c : Code) where
     plain_step m mk base i.Le w = record { here = refl; marked = mk; base = base; operands = refl; begun = omega arith; ways = refl; belongs = λ q. tt }
     plain_step m mk base i.Gt w = record { here = refl; marked = mk; base = base; operands = refl; begun = omega arith; ways = refl; belongs = λ q. tt }
     plain_step m mk base i.Ge w = record { here = refl; marked = mk; base = base; operands = refl; begun = omega arith; ways = refl; belongs = λ q. tt }
+    plain_step m mk base (i.Far n) w = record { here = refl; marked = mk; base = base; operands = refl; begun = omega arith; ways = refl; belongs = λ q. tt }
     plain_step m mk base i.Flip w = record { here = refl; marked = mk; base = base; operands = refl; begun = omega arith; ways = refl; belongs = λ q. tt }
     plain_step m mk base i.Differ w = record { here = refl; marked = mk; base = base; operands = refl; begun = omega arith; ways = refl; belongs = λ q. tt }
     plain_step m mk base (i.Range low high) w = record { here = refl; marked = mk; base = base; operands = refl; begun = omega arith; ways = refl; belongs = λ q. tt }
@@ -465,7 +467,7 @@ module _ (c : Code) where
 
     pub firm_raise_beyond : (h : ℕ) → In c s.body s.free → In c s.body (s.free + 1) → Firm c l (raise_beyond s h) (at s h) (at s h)
     firm_raise_beyond h r r' =
-        (at s (h + 1), firm_own h s.free r, (at s (h + 1), plain h (i.Field most_threads) tt, (at s (h + 1 + 1), firm_own (h + 1) (s.free + 1) r', (at s (h + 1), plain h i.Le tt, (refl, k.entry, refl, firm_raise h _ (at s h))))))
+        (at s (h + 1), firm_own h s.free r, (at s (h + 1 + 1), firm_own (h + 1) (s.free + 1) r', (at s (h + 1), plain h (i.Far most_threads) tt, (refl, k.entry, refl, firm_raise h _ (at s h)))))
 
     -- the end of a turn
     pub firm_counting : (h : ℕ) (reverse : Bool) (d head : ℕ) → In c s.body d → In c s.body (d + 1) → Firm c (Also l head (at s h)) (one s h (counting reverse d head)) (at s h) (at s h)

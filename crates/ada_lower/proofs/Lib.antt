@@ -64,6 +64,7 @@ mod ForkBlock
 mod LeaseGeometry
 mod ItemGeometry
 mod LeaseOwners
+pub mod LeaseRuns
 mod Formals
 mod Bodies
 mod Main

@@ -239,7 +239,7 @@ module _ (program : Program) where
     made_raise_above h d = ((k.0, tt), ((k.0, tt), ((k.0, tt), (k.0, (k.0, tt)))))
 
     made_raise_beyond : (h : ℕ) → Made (raise_beyond s h)
-    made_raise_beyond h = ((k.0, tt), ((k.0, tt), ((k.0, tt), ((k.0, tt), (k.0, (k.0, tt))))))
+    made_raise_beyond h = ((k.0, tt), ((k.0, tt), ((k.0, tt), (k.0, (k.0, tt)))))
 
     made_ends : (h : ℕ) (it : Iteration) → Made (ends_code s h it)
     made_ends h (Range p reverse low high check filter) = ((k.0, tt), (k.0, tt))

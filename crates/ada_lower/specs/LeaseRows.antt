@@ -1,12 +1,14 @@
 -- What the threads of small programs may write is granted, and that is lent to them, as it was worked out by hand beside their
 -- code (in specs/ConstructRows.antt and specs/ThreadRows.antt of lower_emission).
-use Rattle.std.specs.Prelude.{◌≡◌, ℕ, zero, suc, pos, List, [], ◌∷◌}
+use Rattle.std.specs.Prelude.{◌≡◌, ℕ, zero, suc, pos, List, [], ◌∷◌, Option, Some, None, true}
 use Rattle.typed_tree.specs.Syntax.{Program}
 use Rattle.stack_code.specs.declared.code.Lease.{Lease}
 use Rattle.check_effects.specs.Conflicts.{EffectPath}
-use Rattle.check_effects.specs.Effects.{LoopIndex, ChunkIndex}
+use Rattle.check_effects.specs.Effects.{At, Fixed, LoopIndex, ChunkIndex, Any}
+use Rattle.ada_meaning.specs.Shapes.{Shape, Single, Record, Dimension, NoShape, AlsoShape}
 use Rattle.lower_emission.specs.ConstructRows.{shares, shares_lent, parts, parts_lent}
 use Rattle.lower_emission.specs.ThreadRows.{deals, deals_lent, marks, marks_lent, reaches, reaches_lent, nests, nests_lent}
+use Rattle.ada_lower.specs.Leases.{Place, All, Loop, Way, way_of}
 use Rattle.ada_lower.specs.Places.{all_leases}
 
 -- the paths that are granted to the threads of each construct, each with the arm that writes it
@@ -57,5 +59,45 @@ nests_grants (suc site) = []
 abbrev pub Nests : Type 0
 Nests = all_leases nests nests_grants ≡ nests_lent 0 ∷ nests_lent 1 ∷ []
 
+-- ---- ways through M : array (1 .. 2, 1 .. 3) of T, with I the loop parameter and J any number
+
+-- two rows of three of them
+abbrev table : Shape → Shape
+table t = Dimension (pos 1) (pos 2) (Dimension (pos 1) (pos 3) t)
+
+-- record X, Y : Integer; end record
+abbrev pair : Shape
+pair = Record (AlsoShape Single (AlsoShape Single NoShape))
+
+abbrev way : (base : ℕ) → List Place → (run : ℕ) → Option Way
+way base places run = Some (record { base = base; places = places; run = run })
+
+-- M (I, J): the row of I, whose three cells lie side by side
+abbrev pub RowWay : Type 0
+RowWay = way_of true None (table Single) (LoopIndex (pos 0) ∷ Any ∷ []) 0 ≡ way 0 (Loop (pos 1) 2 3 ∷ []) 3
+
+-- M (J, I): of each of the two rows one cell
+abbrev pub ColumnWay : Type 0
+ColumnWay = way_of true None (table Single) (Any ∷ LoopIndex (pos 0) ∷ []) 0 ≡ way 0 (All 2 3 ∷ Loop (pos 1) 3 1 ∷ []) 1
+
+-- M (J, K), with K any number too: all six cells
+abbrev pub TableWay : Type 0
+TableWay = way_of true None (table Single) (Any ∷ Any ∷ []) 0 ≡ way 0 [] 6
+
+-- M (J, 2): of each of the two rows the second cell
+abbrev pub SecondWay : Type 0
+SecondWay = way_of true None (table Single) (Any ∷ Fixed (pos 2) ∷ []) 0 ≡ way 1 (All 2 3 ∷ []) 1
+
+-- M (I, J), each of two cells: six cells side by side
+abbrev pub PairWay : Type 0
+PairWay = way_of true None (table pair) (LoopIndex (pos 0) ∷ Any ∷ []) 0 ≡ way 0 (Loop (pos 1) 2 6 ∷ []) 6
+
+-- M (I, J).Y: the second cell of each pair
+abbrev pub FieldWay : Type 0
+FieldWay = way_of true None (table pair) (LoopIndex (pos 0) ∷ Any ∷ At 1 ∷ []) 0 ≡ way 1 (Loop (pos 1) 2 6 ∷ All 3 2 ∷ []) 1
+
+abbrev pub WayRows : Type 0
+WayRows = RowWay × ColumnWay × TableWay × SecondWay × PairWay × FieldWay
+
 abbrev pub LeaseRows : Type 0
-LeaseRows = Shares × Parts × Deals × Marks × Reaches × Nests
+LeaseRows = Shares × Parts × Deals × Marks × Reaches × Nests × WayRows

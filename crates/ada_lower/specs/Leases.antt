@@ -1,5 +1,5 @@
 -- Leases: which cells of an object a thread has, by the steps of a granted access.
-use Rattle.std.specs.Prelude.{◌≡◌, ℕ, zero, suc, ◌+◌, ◌-◌, ◌*◌, ◌<◌, ℤ, pos, ◌+ℤ◌, ◌-ℤ◌, List, [], ◌∷◌, Option, Some, None, Bool, cond}
+use Rattle.std.specs.Prelude.{◌≡◌, ℕ, zero, suc, ◌+◌, ◌-◌, ◌*◌, ◌<◌, nat_eq, ℤ, pos, ◌+ℤ◌, ◌-ℤ◌, List, [], ◌∷◌, Option, Some, None, Bool, true, false, ◌&&◌, cond}
 use Rattle.behaviours.specs.Paths.{Entity, VariableOf}
 use Rattle.typed_tree.specs.Syntax.{Program}
 use Rattle.ada_meaning.specs.Values.{between, to_nat, count}
@@ -46,6 +46,19 @@ abbrev pub also : Place → Option Way → Option Way
 also p None = None
 also p (Some w) = Some (record { base = w.base; places = p ∷ w.places; run = w.run })
 
+abbrev pub is_last : List Place → Bool
+is_last [] = true
+is_last (p ∷ ps) = false
+
+-- the way ends at so many cells side by side
+abbrev pub is_row : ℕ → Way → Bool
+is_row size w = is_last w.places && nat_eq w.run size
+
+-- Any of so many places of that size. Where the way behind has all cells of a place, those of all places lie side by side.
+abbrev pub at_any : (count size : ℕ) → Option Way → Option Way
+at_any count size None = None
+at_any count size (Some w) = cond (is_row size w) (Some (record { base = w.base; places = []; run = count * size })) (also (All count size) (Some w))
+
 -- the item of a construct over an array lies at a position from 1 on, through so many dimensions together
 abbrev pub at_item : Option ℕ → Shape → Option Way → Option Way
 at_item None t w = w
@@ -67,7 +80,7 @@ way_of loops items (Dimension low high u) (LoopIndex d ∷ ss) n =
 way_of loops items (Dimension low high u) (Fixed v ∷ ss) n =
     at_item items (Dimension low high u) (cond (between low v high) (way_of loops None u ss (n + to_nat (v -ℤ low) * size u)) None)
 way_of loops items (Dimension low high u) (ChunkIndex d ∷ ss) n = at_item items (Dimension low high u) (also (ByChunk (low -ℤ d) (count low high) (size u)) (way_of loops None u ss n))
-way_of loops items (Dimension low high u) (Any ∷ ss) n = at_item items (Dimension low high u) (also (All (count low high) (size u)) (way_of loops None u ss n))
+way_of loops items (Dimension low high u) (Any ∷ ss) n = at_item items (Dimension low high u) (at_any (count low high) (size u) (way_of loops None u ss n))
 way_of loops items (Record us) (At k ∷ ss) n = at_item items (Record us) (in_field (field_from n us k) (λ m u. way_of loops None u ss m))
 way_of loops items t ss n = None
 

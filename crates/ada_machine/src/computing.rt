@@ -15,7 +15,7 @@ use crate::memory::{
 use crate::operands::{
     Computed, add, add_constant, check_range, combine_digits, compare, differ, divide, double,
     exchange, flip, greater, invert, jump_if_false, jump_if_true, jump_unless, lesser,
-    make_absolute, multiply, multiply_by_constant, negate, pop, push, push_local, push_number,
+    make_absolute, measure, multiply, multiply_by_constant, negate, pop, push, push_local, push_number,
     raise_again, raise_to, reduce, reduce_by_constant, remain, subtract, subtract_constant,
 };
 use leave_board::Halt;
@@ -84,6 +84,7 @@ pub fn compute<C: Cells, H: Halt>(
         Instr::Le => compare(stack, pc, Relation::AtMost),
         Instr::Gt => compare(stack, pc, Relation::Greater),
         Instr::Ge => compare(stack, pc, Relation::AtLeast),
+        Instr::Far(distance) => measure(stack, pc, distance),
         Instr::And => combine_digits(stack, pc, Digits::Both),
         Instr::Or => combine_digits(stack, pc, Digits::Either),
         Instr::Xor => combine_digits(stack, pc, Digits::Differ),

@@ -2,7 +2,7 @@
 ghost use Rattle.std.specs.Prelude.{◌≡◌, ◌+◌, ◌^◌, ◌<◌, ◌≤◌, ◌-ℤ◌, ◌+ℤ◌, ◌*ℤ◌, ◌≤ℤ◌, ◌∷◌, reverse, drop, length, vec_len, vec_capacity, Option, Some, None, IfSome, pos, nat_abs, ℤ, cond, slice_get, slice_index, not, int_div, int_rem};
 ghost use Rattle.std.specs.Int.{int_max, int_min};
 ghost use Rattle.ada_base.specs.Operation.{is_in_base, within, aligned, unless_zero, result_of, CanApply, AreOperands};
-ghost use Rattle.stack_code.specs.Deeds.{applied, is_related, digits_of, is_between, truth, differ, bit, pushed, unary, binary, unless, cell_of_frame, on_one, on_two, if_between, indexed, unless_divisor_zero, value_or_zero, reason_of, GoesOn, Fails};
+ghost use Rattle.stack_code.specs.Deeds.{applied, is_related, digits_of, is_far, is_between, truth, differ, bit, pushed, unary, binary, unless, cell_of_frame, on_one, on_two, if_between, indexed, unless_divisor_zero, value_or_zero, reason_of, GoesOn, Fails};
 ghost use Rattle.ada_machine.specs.Played.{Computes, ComputesOr, IsReason};
 
 use ada_base::{Base, Op, Reason, apply};
@@ -290,6 +290,13 @@ fn is_related(relation: Relation, x: i64, y: i64) -> bool
 }
 
 #[inline(always)]
+fn is_far(distance: u32, first: i64, last: i64) -> bool
+    ensures { result ≡ is_far distance first last }
+{
+    first <= last && last.abs_diff(first) >= u64::from(distance)
+}
+
+#[inline(always)]
 fn digits_of(digits: Digits, x: i64, y: i64) -> i64
     ensures { result ≡ digits_of digits x y }
 {
@@ -468,6 +475,19 @@ pub(crate) fn compare(stack: &mut Vec<i64>, pc: usize, relation: Relation) -> Co
     let y = take(stack);
     let x = take(stack);
     put(stack, bit(is_related(relation, x, y)));
+    Computed::To(pc + 1)
+}
+
+#[inline(always)]
+pub(crate) fn measure(stack: &mut Vec<i64>, pc: usize, distance: u32) -> Computed
+    requires two { 2 ≤ vec_len stack.old }
+    requires next { pc < usize.MAX }
+    ensures deed { Computes (binary pc (reverse stack.old.items) (λ x y. Some (bit (is_far distance x y)))) result stack.new.items }
+    ensures room { vec_capacity stack.new ≡ vec_capacity stack.old }
+{
+    let y = take(stack);
+    let x = take(stack);
+    put(stack, bit(is_far(distance, x, y)));
     Computed::To(pc + 1)
 }
 

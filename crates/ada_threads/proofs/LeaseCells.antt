@@ -185,6 +185,14 @@ module _ (site : CodeSite) (q : Asked) (sees : List ℕ) (j : Share) (l : Lease)
       from x (inl h) = h
       from x (inr h) = absurd (none_lent none x h)
 
+  -- none of the thread's iterations has the lease
+  pub lease_out : (many : ℕ) (old : List Region) (s : Span) → IsSpan site.kind l.arm j s → s.count ≡ 0 → AddsLease site q sees many j l old old
+  lease_out many old s span empty = (λ x. (λ h. inl h, from x), λ h. h)
+    where
+      from : (x : ℕ) → (covered old x ≡ true) ⊎ LentBy site q sees j x l → covered old x ≡ true
+      from x (inl h) = h
+      from x (inr (i, low, high, (arm, lies))) = let h = (span i).1 (low, high, arm) in absurd (omega (arith, h.0, h.1, empty))
+
   module _ (s : Span) (base : ℕ) (b : Comb) (bs : List Comb) (frame : frame_at sees l.frame ≡ Some base) (span : IsSpan site.kind l.arm j s) (first : IsFirst q l s base b) (led : LedTo (chunk_at site.kind q j.number) l.steps b bs) where
     abbrev chunk : ℤ
     chunk = chunk_at site.kind q j.number

@@ -39,20 +39,20 @@ pub fn frame_of(frame: u32, asked: Asked, part: Iterations) -> Option<Frame>
     let more = frame.saturating_sub(4);
     if part.size == 0 {
         return Some(Frame {
-            first: chunk,
-            count: asked.initial,
-            number: 1,
-            initial: 0,
+            chunk,
+            initial: asked.initial,
+            first: 1,
+            last: 0,
             more,
         });
     }
     let first = further(asked.first, part.first)?;
     let last = further(first, part.size - 1)?;
     Some(Frame {
-        first: chunk,
-        count: asked.initial,
-        number: first,
-        initial: last,
+        chunk,
+        initial: asked.initial,
+        first,
+        last,
         more,
     })
 }

@@ -163,6 +163,7 @@ fn comb_of(asked: Asked, lease: &Lease, span: Span, base: u64) -> Result<Comb, A
     })
 }
 
+#[tactic(auto, using(crate::proofs::LeaseCells::lease_out))]
 fn add_lease(
     lender: &Lender<'_>,
     lease: &Lease,
@@ -171,10 +172,14 @@ fn add_lease(
 ) -> Result<(), AllocError>
     ensures { IfOk result (λ _. AddsLease lender.now.site.now lender.now.asked lender.now.sees.now lender.now.many (share_of part) lease.now regions.old.items regions.new.items) }
 {
+    // Most leases of a block are of other threads' arms.
+    let span = span_of(lender.site.kind, lease.arm, part);
+    if span.count == 0 {
+        return Ok(());
+    }
     let Some(base) = base_of(lender.sees, lease.frame) else {
         return Ok(());
     };
-    let span = span_of(lender.site.kind, lease.arm, part);
     let comb = comb_of(lender.asked, lease, span, base)?;
     let chunk = chunk_of(lender.site.kind, lender.asked, part.number);
     let combs = after_steps(lender.alloc, comb, lease.steps.as_slice(), chunk)?;

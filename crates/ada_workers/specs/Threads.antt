@@ -16,7 +16,7 @@ use Rattle.ada_workers.specs.declared.threads.Thread.{Thread}
 
 -- the first values of a frame's cells
 abbrev pub frame_values : Frame → List ℤ
-frame_values f = f.first ∷ f.count ∷ f.number ∷ f.initial ∷ replicate f.more (pos 0)
+frame_values f = f.chunk ∷ f.initial ∷ f.first ∷ f.last ∷ replicate f.more (pos 0)
 
 -- how an end is told
 abbrev pub state_of : Ending → State

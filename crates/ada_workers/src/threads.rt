@@ -19,18 +19,18 @@ use std::marker::Send;
 use std::thread::Threads;
 use std::vec::IntoIter;
 
-/// The first values of a thread's own cells: these four numbers, and so many more cells of 0. What the numbers are for is
-/// the path's affair.
+/// The first values of a thread's own cells: these four numbers, each in a cell, and so many more cells of 0. What a path
+/// does with them is its own affair.
 #[derive(Clone, Copy)]
 pub struct Frame {
-    /// The first cell.
-    pub first: i64,
-    /// The second cell.
-    pub count: i64,
-    /// The third cell.
-    pub number: i64,
-    /// The fourth cell.
+    /// The value of the chunk parameter, or 0 where there is none (5.5).
+    pub chunk: i64,
+    /// The value at which the thread's fold begins, or 0 where it has none (4.5.10).
     pub initial: i64,
+    /// The first of the thread's loop values or positions; above `last` where it has none.
+    pub first: i64,
+    /// The last of them.
+    pub last: i64,
     /// How many cells of 0 follow.
     pub more: u32,
 }
@@ -49,10 +49,10 @@ fn framed(alloc: Global, frame: Frame) -> Result<Memory, AllocError>
     ensures { IfOk result (λ m. m.values ≡ frame_values frame) }
 {
     let mut own = Memory::new(alloc, frame.more + 4)?;
-    own.set(0, frame.first);
-    own.set(1, frame.count);
-    own.set(2, frame.number);
-    own.set(3, frame.initial);
+    own.set(0, frame.chunk);
+    own.set(1, frame.initial);
+    own.set(2, frame.first);
+    own.set(3, frame.last);
     Ok(own)
 }
 
@@ -92,10 +92,10 @@ pub fn enter(view: &mut View<'_>, frame: Frame) -> Result<(), AllocError>
     let base = view.len();
     view.reserve(frame.more + 4)?;
     view.push_frame(frame.more + 4);
-    view.set(base, frame.first);
-    view.set(base + 1, frame.count);
-    view.set(base + 2, frame.number);
-    view.set(base + 3, frame.initial);
+    view.set(base, frame.chunk);
+    view.set(base + 1, frame.initial);
+    view.set(base + 2, frame.first);
+    view.set(base + 3, frame.last);
     Ok(())
 }
 

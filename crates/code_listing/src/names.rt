@@ -74,6 +74,7 @@ fn name_before_one(instr: Instr) -> &'static str
         Instr::Local(_) => "LOCAL",
         Instr::Global(_) => "GLOBAL",
         Instr::Field(_) => "FIELD",
+        Instr::Far(_) => "FAR",
         Instr::Copy(_) => "COPY",
         Instr::Add(_) => "ADD",
         Instr::Sub(_) => "SUB",

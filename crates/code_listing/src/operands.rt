@@ -51,6 +51,7 @@ fn operand_of(instr: Instr) -> Operands
         Instr::Local(n)
         | Instr::Global(n)
         | Instr::Field(n)
+        | Instr::Far(n)
         | Instr::Copy(n)
         | Instr::Jump(n)
         | Instr::JFalse(n)

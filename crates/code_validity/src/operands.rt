@@ -106,6 +106,7 @@ pub(crate) fn takes_of(code: &Code, instr: Instr) -> u32
         | Instr::Le
         | Instr::Gt
         | Instr::Ge
+        | Instr::Far(_)
         | Instr::And
         | Instr::Or
         | Instr::Xor => 2,
@@ -145,6 +146,7 @@ pub(crate) fn pushes_of(code: &Code, instr: Instr) -> u32
         | Instr::Le
         | Instr::Gt
         | Instr::Ge
+        | Instr::Far(_)
         | Instr::And
         | Instr::Or
         | Instr::Xor

@@ -381,7 +381,7 @@ raise_above s h d = one s h (i.LoadL d) ⨟ one s (h + 1) (i.LoadL (d + 1)) ⨟ 
 
 -- raises where there are more chunks than threads may be
 abbrev pub raise_beyond : Scope → ℕ → Emit
-raise_beyond s h = one s h (i.LoadL s.free) ⨟ one s (h + 1) (i.Field most_threads) ⨟ one s (h + 1) (i.LoadL (s.free + 1)) ⨟ one s (h + 1 + 1) i.Le ⨟ when_ s h (one s h (i.Raise reason.StorageError))
+raise_beyond s h = one s h (i.LoadL s.free) ⨟ one s (h + 1) (i.LoadL (s.free + 1)) ⨟ one s (h + 1 + 1) (i.Far most_threads) ⨟ when_ s h (one s h (i.Raise reason.StorageError))
 
 -- the first and the last: loop values, or positions in an array
 abbrev pub ends_code : Scope → ℕ → Iteration → Emit

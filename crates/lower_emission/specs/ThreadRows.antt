@@ -44,59 +44,58 @@ deals_code =
     ∷ begun 13 1 (i.JFalse 15)
     ∷ begun 14 0 (i.Raise reason.ProgramError)
     ∷ begun 15 0 (i.LoadL 2)
-    ∷ begun 16 1 (i.Field 4096)
-    ∷ begun 17 1 (i.LoadL 3)
-    ∷ begun 18 2 i.Le
-    ∷ begun 19 1 (i.JFalse 21)
-    ∷ begun 20 0 (i.Raise reason.StorageError)
-    ∷ begun 21 0 (i.Push (pos 1))
-    ∷ begun 22 1 (i.StoreL 4)
-    ∷ begun 23 0 (i.Push (pos 4))
-    ∷ begun 24 1 (i.StoreL 5)
-    ∷ begun 25 0 (i.LoadL 4)
-    ∷ begun 26 1 (i.LoadL 5)
-    ∷ begun 27 2 i.Le
-    ∷ begun 28 1 (i.JFalse 29)
-    ∷ begun 29 0 (i.LoadL 4)
-    ∷ begun 30 1 (i.LoadL 5)
-    ∷ begun 31 2 (i.LoadL 2)
-    ∷ begun 32 3 (i.LoadL 3)
-    ∷ begun 33 4 (i.Push (pos 0))
-    ∷ begun 34 5 (i.Fork 0)
-    ∷ begun 35 2 (i.Jump 52)
-    ∷ thread 36 0 (i.LoadL 2)
-    ∷ thread 37 1 (i.LoadL 3)
-    ∷ thread 38 2 i.Le
-    ∷ thread 39 1 (i.JFalse 51)
-    ∷ thread 40 0 (i.Jump 42)
-    ∷ thread 41 0 (i.Jump 51)
-    ∷ thread 42 0 i.Turn
-    ∷ thread 43 0 (i.Global 0)
-    ∷ thread 44 1 (i.IndexL 0 (pos 1) (pos 2) 1)
-    ∷ thread 45 1 i.Dup
-    ∷ thread 46 2 (i.StoreL 4)
-    ∷ thread 47 1 (i.LoadL 2)
-    ∷ thread 48 2 fits
-    ∷ thread 49 2 i.Store
-    ∷ thread 50 0 (i.Next 2 3 42)
-    ∷ thread 51 0 i.End
-    ∷ begun 52 2 i.Unnest
-    ∷ main 53 2 (i.StoreL 6)
-    ∷ main 54 1 (i.StoreL 7)
-    ∷ main 55 0 (i.LoadL 6)
-    ∷ main 56 1 (i.JFalse 68)
-    ∷ main 57 0 (i.LoadL 6)
-    ∷ main 58 1 (i.Push (pos 1))
-    ∷ main 59 2 i.Eq
-    ∷ main 60 1 (i.JFalse 62)
-    ∷ main 61 0 i.Halt
-    ∷ main 62 0 (i.LoadL 6)
-    ∷ main 63 1 (i.Push (pos 2))
-    ∷ main 64 2 i.Eq
-    ∷ main 65 1 (i.JFalse 68)
-    ∷ main 66 0 (i.LoadL 7)
-    ∷ main 67 1 i.Halt
-    ∷ main 68 0 i.Halt
+    ∷ begun 16 1 (i.LoadL 3)
+    ∷ begun 17 2 (i.Far 4096)
+    ∷ begun 18 1 (i.JFalse 20)
+    ∷ begun 19 0 (i.Raise reason.StorageError)
+    ∷ begun 20 0 (i.Push (pos 1))
+    ∷ begun 21 1 (i.StoreL 4)
+    ∷ begun 22 0 (i.Push (pos 4))
+    ∷ begun 23 1 (i.StoreL 5)
+    ∷ begun 24 0 (i.LoadL 4)
+    ∷ begun 25 1 (i.LoadL 5)
+    ∷ begun 26 2 i.Le
+    ∷ begun 27 1 (i.JFalse 28)
+    ∷ begun 28 0 (i.LoadL 4)
+    ∷ begun 29 1 (i.LoadL 5)
+    ∷ begun 30 2 (i.LoadL 2)
+    ∷ begun 31 3 (i.LoadL 3)
+    ∷ begun 32 4 (i.Push (pos 0))
+    ∷ begun 33 5 (i.Fork 0)
+    ∷ begun 34 2 (i.Jump 51)
+    ∷ thread 35 0 (i.LoadL 2)
+    ∷ thread 36 1 (i.LoadL 3)
+    ∷ thread 37 2 i.Le
+    ∷ thread 38 1 (i.JFalse 50)
+    ∷ thread 39 0 (i.Jump 41)
+    ∷ thread 40 0 (i.Jump 50)
+    ∷ thread 41 0 i.Turn
+    ∷ thread 42 0 (i.Global 0)
+    ∷ thread 43 1 (i.IndexL 0 (pos 1) (pos 2) 1)
+    ∷ thread 44 1 i.Dup
+    ∷ thread 45 2 (i.StoreL 4)
+    ∷ thread 46 1 (i.LoadL 2)
+    ∷ thread 47 2 fits
+    ∷ thread 48 2 i.Store
+    ∷ thread 49 0 (i.Next 2 3 41)
+    ∷ thread 50 0 i.End
+    ∷ begun 51 2 i.Unnest
+    ∷ main 52 2 (i.StoreL 6)
+    ∷ main 53 1 (i.StoreL 7)
+    ∷ main 54 0 (i.LoadL 6)
+    ∷ main 55 1 (i.JFalse 67)
+    ∷ main 56 0 (i.LoadL 6)
+    ∷ main 57 1 (i.Push (pos 1))
+    ∷ main 58 2 i.Eq
+    ∷ main 59 1 (i.JFalse 61)
+    ∷ main 60 0 i.Halt
+    ∷ main 61 0 (i.LoadL 6)
+    ∷ main 62 1 (i.Push (pos 2))
+    ∷ main 63 2 i.Eq
+    ∷ main 64 1 (i.JFalse 67)
+    ∷ main 65 0 (i.LoadL 7)
+    ∷ main 66 1 i.Halt
+    ∷ main 67 0 i.Halt
     ∷ []
 
 -- A (C)
@@ -104,7 +103,7 @@ abbrev pub deals_lent : ℕ → List Lease
 deals_lent site = lends 0 None 0 (step.Chunk (pos 1) 2 1 ∷ []) ∷ []
 
 abbrev pub Deals : Type 0
-Deals = IsCode deals deals_lent deals_code [] (begins (Sub 0) 36 6 2 code_kind.ChunkLoop (deals_lent 0) ∷ []) (procedure 0 9 5 ∷ []) []
+Deals = IsCode deals deals_lent deals_code [] (begins (Sub 0) 35 6 2 code_kind.ChunkLoop (deals_lent 0) ∷ []) (procedure 0 9 5 ∷ []) []
 
 -- A : array (1 .. 2) of Integer; parallel for E of A loop E := 1; end loop;
 

@@ -215,7 +215,7 @@ module _ (T : ℕ → ℕ → Type 0) (v : Around) (s : Scope) (o : Entity → O
   a_above h d = (plain, (plain, (plain, (marked, refl, plain))))
 
   pub a_beyond : (h : ℕ) → Alike T (raise_beyond s h) (raise_beyond (prime o x e s) h)
-  a_beyond h = (plain, (plain, (plain, (plain, (marked, refl, plain)))))
+  a_beyond h = (plain, (plain, (plain, (marked, refl, plain))))
 
   pub a_ends : (h : ℕ) (it : Iteration) → Alike T (ends_code s h it) (ends_code (prime o x e s) h it)
   a_ends h (Range p reverse low high check filter) = (plain, plain)

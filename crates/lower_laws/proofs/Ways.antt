@@ -7,8 +7,9 @@ use Rattle.ada_meaning.specs.Shapes.{Shape, Shapes, Single, Record, Dimension, N
 use Rattle.check_effects.specs.Effects.{Selector, At, Fixed, LoopIndex, ChunkIndex, Any}
 use Rattle.check_effects.proofs.Coordinates.{back, near, spot, under_product}
 use Rattle.stack_code.specs.declared.code.Lease as code
-use Rattle.ada_lower.specs.Leases.{Place, All, Loop, ByChunk, InPlaces, Way, also, field_from, in_field, steps_of, way_of}
+use Rattle.ada_lower.specs.Leases.{Place, All, Loop, ByChunk, InPlaces, Way, also, at_any, is_row, field_from, in_field, steps_of, way_of}
 use Rattle.ada_lower.specs.Lending.{StepsTo}
+use Rattle.ada_lower.proofs.LeaseRuns.{row_is}
 use Rattle.ada_lower.specs.Leased.{IndexIs, InLease, LiesBy}
 
 module _ (v ch : ℤ) where
@@ -136,6 +137,52 @@ module _ (v ch : ℤ) where
   from_index : (low d x w : ℤ) (i : ℕ) → w ≡ low +ℤ pos i → w ≡ x +ℤ d → x ≡ low -ℤ d +ℤ pos i
   from_index low d x w i e f = omega (arith, ints, e, f)
 
+  first_position : (j c : ℕ) → j % c + c * (j / c) ≡ j → j / c * c + j % c ≡ j
+  first_position j c e = let z = mul_comm (j / c) c in omega (arith, e, z)
+
+  positive : (j c places : ℕ) → j < places * c → 0 < c
+  positive j zero places lt = let z : places * 0 ≡ 0 = mul-zero places in absurd (omega (arith, z, lt))
+  positive j (suc c) places lt = omega arith
+
+  quotient_below : (j c places : ℕ) → j < places * c → j % c + c * (j / c) ≡ j → j / c < places
+  quotient_below j c places lt e = go (nat_le places (j / c)) refl
+    where
+      go : (b : Bool) → nat_le places (j / c) ≡ b → j / c < places
+      go true f = let h : c * places ≤ c * (j / c) = mul-le-mul_left c (leb-true places (j / c) f) in let z = mul_comm c places in absurd (omega (arith, h, z, lt, e))
+      go false f = leb-false places (j / c) f
+
+  -- ---- any place
+
+  -- the cells of places that lie side by side
+  row_in : (base count size c : ℕ) → InWay (record { base = base; places = All count size ∷ []; run = size }) c → InWay (record { base = base; places = []; run = count * size }) c
+  row_in base count size c (o, m, (i, lt, at), less, e) =
+      let h = under_product i count size lt in
+      (base, i * size + m, refl, omega (arith, h, less), omega (arith, e, at))
+
+  in_row : (base count size c : ℕ) → InWay (record { base = base; places = []; run = count * size }) c → InWay (record { base = base; places = All count size ∷ []; run = size }) c
+  in_row base count size c (o, m, at, lt, e) =
+      let some : 0 < size = positive m size count lt in
+      let i : ℕ = m / size in let k : ℕ = m % size in
+      let split : k + size * i ≡ m = mod-add-div m size in
+      let whole : i * size + k ≡ m = first_position m size split in
+      let less : k < size = mod-lt m some in
+      (base + i * size, k, (i, quotient_below m size count lt split, refl), less, omega (arith, e, at, whole))
+
+  tied_row : (count size b : ℕ) (P : ℕ → Type 0) (w : Way) (z : Bool) → is_row size w ≡ z → Tied b P (also (All count size) (Some w)) → Tied b P (cond z (Some (record { base = w.base; places = []; run = count * size })) (also (All count size) (Some w)))
+  tied_row count size b P w false e t = t
+  tied_row count size b P w true e t =
+      let is = row_is size w e in
+      let same : w ≡ record { base = w.base; places = []; run = size } = ap (λ (ps : List Place). record { base = w.base; places = ps; run = w.run }) is.0 ∙ ap (λ (r : ℕ). record { base = w.base; places = []; run = r }) is.1 in
+      let t' : Tied b P (also (All count size) (Some (record { base = w.base; places = []; run = size }))) = subst (λ (w : Way). Tied b P (also (All count size) (Some w))) same t in
+      ((λ c h. t'.0 c (in_row w.base count size c h)), (λ n p. row_in w.base count size (b + n) (t'.1 n p)))
+
+  tied_any : (low high : ℤ) (u : Shape) (b : ℕ) (Q : ℕ → Type 0) (o : Option Way) → Tied b Q o → Tied b (InDimension low high u Any Q) (at_any (count low high) (size u) o)
+  tied_any low high u b Q o t = joins o (tied_index low high u Any (All (count low high) (size u)) b Q o refl (λ i is. (is, tt)) (λ w between' at. below low high w between') t)
+    where
+      joins : (o : Option Way) → Tied b (InDimension low high u Any Q) (also (All (count low high) (size u)) o) → Tied b (InDimension low high u Any Q) (at_any (count low high) (size u) o)
+      joins None t = t
+      joins (Some w) t = tied_row (count low high) (size u) b (InDimension low high u Any Q) w (is_row (size u) w) refl t
+
   with_none : (b : ℕ) (P : ℕ → Type 0) (o : Option Way) → Tied b P o → Tied b (λ n. Unit {0} × P n) o
   with_none b P None t = λ n p. t n p.1
   with_none b P (Some w) t = ((λ c h. let (n, e, p) = t.0 c h in (n, e, (tt, p))), (λ n p. t.1 n p.1))
@@ -169,8 +216,8 @@ module _ (v ch : ℤ) where
       (tied_index low high u (ChunkIndex d) (ByChunk (low -ℤ d) (count low high) (size u)) b (λ m. LiesBy false v ch None u ss m) (way_of true None u ss b) refl
       (λ i is. (is.0, to_index low d ch i is.1)) (λ w between' at. (below low high w between', from_index low d ch w (to_nat (w -ℤ low)) (is_spot low high w between') at)) (way_tied u ss b))
   way_tied (Dimension low high u) (Any ∷ ss) b =
-      with_none b (InDimension low high u Any (λ m. LiesBy false v ch None u ss m)) (also (All (count low high) (size u)) (way_of true None u ss b))
-      (tied_index low high u Any (All (count low high) (size u)) b (λ m. LiesBy false v ch None u ss m) (way_of true None u ss b) refl (λ i is. (is, tt)) (λ w between' at. below low high w between') (way_tied u ss b))
+      with_none b (InDimension low high u Any (λ m. LiesBy false v ch None u ss m)) (at_any (count low high) (size u) (way_of true None u ss b))
+      (tied_any low high u b (λ m. LiesBy false v ch None u ss m) (way_of true None u ss b) (way_tied u ss b))
 
   -- ---- where a construct goes through an array: the indexes by its parameter are together a position
 
@@ -188,20 +235,6 @@ module _ (v ch : ℤ) where
 
   position_cell : (i c k s m : ℕ) → i * (c * s) + (k * s + m) ≡ (i * c + k) * s + m
   position_cell i c k s m = let a = add-mul (i * c) k s in let b = mul_assoc i c s in omega (arith, a, b)
-
-  first_position : (j c : ℕ) → j % c + c * (j / c) ≡ j → j / c * c + j % c ≡ j
-  first_position j c e = let z = mul_comm (j / c) c in omega (arith, e, z)
-
-  positive : (j c places : ℕ) → j < places * c → 0 < c
-  positive j zero places lt = let z : places * 0 ≡ 0 = mul-zero places in absurd (omega (arith, z, lt))
-  positive j (suc c) places lt = omega arith
-
-  quotient_below : (j c places : ℕ) → j < places * c → j % c + c * (j / c) ≡ j → j / c < places
-  quotient_below j c places lt e = go (nat_le places (j / c)) refl
-    where
-      go : (b : Bool) → nat_le places (j / c) ≡ b → j / c < places
-      go true f = let h : c * places ≤ c * (j / c) = mul-le-mul_left c (leb-true places (j / c) f) in let z = mul_comm c places in absurd (omega (arith, h, z, lt, e))
-      go false f = leb-false places (j / c) f
 
   -- a part's own cells
   plain : (b r : ℕ) → Tied b (λ m. m < r) (Some (record { base = b; places = []; run = r }))
@@ -234,8 +267,8 @@ module _ (v ch : ℤ) where
         (tied_index low high u (ChunkIndex d) (ByChunk (low -ℤ d) (count low high) (size u)) b (λ m. LiesBy true v ch None u ss m) (way_of false None u ss b) refl
         (λ i is. (is.0, to_index low d ch i is.1)) (λ w between' at. (below low high w between', from_index low d ch w (to_nat (w -ℤ low)) (is_spot low high w between') at)) (items_tied u ss b))
     items_tied (Dimension low high u) (Any ∷ ss) b =
-        with_none b (InDimension low high u Any (λ m. LiesBy true v ch None u ss m)) (also (All (count low high) (size u)) (way_of false None u ss b))
-        (tied_index low high u Any (All (count low high) (size u)) b (λ m. LiesBy true v ch None u ss m) (way_of false None u ss b) refl (λ i is. (is, tt)) (λ w between' at. below low high w between') (items_tied u ss b))
+        with_none b (InDimension low high u Any (λ m. LiesBy true v ch None u ss m)) (at_any (count low high) (size u) (way_of false None u ss b))
+        (tied_any low high u b (λ m. LiesBy true v ch None u ss m) (way_of false None u ss b) (items_tied u ss b))
 
     -- so many positions along
     positions_tied : (places : ℕ) (t : Shape) (ss : List Selector) (b : ℕ) → Tied b (AtPositions places t (λ i m. LiesBy true v ch (Some i) t ss m)) (way_of false (Some places) t ss b)
@@ -289,8 +322,8 @@ module _ (v ch : ℤ) where
         (tied_index low high u (ChunkIndex d) (ByChunk (low -ℤ d) (count low high) (size u)) b (λ m. LiesBy true v ch None u ss m) (way_of false None u ss b) refl
         (λ i is. (is.0, to_index low d ch i is.1)) (λ w between' at. (below low high w between', from_index low d ch w (to_nat (w -ℤ low)) (is_spot low high w between') at)) (items_tied u ss b))
     positions_tied places (Dimension low high u) (Any ∷ ss) b =
-        tied_item places (Dimension low high u) b (InDimension low high u Any (λ m. LiesBy true v ch None u ss m)) (also (All (count low high) (size u)) (way_of false None u ss b))
-        (tied_index low high u Any (All (count low high) (size u)) b (λ m. LiesBy true v ch None u ss m) (way_of false None u ss b) refl (λ i is. (is, tt)) (λ w between' at. below low high w between') (items_tied u ss b))
+        tied_item places (Dimension low high u) b (InDimension low high u Any (λ m. LiesBy true v ch None u ss m)) (at_any (count low high) (size u) (way_of false None u ss b))
+        (tied_any low high u b (λ m. LiesBy true v ch None u ss m) (way_of false None u ss b) (items_tied u ss b))
 
   -- where it goes through either
   pub either_tied : (items : Bool) (t : Shape) (ss : List Selector) (b : ℕ) → Tied b (λ n. LiesBy items v ch None t ss n) (way_of (not items) None t ss b)

@@ -1,15 +1,20 @@
 -- Ways and their steps.
-use Rattle.std.proofs.Common.{◌≡◌, ℕ, ◌+◌, ◌*◌, ℤ, ◌-ℤ◌, List, [], ◌∷◌, ◌++◌, Option, Some, None, Bool, map, refl, sym, ap, ◌∙◌, subst, append_assoc, append-nil}
+use Rattle.std.proofs.Common.{◌≡◌, ℕ, ◌+◌, ◌-◌, ◌*◌, ℤ, ◌-ℤ◌, List, [], ◌∷◌, ◌++◌, length, take, Option, Some, None, Bool, true, false, cond, map, refl, sym, ap, ◌∙◌, subst, arith, true≢false, append_assoc, append-nil}
+use Rattle.std.proofs.lemmas.List.{length-append}
+use Rattle.std.proofs.lemmas.Option.{none-some}
+use Rattle.std.proofs.Math.Seq.{take-append_seam}
 use Rattle.ada_meaning.specs.Shapes.{Shape, Single, Record, NoShape, size}
 use Rattle.check_clashes.specs.declared.effects.Selector as clash
 use Rattle.check_effects.specs.Effects.{Selector, At, Fixed, LoopIndex, ChunkIndex, Any}
 use Rattle.check_inference.specs.Exact.{plain}
 use Rattle.stack_code.specs.declared.code.Step.{Step}
 use Rattle.stack_code.specs.declared.code.Step.TheVariants as step
-use Rattle.ada_lower.specs.Leases.{Place, All, Loop, ByChunk, Way, also, at_item, in_field, step_of, steps_of, way_of}
+use Rattle.ada_lower.specs.Leases.{Place, All, Loop, ByChunk, Way, also, at_any, at_item, in_field, is_row, step_of, steps_of, way_of}
+use Rattle.ada_lower.proofs.LeaseRuns.{is_row_of, row_is}
 use Rattle.ada_meaning.specs.Values.{count, to_nat}
 use Rattle.typed_tree.specs.declared.typed.Typed.{Typed}
-use Rattle.lower_leases.specs.Paths.{dimension_shape, here, item_steps, part_shape, path_by}
+use Rattle.lower_leases.specs.Paths.{dimension_shape, here, item_steps, part_shape, path_by, path_found}
+use Rattle.lower_leases.specs.declared.paths.End.{End}
 use Rattle.lower_leases.specs.declared.paths.Indexed.{Indexed}
 use Rattle.lower_leases.specs.declared.paths.Path.{Path}
 use Rattle.lower_leases.specs.declared.paths.Reached.{Reached}
@@ -45,6 +50,61 @@ ended ss same all items t n run a b e =
     let grown : all ≡ ss ++ item_steps items (size t) = e ∙ ap (λ (xs : List Step). xs ++ item_steps items run) a ∙ ap (λ (m : ℕ). ss ++ item_steps items m) b in
     ap (λ (m : ℕ). Some (record { base = n; steps = all; run = m })) b
     ∙ ap (λ (xs : List Step). Some (record { base = n; steps = xs; run = size t })) (sym (append-nil all)) ∙ item_first ss all items t (here n t) grown
+
+-- ---- any place, by the way behind its step
+
+some_inj : {A : Type 0} {x y : A} → ◌≡◌ {A = Option A} (Some x) (Some y) → x ≡ y
+some_inj e = cc
+
+all_steps : (ss : List Step) (x : Step) (ps : List Place) → length ((ss ++ x ∷ []) ++ steps_of ps) ≡ length ss + 1 + length (steps_of ps)
+all_steps ss x ps = length-append (ss ++ x ∷ []) (steps_of ps) ∙ ap (λ (n : ℕ). n + length (steps_of ps)) (length-append ss (x ∷ []))
+
+no_place : (ss : List Step) (x : Step) (ps : List Place) → length ((ss ++ x ∷ []) ++ steps_of ps) - length ss ≡ 1 → ps ≡ []
+no_place ss x [] e = refl
+no_place ss x (p ∷ ps) e = let n = all_steps ss x (p ∷ ps) in absurd (omega (arith, e, n))
+
+one_step : (ss : List Step) (x : Step) → length ((ss ++ x ∷ []) ++ []) - length ss ≡ 1
+one_step ss x = let n = all_steps ss x [] in omega (arith, n)
+
+module _ (ss all : List Step) (places n before : ℕ) (e : End) (here : length ss ≡ before) where
+  -- steps follow, or the way ends at less than all cells of a place
+  pub goes_on : (o : Option Way) → (length all - before ≡ 1 → e.run ≡ n → ⊥) → path_found (Some e) all ≡ path_by (ss ++ step.All places n ∷ []) o → path_found (Some e) all ≡ path_by ss (at_any places n o)
+  goes_on None no c = absurd (none-some _ (sym c))
+  goes_on (Some w) no c = c ∙ go (is_row n w) refl
+    where
+      go : (z : Bool) → is_row n w ≡ z → path_by (ss ++ step.All places n ∷ []) (Some w) ≡ path_by ss (cond z (Some (record { base = w.base; places = []; run = places * n })) (also (All places n) (Some w)))
+      go false z = first_is ss (All places n) (Some w)
+      go true z =
+          let is = row_is n w z in
+          let steps : all ≡ (ss ++ step.All places n ∷ []) ++ steps_of w.places = ap (λ (p : Path). p.steps) (some_inj c) in
+          let one : length all - before ≡ 1 = ap (λ (xs : List Step). length xs - before) (steps ∙ ap (λ (ps : List Place). (ss ++ step.All places n ∷ []) ++ steps_of ps) is.0) ∙ ap (λ (k : ℕ). length ((ss ++ step.All places n ∷ []) ++ []) - k) (sym here) ∙ one_step ss (step.All places n) in
+          absurd (no one (ap (λ (p : Path). p.run) (some_inj c) ∙ is.1))
+
+  pub is_joined : (run : ℕ) (last : List Step) (o : Option Way) → length all - before ≡ 1 → e.run ≡ n → run ≡ places * n → last ≡ take before all → path_found (Some e) all ≡ path_by (ss ++ step.All places n ∷ []) o
+      → Some (record { base = e.base; steps = last; run = run }) ≡ path_by ss (at_any places n o)
+  is_joined run last None one size r l c = absurd (none-some _ (sym c))
+  is_joined run last (Some w) one size r l c = go (is_row n w) refl
+    where
+      x : Step
+      x = step.All places n
+
+      steps : all ≡ (ss ++ x ∷ []) ++ steps_of w.places
+      steps = ap (λ (p : Path). p.steps) (some_inj c)
+
+      none : w.places ≡ []
+      none = no_place ss x w.places (ap (λ (xs : List Step). length xs - length ss) (sym steps) ∙ ap (λ (k : ℕ). length all - k) here ∙ one)
+
+      kept : last ≡ ss ++ []
+      kept =
+          l ∙ ap (λ (k : ℕ). take k all) (sym here) ∙ ap (λ (xs : List Step). take (length ss) xs) (steps ∙ ap (λ (ps : List Place). (ss ++ x ∷ []) ++ steps_of ps) none ∙ append-nil (ss ++ x ∷ []))
+          ∙ take-append_seam ss (x ∷ []) ∙ sym (append-nil ss)
+
+      go : (z : Bool) → is_row n w ≡ z → Some (record { base = e.base; steps = last; run = run }) ≡ path_by ss (cond z (Some (record { base = w.base; places = []; run = places * n })) (also (All places n) (Some w)))
+      go true z =
+          ap (λ (b : ℕ). Some (record { base = b; steps = last; run = run })) (ap (λ (p : Path). p.base) (some_inj c))
+          ∙ ap (λ (xs : List Step). Some (record { base = w.base; steps = xs; run = run })) kept
+          ∙ ap (λ (m : ℕ). Some (record { base = w.base; steps = ss ++ []; run = m })) r
+      go false z = absurd (true≢false (sym (is_row_of n w none (sym (ap (λ (p : Path). p.run) (some_inj c)) ∙ size)) ∙ z))
 
 -- ---- parts without a dimension
 
@@ -96,12 +156,27 @@ module _ (t : Typed) (ranges : Bool) (steps : List Step) (items : Option ℕ) (i
   item_grown same all places n e p s a =
       a ∙ ap (λ (xs : List Step). xs ++ item_steps items (places * n)) e ∙ ap (λ (m : ℕ). steps ++ item_steps items (m * n)) p ∙ ap (λ (m : ℕ). steps ++ item_steps items (count i.low i.high * m)) s
 
-  pub any_is : (same all whole : List Step) (places n : ℕ) (r : Reached) (found : Option Path) → same ≡ steps → places ≡ count i.low i.high → n ≡ size (part_shape t i.inner) → all ≡ same ++ item_steps items (places * n)
-      → whole ≡ all ++ step.All places n ∷ [] → Enters r → Comes whole r found → found ≡ path_by steps (way_of ranges items (dimension_shape t i) (Any ∷ ks) cell)
-  any_is same all whole places n r found e p s a w f c =
-      c ∙ rest_is whole r f
-      ∙ place_behind steps all whole items (dimension_shape t i) (All (count i.low i.high) (size (part_shape t i.inner))) inner_way (item_grown same all places n e p s a)
-      (w ∙ ap (λ (m : ℕ). all ++ step.All m n ∷ []) p ∙ ap (λ (m : ℕ). all ++ step.All (count i.low i.high) m ∷ []) s)
+  -- the way by any index, by the way behind it
+  any_way : Option Way → Option Way
+  any_way w = at_item items (dimension_shape t i) (at_any (count i.low i.high) (size (part_shape t i.inner)) w)
+
+  any_behind : (same all whole : List Step) (places n : ℕ) (r : Reached) (found : Option Path) → whole ≡ all ++ step.All places n ∷ [] → Enters r → Comes whole r found → found ≡ path_by (all ++ step.All places n ∷ []) inner_way
+  any_behind same all whole places n r found w f c = c ∙ rest_is whole r f ∙ ap (λ (xs : List Step). path_by xs inner_way) w
+
+  pub any_none : (all whole : List Step) (places n : ℕ) (r : Reached) → whole ≡ all ++ step.All places n ∷ [] → Enters r → Comes whole r None → None ≡ path_by steps (way_of ranges items (dimension_shape t i) (Any ∷ ks) cell)
+  any_none all whole places n r w f c = go inner_way (any_behind all all whole places n r None w f c)
+    where
+      go : (o : Option Way) → None ≡ path_by (all ++ step.All places n ∷ []) o → None ≡ path_by steps (any_way o)
+      go None e = item_none steps items (dimension_shape t i)
+      go (Some w) e = absurd (none-some _ e)
+
+  pub any_some : (same all whole : List Step) (places n before : ℕ) (r : Reached) (found last : Option Path) → same ≡ steps → places ≡ count i.low i.high → n ≡ size (part_shape t i.inner) → all ≡ same ++ item_steps items (places * n)
+      → before ≡ length all → whole ≡ all ++ step.All places n ∷ [] → Enters r → Comes whole r found
+      → ((ss : List Step) (o : Option Way) → length ss ≡ before → found ≡ path_by (ss ++ step.All places n ∷ []) o → last ≡ path_by ss (at_any places n o)) → last ≡ path_by steps (way_of ranges items (dimension_shape t i) (Any ∷ ks) cell)
+  any_some same all whole places n before r found last e p s a b w f c joins =
+      joins all inner_way (sym b) (any_behind same all whole places n r found w f c)
+      ∙ ap (λ (m : ℕ). path_by all (at_any m n inner_way)) p ∙ ap (λ (m : ℕ). path_by all (at_any (count i.low i.high) m inner_way)) s
+      ∙ item_first steps all items (dimension_shape t i) (at_any (count i.low i.high) (size (part_shape t i.inner)) inner_way) (item_grown same all places n e p s a)
 
   pub chunk_is : (d low : ℤ) (same all whole : List Step) (places n : ℕ) (r : Reached) (found : Option Path) → low ≡ i.low -ℤ d → same ≡ steps → places ≡ count i.low i.high → n ≡ size (part_shape t i.inner) → all ≡ same ++ item_steps items (places * n)
       → whole ≡ all ++ step.Chunk low places n ∷ [] → Enters r → Comes whole r found → found ≡ path_by steps (way_of ranges items (dimension_shape t i) (ChunkIndex d ∷ ks) cell)

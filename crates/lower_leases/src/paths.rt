@@ -1,12 +1,14 @@
 //! The ways to what is granted: from an object to the cells of a part, by the selectors of a path.
 
-ghost use Rattle.std.specs.Prelude.{◌≡◌, ◌∷◌, ◌++◌, [], None, Some, cond, map, option_map, pos, ◌-ℤ◌, ◌+◌, ◌*◌, IfOk, IsTrue, Ok};
+ghost use Rattle.std.specs.Prelude.{◌≡◌, ◌∷◌, ◌++◌, [], None, Some, cond, map, option_map, pos, ◌-ℤ◌, ◌+◌, ◌*◌, IfOk, IsTrue, List, Ok, Option, length};
 ghost use Rattle.ada_meaning.specs.Shapes.{Record, fields_of, size};
 ghost use Rattle.ada_meaning.specs.Values as values;
 ghost use Rattle.typed_tree.specs.Programs.{fields_at};
 ghost use Rattle.check_inference.specs.Exact.{plain};
 ghost use Rattle.check_effects.specs.Effects.{At, Fixed, LoopIndex, ChunkIndex, Any};
-ghost use Rattle.ada_lower.specs.Leases.{Loop, also, at_item, field_from, times, way_of};
+ghost use Rattle.stack_code.specs.declared.code.Step.{Step as StepOf};
+ghost use Rattle.stack_code.specs.declared.code.Step.TheVariants as step;
+ghost use Rattle.ada_lower.specs.Leases.{Loop, Way, also, at_any, at_item, field_from, times, way_of};
 ghost use Rattle.lower_leases.specs.Paths as spec;
 
 use crate::shapes::{Form, Head, Part, Placed, count, field_at, front, part_size, product, sum};
@@ -460,10 +462,30 @@ fn by_any(
 {
     let found = measured(through.typed, dimension, out);
     step_of_item(at.items, found, out);
+    let before = out.steps.len();
     let step = Step::All {
         count: found.places,
         size: found.size,
     };
     with_step(step, out);
-    way(through, entered(at, dimension, None), rest, out)
+    match way(through, entered(at, dimension, None), rest, out) {
+        None => None,
+        Some(end) => Some(joined(found, before, end, out)),
+    }
+}
+
+/// The end of a way by any index whose step stands behind so many others. Where no step follows and the way ends at all cells
+/// of a place, those of all places lie side by side, and the step goes.
+#[tactic(auto, using(crate::proofs::Ways::goes_on, crate::proofs::Ways::is_joined))]
+fn joined(found: Extent, before: usize, end: End, out: &mut Walk) -> End
+    ensures { IsTrue out.new.whole → IsTrue out.old.whole × ((steps : List StepOf) (way : Option Way) → length steps ≡ before → spec.path_found (Some end) out.old.steps ≡ spec.path_by (steps ++ step.All found.places found.size ∷ []) way → spec.path_found (Some result) out.new.steps ≡ spec.path_by steps (at_any found.places found.size way)) }
+{
+    if out.steps.len().saturating_sub(before) != 1 || end.run != found.size {
+        return end;
+    }
+    out.steps.truncate(before);
+    End {
+        base: end.base,
+        run: given(product(found.places, found.size), out),
+    }
 }

@@ -222,7 +222,7 @@ module _ (program : Program) where
     quiet_raise_above h d = (tt, (tt, (tt, tt)))
 
     quiet_raise_beyond : (h : ℕ) → Hushed (raise_beyond s h)
-    quiet_raise_beyond h = (tt, (tt, (tt, (tt, tt))))
+    quiet_raise_beyond h = (tt, (tt, (tt, tt)))
 
     quiet_ends : (h : ℕ) (it : Iteration) → Hushed (ends_code s h it)
     quiet_ends h (Range p reverse low high check filter) = (tt, tt)

@@ -334,19 +334,13 @@ pub fn reached(cell: u32, cells: u32) -> Named
 pub fn last_value(first: i64, count: u32, out: &mut Emitter) -> i64
     ensures { Learns (first +ℤ pos count -ℤ pos 1) out.old result out.new }
 {
-    let behind = first.checked_add(i64::from(count));
-    match behind {
+    let behind = i64::from(count) - 1;
+    match first.checked_add(behind) {
+        Some(last) => last,
         None => {
             out.whole = false;
             0
         }
-        Some(behind) => match behind.checked_sub(1) {
-            Some(last) => last,
-            None => {
-                out.whole = false;
-                0
-            }
-        },
     }
 }
 

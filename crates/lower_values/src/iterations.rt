@@ -131,10 +131,13 @@ fn raise_beyond(env: &Env<'_>, h: u32, out: &mut Emitter)
     ensures { Emits (spec.raise_beyond (env_of env.now) h) out.old out.new }
 {
     let free1 = out.sum(env.free, 1);
-    out.put(env, h, Instr::LoadL(env.free));
-    out.put_above(env, h, 1, Instr::Field(MOST_THREADS));
-    out.put_above(env, h, 1, Instr::LoadL(free1));
-    out.put_above(env, h, 2, Instr::Le);
+    out.operate(
+        env,
+        h,
+        Instr::LoadL(env.free),
+        Instr::LoadL(free1),
+        Instr::Far(MOST_THREADS),
+    );
     let over = out.gap(env, h);
     out.put(env, h, Instr::Raise(Reason::StorageError));
     out.aim_false(env, h, over);

@@ -6,13 +6,13 @@ use Rattle.ada_base.specs.declared.operation.Op.TheVariants as op
 use Rattle.ada_base.specs.declared.reason.Reason.TheVariants.{StorageError}
 use Rattle.ada_base.specs.Operation.{within}
 use Rattle.stack_code.specs.declared.instr.Instr.{Instr}
-use Rattle.stack_code.specs.declared.instr.Instr.TheVariants.{Push, Pop, Dup, Swap, Local, Outer, Global, Index, Field, Load, Store, Copy, Fill, Add, Sub, Mul, Div, Mod, Rem, Pow, Neg, Abs, Max, Min, Eq, Ne, Lt, Le, Gt, Ge, And, Or, Xor, Not, Range, Jump, JFalse, JTrue, Turn, Call, CallAt, CallTo, Ret, RetV, Raise, Reraise, Exit, Leave as LeaveNow, LeaveV, Fork, Nest, Unnest, Words, Img, Bool as BoolImage, Wide, Send, SendLn, Get, End, EndV, Halt, Combine, Part, Repeat, Again, LoadL, LoadO, LoadG, StoreL, StoreO, StoreG, SetL, AddI, SubI, MulI, ModI, IndexL, Item, ItemL, IndexG, ItemG, JfEq, JfNe, JfLt, JfLe, JfGt, JfGe, Next, Prior, Flip, Differ}
+use Rattle.stack_code.specs.declared.instr.Instr.TheVariants.{Push, Pop, Dup, Swap, Local, Outer, Global, Index, Field, Load, Store, Copy, Fill, Add, Sub, Mul, Div, Mod, Rem, Pow, Neg, Abs, Max, Min, Eq, Ne, Lt, Le, Gt, Ge, Far, And, Or, Xor, Not, Range, Jump, JFalse, JTrue, Turn, Call, CallAt, CallTo, Ret, RetV, Raise, Reraise, Exit, Leave as LeaveNow, LeaveV, Fork, Nest, Unnest, Words, Img, Bool as BoolImage, Wide, Send, SendLn, Get, End, EndV, Halt, Combine, Part, Repeat, Again, LoadL, LoadO, LoadG, StoreL, StoreO, StoreG, SetL, AddI, SubI, MulI, ModI, IndexL, Item, ItemL, IndexG, ItemG, JfEq, JfNe, JfLt, JfLe, JfGt, JfGe, Next, Prior, Flip, Differ}
 use Rattle.stack_code.specs.declared.code.Code.{Code}
 use Rattle.stack_code.specs.declared.operators.Relation.TheVariants.{Equal, Unequal, Less, AtMost, Greater, AtLeast}
 use Rattle.stack_code.specs.declared.operators.Digits.TheVariants.{Both, Either, Differ}
 use Rattle.stack_code.specs.declared.code.CodeSub.{CodeSub}
 use Rattle.stack_code.specs.declared.path.Asked.{Asked}
-use Rattle.stack_code.specs.Deeds.{Deed, GoesOn, Fails, Loads, Stores, Leaves, Forks, bit, truth, applied, differ, is_related, digits_of, if_between, indexed, on_one, on_two, pushed, unary, binary, cell_of_frame, load_of_frame, store_to, store_of_frame, item_at, stored, stepped, loads_all, stores_all, called, called_at, combining, can_fork, many, asked, forked, deed_of}
+use Rattle.stack_code.specs.Deeds.{Deed, GoesOn, Fails, Loads, Stores, Leaves, Forks, bit, truth, applied, differ, is_related, is_far, digits_of, if_between, indexed, on_one, on_two, pushed, unary, binary, cell_of_frame, load_of_frame, store_to, store_of_frame, item_at, stored, stepped, loads_all, stores_all, called, called_at, combining, can_fork, many, asked, forked, deed_of}
 
 -- nothing is left by it
 abbrev pub Stays : Deed → Type 0
@@ -136,6 +136,7 @@ leaves_by c pc st base outward Lt = inr (binary_free pc st (λ x y. Some (bit (i
 leaves_by c pc st base outward Le = inr (binary_free pc st (λ x y. Some (bit (is_related AtMost x y))))
 leaves_by c pc st base outward Gt = inr (binary_free pc st (λ x y. Some (bit (is_related Greater x y))))
 leaves_by c pc st base outward Ge = inr (binary_free pc st (λ x y. Some (bit (is_related AtLeast x y))))
+leaves_by c pc st base outward (Far n) = inr (binary_free pc st (λ x y. Some (bit (is_far n x y))))
 leaves_by c pc st base outward And = inr (binary_free pc st (λ x y. Some (digits_of Both x y)))
 leaves_by c pc st base outward Or = inr (binary_free pc st (λ x y. Some (digits_of Either x y)))
 leaves_by c pc st base outward Xor = inr (binary_free pc st (λ x y. Some (digits_of Differ x y)))

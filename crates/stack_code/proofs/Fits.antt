@@ -6,7 +6,7 @@ use Rattle.std.proofs.lemmas.Bool.{false≢true}
 use Rattle.stack_code.specs.declared.code.Code.{Code}
 use Rattle.stack_code.specs.declared.code.CodeSub.{CodeSub}
 use Rattle.stack_code.specs.declared.instr.Instr.{Instr}
-use Rattle.stack_code.specs.declared.instr.Instr.TheVariants.{Push, Pop, Dup, Swap, Local, Outer, Global, Index, Field, Load, Store, Copy, Fill, Add, Sub, Mul, Div, Mod, Rem, Pow, Neg, Abs, Max, Min, Eq, Ne, Lt, Le, Gt, Ge, And, Or, Xor, Not, Range, Jump, JFalse, JTrue, Turn, Call, CallAt, CallTo, Ret, RetV, Raise, Reraise, Exit, Leave as LeaveNow, LeaveV, Fork, Nest, Unnest, Words, Img, Bool as BoolImage, Wide, Send, SendLn, Get, End, EndV, Halt, Combine, Part, Repeat, Again, LoadL, LoadO, LoadG, StoreL, StoreO, StoreG, SetL, AddI, SubI, MulI, ModI, IndexL, Item, ItemL, IndexG, ItemG, JfEq, JfNe, JfLt, JfLe, JfGt, JfGe, Next, Prior, Flip, Differ}
+use Rattle.stack_code.specs.declared.instr.Instr.TheVariants.{Push, Pop, Dup, Swap, Local, Outer, Global, Index, Field, Load, Store, Copy, Fill, Add, Sub, Mul, Div, Mod, Rem, Pow, Neg, Abs, Max, Min, Eq, Ne, Lt, Le, Gt, Ge, Far, And, Or, Xor, Not, Range, Jump, JFalse, JTrue, Turn, Call, CallAt, CallTo, Ret, RetV, Raise, Reraise, Exit, Leave as LeaveNow, LeaveV, Fork, Nest, Unnest, Words, Img, Bool as BoolImage, Wide, Send, SendLn, Get, End, EndV, Halt, Combine, Part, Repeat, Again, LoadL, LoadO, LoadG, StoreL, StoreO, StoreG, SetL, AddI, SubI, MulI, ModI, IndexL, Item, ItemL, IndexG, ItemG, JfEq, JfNe, JfLt, JfLe, JfGt, JfGe, Next, Prior, Flip, Differ}
 use Rattle.stack_code.specs.declared.path.Asked.{Asked}
 use Rattle.stack_code.specs.declared.flow.Flow.TheVariants.{On, Branch}
 use Rattle.stack_code.specs.Operands.{takes, pushes, flow_of}
@@ -138,6 +138,7 @@ fits c pc st base outward Lt l h = two_fit c pc Lt tt st _ l (λ x y rest. (omeg
 fits c pc st base outward Le l h = two_fit c pc Le tt st _ l (λ x y rest. (omega arith, refl, tt))
 fits c pc st base outward Gt l h = two_fit c pc Gt tt st _ l (λ x y rest. (omega arith, refl, tt))
 fits c pc st base outward Ge l h = two_fit c pc Ge tt st _ l (λ x y rest. (omega arith, refl, tt))
+fits c pc st base outward (Far n) l h = two_fit c pc (Far n) tt st _ l (λ x y rest. (omega arith, refl, tt))
 fits c pc st base outward And l h = two_fit c pc And tt st _ l (λ x y rest. (omega arith, refl, tt))
 fits c pc st base outward Or l h = two_fit c pc Or tt st _ l (λ x y rest. (omega arith, refl, tt))
 fits c pc st base outward Xor l h = two_fit c pc Xor tt st _ l (λ x y rest. (omega arith, refl, tt))

@@ -10,7 +10,7 @@ use Rattle.ada_base.specs.declared.reason.Reason.TheVariants.{ConstraintError, P
 use Rattle.ada_base.specs.Operation.{within, result_of}
 use Rattle.ada_base.specs.Image.{image, truth_image, padded}
 use Rattle.stack_code.specs.declared.instr.Instr.{Instr}
-use Rattle.stack_code.specs.declared.instr.Instr.TheVariants.{Push, Pop, Dup, Swap, Local, Outer, Global, Index, Field, Load, Store, Copy, Fill, Add, Sub, Mul, Div, Mod, Rem, Pow, Neg, Abs, Max, Min, Eq, Ne, Lt, Le, Gt, Ge, And, Or, Xor, Not, Range, Jump, JFalse, JTrue, Turn, Call, CallAt, CallTo, Ret, RetV, Raise, Reraise, Exit, Leave as LeaveNow, LeaveV, Fork, Nest, Unnest, Words, Img, Bool as BoolImage, Wide, Send, SendLn, Get, End, EndV, Halt, Combine, Part, Repeat, Again, LoadL, LoadO, LoadG, StoreL, StoreO, StoreG, SetL, AddI, SubI, MulI, ModI, IndexL, Item, ItemL, IndexG, ItemG, JfEq, JfNe, JfLt, JfLe, JfGt, JfGe, Next, Prior, Flip, Differ}
+use Rattle.stack_code.specs.declared.instr.Instr.TheVariants.{Push, Pop, Dup, Swap, Local, Outer, Global, Index, Field, Load, Store, Copy, Fill, Add, Sub, Mul, Div, Mod, Rem, Pow, Neg, Abs, Max, Min, Eq, Ne, Lt, Le, Gt, Ge, Far, And, Or, Xor, Not, Range, Jump, JFalse, JTrue, Turn, Call, CallAt, CallTo, Ret, RetV, Raise, Reraise, Exit, Leave as LeaveNow, LeaveV, Fork, Nest, Unnest, Words, Img, Bool as BoolImage, Wide, Send, SendLn, Get, End, EndV, Halt, Combine, Part, Repeat, Again, LoadL, LoadO, LoadG, StoreL, StoreO, StoreG, SetL, AddI, SubI, MulI, ModI, IndexL, Item, ItemL, IndexG, ItemG, JfEq, JfNe, JfLt, JfLe, JfGt, JfGe, Next, Prior, Flip, Differ}
 use Rattle.stack_code.specs.declared.code.Code.{Code}
 use Rattle.stack_code.specs.declared.operators.Relation.{Relation}
 use Rattle.stack_code.specs.declared.operators.Relation.TheVariants.{Equal, Unequal, Less, AtMost, Greater, AtLeast}
@@ -75,6 +75,10 @@ abbrev pub digits_of : Digits → ℤ → ℤ → ℤ
 digits_of Both x y = int_bit_and w64 x y
 digits_of Either x y = int_bit_or w64 x y
 digits_of Differ x y = int_bit_xor w64 x y
+
+-- the last is so many above the first, or more
+abbrev pub is_far : ℕ → (first last : ℤ) → Bool
+is_far n first last = int_le (first +ℤ pos n) last
 
 -- where it lies from least to greatest
 abbrev pub if_between : ℤ → ℤ → ℤ → Option ℤ
@@ -250,6 +254,7 @@ deed_of c pc st base outward Lt = binary pc st (λ x y. Some (bit (is_related Le
 deed_of c pc st base outward Le = binary pc st (λ x y. Some (bit (is_related AtMost x y)))
 deed_of c pc st base outward Gt = binary pc st (λ x y. Some (bit (is_related Greater x y)))
 deed_of c pc st base outward Ge = binary pc st (λ x y. Some (bit (is_related AtLeast x y)))
+deed_of c pc st base outward (Far n) = binary pc st (λ x y. Some (bit (is_far n x y)))
 deed_of c pc st base outward And = binary pc st (λ x y. Some (digits_of Both x y))
 deed_of c pc st base outward Or = binary pc st (λ x y. Some (digits_of Either x y))
 deed_of c pc st base outward Xor = binary pc st (λ x y. Some (digits_of Differ x y))

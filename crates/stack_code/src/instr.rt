@@ -64,6 +64,8 @@ pub enum Instr {
     Gt,
     /// Whether it is at least the top (4.5.2).
     Ge,
+    /// Whether the top is above the lower one by so many, or by more.
+    Far(u32),
     /// Each binary digit that both have (4.5.1).
     And,
     /// Each binary digit that one of them has (4.5.1).

@@ -105,6 +105,17 @@ others =
     row i.Gt (pos 3 ∷ pos 3 ∷ []) (Some (pos 0 ∷ [])) ∷
     row i.Ge (pos 3 ∷ pos 3 ∷ []) (Some (pos 1 ∷ [])) ∷
     row i.Ge (pos 4 ∷ pos 3 ∷ []) (Some (pos 0 ∷ [])) ∷
+    row (i.Far 3) (pos 8 ∷ pos 5 ∷ pos 99 ∷ []) (Some (pos 1 ∷ pos 99 ∷ [])) ∷
+    row (i.Far 3) (pos 7 ∷ pos 5 ∷ []) (Some (pos 0 ∷ [])) ∷
+    row (i.Far 0) (pos 5 ∷ pos 5 ∷ []) (Some (pos 1 ∷ [])) ∷
+    row (i.Far 0) (pos 4 ∷ pos 5 ∷ []) (Some (pos 0 ∷ [])) ∷
+    row (i.Far 4096) (pos 9223372036854775806 ∷ pos 9223372036854775800 ∷ []) (Some (pos 0 ∷ [])) ∷
+    row (i.Far 4096) (pos 9223372036854775807 ∷ pos 9223372036854771711 ∷ []) (Some (pos 1 ∷ [])) ∷
+    row (i.Far 4096) (pos 9223372036854775807 ∷ pos 9223372036854771712 ∷ []) (Some (pos 0 ∷ [])) ∷
+    row (i.Far 4096) (negsuc 9223372036854771711 ∷ negsuc 9223372036854775807 ∷ []) (Some (pos 1 ∷ [])) ∷
+    row (i.Far 4096) (negsuc 9223372036854771712 ∷ negsuc 9223372036854775807 ∷ []) (Some (pos 0 ∷ [])) ∷
+    row (i.Far 4294967295) (pos 9223372036854775807 ∷ negsuc 9223372036854775807 ∷ []) (Some (pos 1 ∷ [])) ∷
+    row (i.Far 0) (negsuc 9223372036854775807 ∷ pos 9223372036854775807 ∷ []) (Some (pos 0 ∷ [])) ∷
     row i.Not (pos 0 ∷ []) (Some (pos 1 ∷ [])) ∷
     row i.Not (negsuc 0 ∷ []) (Some (pos 0 ∷ [])) ∷
     row i.And (pos 5 ∷ pos 3 ∷ pos 99 ∷ []) (Some (pos 1 ∷ pos 99 ∷ [])) ∷

@@ -41,6 +41,7 @@ fn with_tables(alloc: Global) -> Result<Code, AllocError> {
         Instr::ModI(-3, Base::Narrow),
         Instr::IndexG(6, -1, 4, 2, 5),
         Instr::SetL(7, -9, 8),
+        Instr::Far(4096),
     ];
     let mut code = bare(alloc, &list)?;
     code.unwind.push(Unwind {
@@ -74,7 +75,7 @@ fn lines_of_tables_follow(rt: HostRuntime) {
     let text = listing(rt.alloc(), &code).expect(&rt, "memory");
     let lines =
         "0 INDEX -1 4 2\n1 FILL 3 -7\n2 CALLAT 1 2\n3 RAISE 8\n4 NEXT 0 1 4\n5 PART\n6 CALLTO 1 2 5\n\
-        7 REPEAT 3\n8 AGAIN 8\n9 MODI -3 32\n10 INDEXG 6 -1 4 2 5\n11 SETL 7 -9 8\n\
+        7 REPEAT 3\n8 AGAIN 8\n9 MODI -3 32\n10 INDEXG 6 -1 4 2 5\n11 SETL 7 -9 8\n12 FAR 4096\n\
         UNWIND 1 2 3 4 5\nSITE 0 6 7 8\nSUB 0 9 10 11 12 1\n";
     assert!(rt; text.as_str() == lines, "{text}");
 }

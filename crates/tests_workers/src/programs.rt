@@ -46,10 +46,10 @@ fn thread(
     Ok(Thread {
         regions,
         frame: Frame {
-            first: 0,
-            count: 1,
-            number: i64::from(number),
-            initial: 0,
+            chunk: 0,
+            initial: 1,
+            first: i64::from(number),
+            last: 0,
             more: 1,
         },
         path: Walker {

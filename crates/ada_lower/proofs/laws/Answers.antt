@@ -1,5 +1,5 @@
 use Rattle.ada_lower.proofs.laws.Goals as goal
-use Rattle.ada_lower.proofs.Computed.{shares, parts, deals, marks, reaches, nests}
+use Rattle.ada_lower.proofs.Computed.{shares, parts, deals, marks, reaches, nests, ways}
 use Rattle.ada_lower.proofs.Housed.{homes_law}
 use Rattle.ada_lower.proofs.Local.{local_law}
 use Rattle.ada_lower.proofs.WholeLaws.{whole_law, value_law, forward_law, valid_law, tables_law}
@@ -24,7 +24,7 @@ pub returns-clause-tables : goal.returns-clause-tables
 returns-clause-tables c = tables_law
 
 pub returns-clause-leases : goal.returns-clause-leases
-returns-clause-leases c = (shares, parts, deals, marks, reaches, nests)
+returns-clause-leases c = (shares, parts, deals, marks, reaches, nests, ways)
 
 pub returns-clause-homes : goal.returns-clause-homes
 returns-clause-homes c = homes_law

@@ -1,7 +1,7 @@
 use Rattle.std.proofs.Common.{◌≡◌, refl}
 use Rattle.stack_code.specs.Operands.{pushes}
 use Rattle.stack_code.specs.declared.instr.Instr.{Instr}
-use Rattle.stack_code.specs.declared.instr.Instr.TheVariants.{Push, Local, Outer, Global, Index, Field, Load, Add, Sub, Mul, Div, Mod, Rem, Pow, Neg, Abs, Max, Min, Eq, Ne, Lt, Le, Gt, Ge, And, Or, Xor, Not, Range, Get, Combine, LoadL, LoadO, LoadG, AddI, SubI, MulI, ModI, IndexL, Item, ItemL, IndexG, ItemG, Flip, Differ, Dup, Swap, Part, Call, CallAt, CallTo, Fork}
+use Rattle.stack_code.specs.declared.instr.Instr.TheVariants.{Push, Local, Outer, Global, Index, Field, Load, Add, Sub, Mul, Div, Mod, Rem, Pow, Neg, Abs, Max, Min, Eq, Ne, Lt, Le, Gt, Ge, Far, And, Or, Xor, Not, Range, Get, Combine, LoadL, LoadO, LoadG, AddI, SubI, MulI, ModI, IndexL, Item, ItemL, IndexG, ItemG, Flip, Differ, Dup, Swap, Part, Call, CallAt, CallTo, Fork}
 use Rattle.code_validity.proofs.operands.pushes_of.Goals as goal
 
 pub returns-in_default-clause-same : goal.returns-in_default-clause-same
@@ -32,6 +32,7 @@ returns-in_default-clause-same c = rest c.args.instr refl
     rest Le e = absurd (c.in_default.not-Le e)
     rest Gt e = absurd (c.in_default.not-Gt e)
     rest Ge e = absurd (c.in_default.not-Ge e)
+    rest (Far x) e = absurd (c.in_default.not-Far x e)
     rest And e = absurd (c.in_default.not-And e)
     rest Or e = absurd (c.in_default.not-Or e)
     rest Xor e = absurd (c.in_default.not-Xor e)

@@ -1,7 +1,7 @@
 use Rattle.std.proofs.Common.{◌≡◌, refl}
 use Rattle.stack_code.specs.Operands.{takes}
 use Rattle.stack_code.specs.declared.instr.Instr.{Instr}
-use Rattle.stack_code.specs.declared.instr.Instr.TheVariants.{Pop, Dup, Field, Load, Fill, Neg, Abs, Not, Range, JFalse, JTrue, RetV, Reraise, LeaveV, Img, Bool, Wide, EndV, CallTo, Combine, StoreL, StoreO, StoreG, SetL, AddI, SubI, MulI, ModI, IndexL, ItemL, Flip, Item, Differ, JfEq, JfNe, JfLt, JfLe, JfGt, JfGe, Swap, Index, Store, Copy, Add, Sub, Mul, Div, Mod, Rem, Pow, Max, Min, Eq, Ne, Lt, Le, Gt, Ge, And, Or, Xor, Fork, Call}
+use Rattle.stack_code.specs.declared.instr.Instr.TheVariants.{Pop, Dup, Field, Load, Fill, Neg, Abs, Not, Range, JFalse, JTrue, RetV, Reraise, LeaveV, Img, Bool, Wide, EndV, CallTo, Combine, StoreL, StoreO, StoreG, SetL, AddI, SubI, MulI, ModI, IndexL, ItemL, Flip, Item, Differ, JfEq, JfNe, JfLt, JfLe, JfGt, JfGe, Swap, Index, Store, Copy, Add, Sub, Mul, Div, Mod, Rem, Pow, Max, Min, Eq, Ne, Lt, Le, Gt, Ge, Far, And, Or, Xor, Fork, Call}
 use Rattle.code_validity.proofs.operands.takes_of.Goals as goal
 
 pub returns-in_default : goal.returns-in_default
@@ -66,6 +66,7 @@ returns-in_default c = rest c.args.instr refl
     rest Le e = absurd (c.in_default.not-Le e)
     rest Gt e = absurd (c.in_default.not-Gt e)
     rest Ge e = absurd (c.in_default.not-Ge e)
+    rest (Far x) e = absurd (c.in_default.not-Far x e)
     rest And e = absurd (c.in_default.not-And e)
     rest Or e = absurd (c.in_default.not-Or e)
     rest Xor e = absurd (c.in_default.not-Xor e)

@@ -3,18 +3,29 @@ use mir.Val.{SFits}
 use Rattle.std.proofs.Common.{rules, map, w64}
 use Rattle.std.proofs.lemmas.Int.{to_z-of_z}
 use Rattle.check_inference.specs.Exact.{plain}
-use Rattle.lower_leases.proofs.Ways.{any_is, chunk_is, inside_is, range_is}
+use Rattle.lower_leases.proofs.Ways.{any_none, any_some, chunk_is, inside_is, range_is}
 use Rattle.lower_leases.proofs.paths.+way.Goals as goal
 
-pub by_any-returns : goal.by_any-returns
-by_any-returns t c = λ h.
+pub by_any-returns-in-None : goal.by_any-returns-in-None
+by_any-returns-in-None t c = λ h.
     let w = c.way.ensures h in
     let s = c.with_step.ensures w.0 in
     let b = c.step_of_item.ensures s.0 in
     let m = c.measured-found.ensures b.0 in (
       m.0,
-      any_is c.args.through.typed.now c.args.through.ranges _ c.args.at.items c.args.dimension c.args.at.cell (map plain c.args.rest.now) _ _ _ c.measured-found.result.places c.measured-found.result.size c.entered.result _
-          m.1.0 m.1.1.0 m.1.1.1 b.1 s.1 c.entered.ensures w.1,
+      any_none c.args.through.typed.now c.args.through.ranges _ c.args.at.items c.args.dimension c.args.at.cell (map plain c.args.rest.now) _ _ c.measured-found.result.places c.measured-found.result.size c.entered.result s.1 c.entered.ensures w.1,
+    )
+
+pub by_any-returns-in-Some : goal.by_any-returns-in-Some
+by_any-returns-in-Some t c = λ h.
+    let j = c.joined.ensures h in
+    let w = c.way.ensures j.0 in
+    let s = c.with_step.ensures w.0 in
+    let b = c.step_of_item.ensures s.0 in
+    let m = c.measured-found.ensures b.0 in (
+      m.0,
+      any_some c.args.through.typed.now c.args.through.ranges _ c.args.at.items c.args.dimension c.args.at.cell (map plain c.args.rest.now) _ _ _ c.measured-found.result.places c.measured-found.result.size c.len-before.result c.entered.result _ _
+          m.1.0 m.1.1.0 m.1.1.1 b.1 c.len-before.ensures s.1 c.entered.ensures w.1 j.1,
     )
 
 pub by_chunk-returns : goal.by_chunk-returns
