@@ -177,7 +177,7 @@ s-unary G s at x h = s-given G Any FoundOk x _ h (λ a. s-test _ (Is FoundOk) (i
 
 s-plain_typed : (G : Type 0) (at : ℕ) (k : Kind) (a : Found) (z : Option ℤ) → Sound G (Is FoundOk) (o.plain_typed at k a z)
 s-plain_typed G at k a (Some z) = s-static_of G at k a.part (Some z)
-s-plain_typed G at k a None = s-bind G (Is Any) (Is FoundOk) (asked k a) _ (s-asked G k a) (λ x. s-given _ Any FoundOk x _ (λ g. g.1) (λ n. s-some _ FoundOk (record { known = known.Scalar at k None; part = n }) (λ g. tt)))
+s-plain_typed G at k a None = s-bind G (Is Any) (Is FoundOk) (asked k a) _ (s-asked G k a) (λ x. s-given _ Any FoundOk x _ (λ g. g.1) (λ n. s-some _ FoundOk (scalar at k None (typed.Group (as_expr n))) (λ g. tt)))
 
 s-plain_open : (G : Type 0) (at : ℕ) (a : Found) (z : Option ℤ) → (G → Is Any (o.open_of a)) → Sound G (Is FoundOk) (o.plain_open at a z)
 s-plain_open G at a (Some z) h = s-some G FoundOk _ (λ g. tt)

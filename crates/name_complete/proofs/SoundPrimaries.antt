@@ -27,10 +27,10 @@ use Rattle.name_complete.proofs.Facts.{Clear, DenotedOf, Fit, FoundFor, FoundOk,
 use Rattle.syntax_tree.specs.Syntax.{Elsifs, Expr, Primary}
 use Rattle.name_rules.specs.Aggregates.{ByPosition, contents}
 use Rattle.name_rules.specs.Found.{scalar, static, universal}
-use Rattle.name_rules.specs.Operators.{first_kind, open_form, open_of}
+use Rattle.name_rules.specs.Operators.{open_form, open_of}
 use Rattle.name_rules.specs.Parts.{value_named}
 use Rattle.name_rules.specs.Primaries as p
-use Rattle.name_rules.specs.Primaries.{Waiting, common, common_composite, composite_in, first_some, inside, level_above, no_text, number_of_composite, with_known}
+use Rattle.name_rules.specs.Primaries.{Waiting, common, common_type, composite_in, inside, level_above, no_text, number_of_composite, type_of, type_or, with_known}
 use Rattle.name_rules.specs.Shapes.{is_aggregate_form}
 use Rattle.name_rules.specs.declared.found.Limits.{Limits}
 use Rattle.name_rules.specs.Symbols.{number}
@@ -141,30 +141,25 @@ open-ifs (f ∷ fs) ps o h e d i =
     open-ifs fs (right_of ps) (joined (p.open_part (left_of (left_of ps))) (open_of x) o) h.1 e.1 d.1
     (joint Any Any Any (p.open_part (left_of (left_of ps))) (open_of x) o (open-found x h.0 e.0 d.0) i (λ a b j k. tt))
 
-first-none : (j k : Option Kind) → first_kind j k ≡ None → (j ≡ None) × (k ≡ None)
-first-none None k e = (refl, e)
-first-none (Some j) k e = absurd cc
+type-none : (behind : Option Kind × Option ℕ) (k : Option Kind) (n : Option ℕ) → (type_or behind k n).0 ≡ None → (type_or behind k n).1 ≡ None → ((k ≡ None) × (n ≡ None)) × ((behind.0 ≡ None) × (behind.1 ≡ None))
+type-none behind (Some k) n e d = absurd cc
+type-none behind None (Some n) e d = absurd cc
+type-none behind None None e d = ((refl, refl), (e, d))
 
-common-none : (fs : List Known) (k : Option Kind) → common fs k ≡ None → Untyped fs × (k ≡ None)
-common-none [] k e = (tt, e)
-common-none (f ∷ fs) k e = let h = common-none fs (first_kind (kind_of f) k) e in let i = first-none (kind_of f) k h.1 in ((i.0, h.0), i.1)
+common-none : (fs : List Known) (behind : Option Kind × Option ℕ) → (common fs behind).0 ≡ None → (common fs behind).1 ≡ None → (Untyped fs × Scalars fs) × ((behind.0 ≡ None) × (behind.1 ≡ None))
+common-none [] behind e d = ((tt, tt), (e, d))
+common-none (f ∷ fs) behind e d =
+    let h = common-none fs (type_or behind (kind_of f) (composite_in f)) e d in
+    let i = type-none behind (kind_of f) (composite_in f) h.1.0 h.1.1 in
+    (((i.0.0, h.0.0), (i.0.1, h.0.1)), i.1)
 
-some-none : (m n : Option ℕ) → first_some m n ≡ None → (m ≡ None) × (n ≡ None)
-some-none None n e = (refl, e)
-some-none (Some m) n e = absurd cc
-
-composites-none : (fs : List Known) (n : Option ℕ) → common_composite fs n ≡ None → Scalars fs × (n ≡ None)
-composites-none [] n e = (tt, e)
-composites-none (f ∷ fs) n e = let h = composites-none fs (first_some (composite_in f) n) e in let i = some-none (composite_in f) n h.1 in ((i.0, h.0), i.1)
-
-s-conditional : (G : Type 0) (bracket : ℕ) (w : Waiting) (f : Found) (k : Option Kind) (n : Option ℕ) → common w.known (kind_of f.known) ≡ k → common_composite w.known (composite_in f.known) ≡ n → (G → WaitingOf w) → (G → FoundOk f)
+s-conditional : (G : Type 0) (bracket : ℕ) (w : Waiting) (f : Found) (k : Option Kind) (n : Option ℕ) → (common_type w f).0 ≡ k → (common_type w f).1 ≡ n → (G → WaitingOf w) → (G → FoundOk f)
     → Sound G (Is FoundOk) (p.conditional bracket w f k n)
 s-conditional G bracket w f (Some k) n e d h i = s-scalar_if G bracket k w f
 s-conditional G bracket w f None (Some n) e d h i = s-composite_if G bracket n w f
 s-conditional G bracket w f None None e d h i =
-    let a = common-none w.known (kind_of f.known) e in
-    let b = composites-none w.known (composite_in f.known) d in
-    s-pure G (Is FoundOk) _ (λ g. mapped Any FoundOk (p.open_if bracket) (p.open_ifs w.known w.part (open_of f)) (open-ifs w.known w.part (open_of f) (h g) a.0 b.0 (open-found f (i g) a.1 b.1)) (λ x j. tt))
+    let a = common-none w.known (type_of f.known) e d in
+    s-pure G (Is FoundOk) _ (λ g. mapped Any FoundOk (p.open_if bracket) (p.open_ifs w.known w.part (open_of f)) (open-ifs w.known w.part (open_of f) (h g) a.0.0 a.0.1 (open-found f (i g) a.1.0 a.1.1)) (λ x j. tt))
 
 plain-text : (want : Wanted) → Plain want → Plain (no_text want)
 plain-text wanted.Text h = tt
@@ -182,7 +177,7 @@ s-if_expr G names level here want bracket a b more o l c w n =
     s-bind G (Is WaitingOf) (Is FoundOk) (p.alternative names level here want (Some none) a b) _ (s-alternative G names level here want (Some none) a b l c w n (λ g. tt)) (λ d.
     s-bind _ (Is WaitingOf) (Is FoundOk) (p.alternatives names level here want d more) _ (s-alternatives _ names level here want d more l (λ g. c g.0) (λ g. w g.0) n (λ g. g.1)) (λ ds.
     s-bind _ (Is (FoundFor want)) (Is FoundOk) (expr names level here want o) _ (s-expr _ names level here want o l (λ g. c g.0.0) (λ g. w g.0.0)) (λ f.
-    s-both _ WaitingOf (FoundFor want) FoundOk ds f _ (λ g. g.0.1) (λ g. g.1) (λ x y. s-conditional _ bracket x y (common x.known (kind_of y.known)) (common_composite x.known (composite_in y.known)) refl refl (λ g. g.0.1) (λ g. plain-ok want y.known n g.1)))))
+    s-both _ WaitingOf (FoundFor want) FoundOk ds f _ (λ g. g.0.1) (λ g. g.1) (λ x y. s-conditional _ bracket x y (common_type x y).0 (common_type x y).1 refl refl (λ g. g.0.1) (λ g. plain-ok want y.known n g.1)))))
 
 -- ---- brackets
 

@@ -11,7 +11,7 @@ use Rattle.typed_tree.specs.declared.scalars.Class.TheVariants as class
 use Rattle.ada_base.specs.declared.operation.Comparison.{Comparison}
 use Rattle.name_rules.specs.Found.{Found, scalar, static, text_found, universal}
 use Rattle.name_rules.specs.Judging.{fault, pure, some}
-use Rattle.name_rules.specs.Operators.{binary, both_mentions, by_kinds, common_kind, compared, compared_at, compared_by, first_kind, joined_text, joined_texts, leaf, limit_of, logical, member, member_of, membership, negation, not_of, of_subtype, open_binary, open_form, open_of, open_power, open_two, open_unary, operand_blamed, operation, operation_by, operation_on, plain, plain_by, plain_open, plain_typed, power, power_to, signed, static_of, static_operation, static_power, static_unary, static_universal, typed_operation, unary, unary_by, unary_open, unary_typed, universal_by, universal_operation, universal_power, universal_to, within_bounds}
+use Rattle.name_rules.specs.Operators.{binary, both_mentions, by_kinds, common_kind, compared, compared_at, compared_by, first_kind, joined_text, joined_texts, leaf, limit_of, logical, member, member_of, membership, negation, not_of, of_subtype, open_binary, open_form, open_of, open_plain, open_power, open_two, open_unary, operand_blamed, operation, operation_by, operation_on, plain, plain_by, plain_open, plain_typed, power, power_to, signed, static_of, static_operation, static_power, static_unary, static_universal, typed_operation, unary, unary_by, unary_open, unary_typed, universal_by, universal_operation, universal_power, universal_to, within_bounds}
 use Rattle.name_rules.specs.TypedParts.{also_all}
 use Rattle.name_rules.specs.Types.{class_of, in_base, same}
 use Rattle.name_rules.specs.Values.{asked, exact, first_of, fitting, is_kind, is_number, is_scalar, kind_of, mentions_of, suits, value_of}
@@ -180,11 +180,11 @@ module _ (W : World) (V : Sight) where
   f-plain_typed at k a (Some z) e g = f-static_of at k a.part (Some z) (static-part W V a.known a.part z g e)
   f-plain_typed at k a None d g =
       f-bind W V (Maybe (ExprOf W V)) (Maybe (FoundOf W V)) (asked k a) _ (f-asked W V k a g) (λ x q.
-      f-given W V (ExprOf W V) (FoundOf W V) x _ q (λ n r. f-some W V (FoundOf W V) (record { known = known.Scalar at k None; part = n }) r))
+      f-given W V (ExprOf W V) (FoundOf W V) x _ q (λ n r. f-some W V (FoundOf W V) (scalar at k None (typed.Group (as_expr n))) r))
 
   f-plain_open : (at : ℕ) (a : Found) (z : Option ℤ) → value_of a.known ≡ z → FoundOf W V a → Forms W V (Maybe (FoundOf W V)) (plain_open at a z)
   f-plain_open at a (Some z) e g = f-some W V (FoundOf W V) (universal at z false a.part) (static-part W V a.known a.part z g e)
-  f-plain_open at a None d g = f-pure W V (Maybe (FoundOf W V)) _ (mapped WaitsOf (FoundOf W V) (λ x. record { known = known.Open at x.0; part = x.1 }) (open_of a) (open-found a g) (λ x p. p))
+  f-plain_open at a None d g = f-pure W V (Maybe (FoundOf W V)) _ (mapped WaitsOf (FoundOf W V) (open_plain at) (open_of a) (open-found a g) (λ x p. p))
 
   f-plain_by : (at : ℕ) (a : Found) (k : Option Kind) → FoundOf W V a → Forms W V (Maybe (FoundOf W V)) (plain_by at a k)
   f-plain_by at a (Some k) g = f-plain_typed at k a (value_of a.known) refl g

@@ -19,7 +19,7 @@ use Rattle.std.specs.Prelude.{Bool, None, Option, Some, false, if◌then◌else�
 use Rattle.name_rules.specs.TypedParts.{also_all}
 use Rattle.typed_tree.specs.Decoded.{TypedPart, as_expr}
 use Rattle.name_rules.specs.Judging.{◌>>=◌, both, fault, given, pure, some}
-use Rattle.name_rules.specs.Operators.{static_of, static_universal, both_mentions, static_operation, operation_on, operation_by, typed_operation, open_of, open_binary, universal_by, universal_operation, by_kinds, operand_blamed, operation, binary, open_power, universal_power, static_power, universal_to, power_to, power, signed, static_unary, unary_typed, open_unary, unary_open, unary_by, unary, plain_typed, plain_open, plain_by, plain, negation, not_of, joined_texts, joined_text, logical, compared_at, common_kind, compared_by, compared, member, within_bounds, first_kind, member_of, membership, limit_of, of_subtype}
+use Rattle.name_rules.specs.Operators.{static_of, static_universal, both_mentions, static_operation, operation_on, operation_by, typed_operation, open_of, open_plain, open_binary, universal_by, universal_operation, by_kinds, operand_blamed, operation, binary, open_power, universal_power, static_power, universal_to, power_to, power, signed, static_unary, unary_typed, open_unary, unary_open, unary_by, unary, plain_typed, plain_open, plain_by, plain, negation, not_of, joined_texts, joined_text, logical, compared_at, common_kind, compared_by, compared, member, within_bounds, first_kind, member_of, membership, limit_of, of_subtype}
 use Rattle.name_laws.proofs.Walk.{Walk, Keeps, k-pure, k-some, k-bind, k-fault, k-if, k-given, k-both}
 use Rattle.name_laws.proofs.KeepsValues.{k-asked, k-fitting}
 
@@ -130,11 +130,11 @@ k-unary walk s at x = k-given walk x (λ a. if is_number a.known then unary_by s
 
 pub k-plain_typed : (walk : Walk) (x0 : ℕ) (x1 : Kind) (x2 : Found) (x3 : Option ℤ) → Keeps walk (plain_typed x0 x1 x2 x3)
 k-plain_typed walk at k a (Some z) = k-static_of walk at k a.part (Some z)
-k-plain_typed walk at k a None = k-bind walk (asked k a) (λ x. given x (λ n. some (record { known = known.Scalar at k None; part = n }))) (k-asked walk k a) (λ x. k-given walk x (λ n. some (record { known = known.Scalar at k None; part = n })) (λ n. k-some walk (record { known = known.Scalar at k None; part = n })))
+k-plain_typed walk at k a None = k-bind walk (asked k a) (λ x. given x (λ n. some (scalar at k None (typed.Group (as_expr n))))) (k-asked walk k a) (λ x. k-given walk x (λ n. some (scalar at k None (typed.Group (as_expr n)))) (λ n. k-some walk (scalar at k None (typed.Group (as_expr n)))))
 
 pub k-plain_open : (walk : Walk) (x0 : ℕ) (x1 : Found) (x2 : Option ℤ) → Keeps walk (plain_open x0 x1 x2)
 k-plain_open walk at a (Some z) = k-some walk (universal at z false a.part)
-k-plain_open walk at a None = k-pure walk (option_map (λ x. record { known = known.Open at x.0; part = x.1 }) (open_of a))
+k-plain_open walk at a None = k-pure walk (option_map (open_plain at) (open_of a))
 
 pub k-plain_by : (walk : Walk) (x0 : ℕ) (x1 : Found) (x2 : Option Kind) → Keeps walk (plain_by x0 x1 x2)
 k-plain_by walk at a (Some k) = k-plain_typed walk at k a (value_of a.known)

@@ -27,7 +27,7 @@ use Rattle.std.specs.Prelude.{List, None, Option, Some, [], false, option_map, s
 use Rattle.name_rules.specs.TypedParts.{left_of, right_of, also}
 use Rattle.typed_tree.specs.Decoded.{TypedPart, as_expr}
 use Rattle.name_rules.specs.Judging.{given, joined, pure, some}
-use Rattle.name_rules.specs.Primaries.{composite_in, Waiting, alternative, alternatives, common, common_composite, if_part, with_known, scalar_ifs, scalar_if, composite_part, composite_ifs, composite_if, open_ifs, open_if, conditional, no_text, if_expr, grouped_scalar, grouped_by, grouped_form, grouped, target_found, target_at, text_at, primary, level_above, too_deep, inside}
+use Rattle.name_rules.specs.Primaries.{composite_in, Waiting, alternative, alternatives, common_type, if_part, with_known, scalar_ifs, scalar_if, composite_part, composite_ifs, composite_if, open_ifs, open_if, conditional, no_text, if_expr, grouped_scalar, grouped_by, grouped_form, grouped, target_found, target_at, text_at, primary, level_above, too_deep, inside}
 use Rattle.name_laws.proofs.Walk.{Walk, Keeps, k-pure, k-some, k-bind, k-fault, k-given, k-both}
 use Rattle.name_laws.proofs.Walked.{KeepsInside}
 use Rattle.name_laws.proofs.KeepsAggregates.{k-aggregate}
@@ -96,7 +96,7 @@ k-if_expr walk names level here want bracket c v more o keeps1 keeps2 = record {
       walk.joins _ _ _ ((k-alternative walk names level here want (Some (record { known = []; part = part.Nothing })) c v keeps1 keeps2).at log)
       (walk.joins _ _ _ ((k-alternatives walk names level here want d more keeps1 keeps2).at out1.1)
       (walk.joins _ _ _ ((k-expr walk names level here want o keeps1 keeps2).at out2.1)
-      ((k-both walk ds f (λ w x. conditional bracket w x (common w.known (kind_of x.known)) (common_composite w.known (composite_in x.known))) (λ w x. k-conditional walk bracket w x (common w.known (kind_of x.known)) (common_composite w.known (composite_in x.known)))).at out3.1)));
+      ((k-both walk ds f (λ w x. conditional bracket w x (common_type w x).0 (common_type w x).1) (λ w x. k-conditional walk bracket w x (common_type w x).0 (common_type w x).1)).at out3.1)));
 }
 
 pub k-grouped_scalar : (walk : Walk) (x0 : ℕ) (x1 : Found) (x2 : Option Kind) (x3 : Option ℕ) → Keeps walk (grouped_scalar x0 x1 x2 x3)

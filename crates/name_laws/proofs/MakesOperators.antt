@@ -14,7 +14,7 @@ use Rattle.typed_tree.specs.declared.scalars.Class.TheVariants as class
 use Rattle.ada_base.specs.declared.operation.Comparison.{Comparison}
 use Rattle.name_rules.specs.Found.{Found, scalar, static, text_found, universal}
 use Rattle.name_rules.specs.Judging.{fault, pure, some}
-use Rattle.name_rules.specs.Operators.{binary, both_mentions, by_kinds, common_kind, compared, compared_at, compared_by, first_kind, joined_text, joined_texts, leaf, leaf_limits, limit_of, logical, member, member_of, membership, negation, not_of, of_subtype, open_binary, open_form, open_of, open_power, open_two, open_unary, operand_blamed, operation, operation_by, operation_on, plain, plain_by, plain_open, plain_typed, power, power_to, signed, static_of, static_operation, static_power, static_unary, static_universal, typed_operation, unary, unary_by, unary_open, unary_typed, universal_by, universal_operation, universal_power, universal_to, within_bounds}
+use Rattle.name_rules.specs.Operators.{binary, both_mentions, by_kinds, common_kind, compared, compared_at, compared_by, first_kind, joined_text, joined_texts, leaf, leaf_limits, limit_of, logical, member, member_of, membership, negation, not_of, of_subtype, open_binary, open_form, open_of, open_plain, open_power, open_two, open_unary, operand_blamed, operation, operation_by, operation_on, plain, plain_by, plain_open, plain_typed, power, power_to, signed, static_of, static_operation, static_power, static_unary, static_universal, typed_operation, unary, unary_by, unary_open, unary_typed, universal_by, universal_operation, universal_power, universal_to, within_bounds}
 use Rattle.name_rules.specs.TypedParts.{also_all}
 use Rattle.name_rules.specs.Types.{class_of, in_base, same}
 use Rattle.name_rules.specs.Values.{asked, beyond, exact, first_of, fitting, is_kind, is_number, is_scalar, joint, kind_of, sooner, suits, value_of}
@@ -212,11 +212,11 @@ m-plain_typed : (at : ℕ) (k : Kind) (a : Found) (z : Option ℤ) → FoundOf a
 m-plain_typed at k a (Some z) g = m-static_of at k a.part (Some z)
 m-plain_typed at k a None g =
     m-bind (Maybe (AskedOf k)) (Maybe FoundOf) (asked k a) _ (m-asked k a g) (λ x q.
-    m-given (AskedOf k) FoundOf x _ q (λ n r. m-some FoundOf (record { known = known.Scalar at k None; part = n }) r))
+    m-given (AskedOf k) FoundOf x _ q (λ n r. m-some FoundOf (scalar at k None (typed.Group (as_expr n))) r))
 
 m-plain_open : (at : ℕ) (a : Found) (z : Option ℤ) → FoundOf a → Makes (Maybe FoundOf) (plain_open at a z)
 m-plain_open at a (Some z) g = m-some FoundOf (universal at z false a.part) tt
-m-plain_open at a None g = m-pure (Maybe FoundOf) _ (mapped OpenOf FoundOf (λ x. record { known = known.Open at x.0; part = x.1 }) (open_of a) (open-found a g) (λ x p. p))
+m-plain_open at a None g = m-pure (Maybe FoundOf) _ (mapped OpenOf FoundOf (open_plain at) (open_of a) (open-found a g) (λ x p. p))
 
 m-plain_by : (at : ℕ) (a : Found) (k : Option Kind) → FoundOf a → Makes (Maybe FoundOf) (plain_by at a k)
 m-plain_by at a (Some k) g = m-plain_typed at k a (value_of a.known) g

@@ -20,7 +20,7 @@ use Rattle.name_rules.specs.Names.{args_alone, denoted_first, field, wrong_call}
 use Rattle.name_rules.specs.Operators.{open_of}
 use Rattle.name_rules.specs.Parts.{array_reduced, array_reduction, array_shape, attribute_with, call, call_form, is_parallel, item_found, name, new_parameter, next_part, of_array, other_with, part_alone, part_of, parts, reduced_with, site_where, through, value_form, value_named, valued_by, valued_form, wrong_arguments}
 use Rattle.name_rules.specs.Primaries as primaries
-use Rattle.name_rules.specs.Primaries.{Waiting, also_choice, alternative, alternatives, common, common_composite, composite_if, composite_ifs, composite_in, composite_part, conditional, grouped, grouped_by, grouped_form, grouped_scalar, if_expr, if_part, no_text, open_if, open_ifs, open_part, primary, scalar_if, scalar_ifs, target_at, target_found, text_at, with_known}
+use Rattle.name_rules.specs.Primaries.{Waiting, also_choice, alternative, alternatives, common_type, composite_if, composite_ifs, composite_in, composite_part, conditional, grouped, grouped_by, grouped_form, grouped_scalar, if_expr, if_part, no_text, open_if, open_ifs, open_part, primary, scalar_if, scalar_ifs, target_at, target_found, text_at, with_known}
 use Rattle.name_rules.specs.Reducers.{folded_by, reducer_of}
 use Rattle.name_rules.specs.Scope.{stands_for}
 use Rattle.name_rules.specs.Symbols.{symbol}
@@ -257,7 +257,7 @@ m-if_expr names level here want bracket c v more o l r =
     m-bind (Maybe WaitingOf) Finding (alternative names level here want (Some (record { known = []; part = part.Nothing })) c v) _ (m-alternative names level here want (Some (record { known = []; part = part.Nothing })) c v l r tt) (λ d q.
     m-bind (Maybe WaitingOf) Finding (alternatives names level here want d more) _ (m-alternatives names level here want d more l r q) (λ ds s.
     m-bind Finding Finding (expr names level here want o) _ (m-expr names level here want o l r) (λ f t.
-    m-both WaitingOf FoundOf FoundOf ds f _ s t (λ w x i j. m-conditional bracket w x (common w.known (kind_of x.known)) (common_composite w.known (composite_in x.known)) i j))))
+    m-both WaitingOf FoundOf FoundOf ds f _ s t (λ w x i j. m-conditional bracket w x (common_type w x).0 (common_type w x).1 i j))))
 
 -- ---- brackets
 

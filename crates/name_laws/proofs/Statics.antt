@@ -9,7 +9,7 @@ use Rattle.std.specs.Prelude.{neg_ℤ, option_map, pos, unsigned_abs}
 use Rattle.typed_tree.specs.Decoded.{TypedPart, as_expr}
 use Rattle.name_rules.specs.Found.{Found, opened, scalar, static, universal}
 use Rattle.name_rules.specs.Judging.{Judging, both, fault, given, joined, pure, some}
-use Rattle.name_rules.specs.Operators.{both_mentions, by_kinds, open_binary, open_of, open_power, open_two, open_unary, operand_blamed, operation, operation_by, operation_on, plain, plain_by, plain_open, plain_typed, power, power_to, signed, static_of, static_operation, static_power, static_universal, typed_operation, unary, unary_by, unary_open, unary_typed, universal_by, universal_operation, universal_power, universal_to}
+use Rattle.name_rules.specs.Operators.{both_mentions, by_kinds, open_binary, open_of, open_plain, open_power, open_two, open_unary, operand_blamed, operation, operation_by, operation_on, plain, plain_by, plain_open, plain_typed, power, power_to, signed, static_of, static_operation, static_power, static_universal, typed_operation, unary, unary_by, unary_open, unary_typed, universal_by, universal_operation, universal_power, universal_to}
 use Rattle.name_rules.specs.Types.{class_of, in_base, is_integer, same}
 use Rattle.name_rules.specs.Values.{asked, asked_form, bounded, exact, first_of, fitting, in_universal, is_number, joint, kind_in, kind_of, literal, object_value, place_asked, place_scalar, suits, value_of, valued}
 use Rattle.name_rules.specs.TypedParts.{exprs_of, selections_of}
@@ -242,13 +242,10 @@ abbrev Stays : Found → Found → Type 0
 Stays a f = IsSame a.known f.known
 
 abbrev plain-made : ℕ → Kind → TypedPart → Found
-plain-made at k n = record { known = known.Scalar at k None; part = n }
+plain-made at k n = scalar at k None (typed.Group (as_expr n))
 
-abbrev plain-opened : ℕ → Limits × TypedPart → Found
-plain-opened at x = record { known = known.Open at x.0; part = x.1 }
-
-g-plain-open : (at : ℕ) (a : Found) (x : Option (Limits × TypedPart)) → Gives (Stays a) (pure (option_map (plain-opened at) x))
-g-plain-open at a (Some x) = g-some (Stays a) (plain-opened at x) (record { ranged = λ j y p t. absurd cc; exact = λ y t. absurd cc })
+g-plain-open : (at : ℕ) (a : Found) (x : Option (Limits × TypedPart)) → Gives (Stays a) (pure (option_map (open_plain at) x))
+g-plain-open at a (Some x) = g-some (Stays a) (open_plain at x) (record { ranged = λ j y p t. absurd cc; exact = λ y t. absurd cc })
 g-plain-open at a None = g-none (Stays a)
 
 g-plain_typed : (at : ℕ) (k : Kind) (a : Found) (x : Option ℤ) → value_of a.known ≡ x → Gives (Stays a) (plain_typed at k a x)

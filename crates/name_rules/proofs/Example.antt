@@ -75,6 +75,14 @@ good_typed : statements (tree (variable 10 20 (Some (whole (num 32))) ∷ []) (s
 unfolding all_rules faults statements
 good_typed = refl
 
+-- X : Integer; .. X := +X;
+signed_typed : statements (tree (variable 10 20 None ∷ []) (s.Assign (name 10) (s.Single (s.Alone (s.Sum (Some (sign.Plus 50)) (term (ident 10)) s.NoAdding)))))
+    ≡ Some (typed.Then (typed.Assign 10 (root.Object 0) typed.Whole
+    (typed.Number (record { at = 49; scalar = integer })
+    (typed.Group (typed.Variable 10 (root.Object 0) typed.Whole integer)))) typed.End)
+unfolding all_rules faults statements
+signed_typed = refl
+
 -- X : Integer; X := (if X = 1 then 2 elsif X = 3 then X else 4);
 chosen : faults (tree (variable 10 20 None ∷ []) (s.Assign (name 10) (whole (s.If 70 71 (equal (ident 10) 72 (num 31)) (whole (num 32)) (s.AlsoElsif (s.elsif 73 (equal (ident 10) 74 (num 33)) (whole (ident 10))) s.NoElsif) (whole (num 34)))))) ≡ []
 unfolding all_rules faults

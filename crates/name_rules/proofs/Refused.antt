@@ -4,7 +4,7 @@ use Rattle.syntax_tree.specs.Syntax as s
 use Rattle.syntax_tree.specs.declared.operators.Mode.TheVariants as mode
 use Rattle.name_rules.specs.declared.log.Rule.TheVariants as rule
 use Rattle.name_rules.proofs.Opened.{all_rules}
-use Rattle.name_rules.proofs.Written.{at, faults, ident, name, num, one, row, simple, span, tree, variable, whole}
+use Rattle.name_rules.proofs.Written.{at, equal, faults, ident, name, num, one, row, simple, span, tree, variable, whole}
 
 -- ---- a name stands for the declaration that hides the others (8.3)
 
@@ -94,6 +94,27 @@ to_constant = refl
 to_variable : faults (calling (variable 10 20 None)) ≡ []
 unfolding all_rules faults
 to_variable = refl
+
+-- ---- the values of a conditional expression have the type of the first that has one (4.5.7)
+
+-- X : array (1 .. 2) of Integer; F : Integer; .. F := (if F = 1 then a value else another);
+abbrev choosing : ℕ → ℕ → s.Program
+choosing then_value else_value = tree (row (span 31 32) None ∷ variable 15 20 None ∷ []) (s.Assign (name 15) (whole (s.If 70 71 (equal (ident 15) 72 (num 31)) (whole (ident then_value)) s.NoElsif (whole (ident else_value)))))
+
+-- then X else F
+array_first : faults (choosing 10 27) ≡ at 27 rule.WrongType ∷ []
+unfolding all_rules faults
+array_first = refl
+
+-- then F else X
+number_first : faults (choosing 27 10) ≡ at 10 rule.WrongType ∷ []
+unfolding all_rules faults
+number_first = refl
+
+-- then F else F
+numbers_alone : faults (choosing 15 27) ≡ []
+unfolding all_rules faults
+numbers_alone = refl
 
 -- ---- each type definition defines a type of its own (3.2.1)
 

@@ -165,14 +165,17 @@ unary_by s at a None = unary_open s at a (value_of a.known)
 unfoldable pub unary : Unary → ℕ → Option Found → Judging (Option Found)
 unary s at x = given x (λ a. if is_number a.known then unary_by s at a (kind_of a.known) else fault at WrongType)
 
--- `+` leaves nothing but that it is no name
+-- `+` leaves the value as it is; what isn't static becomes a group, as in brackets: it is no name
 abbrev pub plain_typed : ℕ → Kind → Found → Option ℤ → Judging (Option Found)
 plain_typed at k a (Some z) = static_of at k a.part (Some z)
-plain_typed at k a None = asked k a >>= λ x. given x (λ n. some (record { known = known.Scalar at k None; part = n }))
+plain_typed at k a None = asked k a >>= λ x. given x (λ n. some (scalar at k None (typed.Group (as_expr n))))
+
+abbrev pub open_plain : ℕ → Limits × TypedPart → Found
+open_plain at x = opened at x.0 (typed.Group (as_expr x.1))
 
 abbrev pub plain_open : ℕ → Found → Option ℤ → Judging (Option Found)
 plain_open at a (Some z) = some (universal at z false a.part)
-plain_open at a None = pure (option_map (λ x. record { known = known.Open at x.0; part = x.1 }) (open_of a))
+plain_open at a None = pure (option_map (open_plain at) (open_of a))
 
 abbrev pub plain_by : ℕ → Found → Option Kind → Judging (Option Found)
 plain_by at a (Some k) = plain_typed at k a (value_of a.known)

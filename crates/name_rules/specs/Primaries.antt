@@ -6,7 +6,7 @@ use Rattle.syntax_tree.specs.FirstTokens as first_token
 use Rattle.name_rules.specs.Found.{Found, With, composite, opened, scalar, static, text_found, universal}
 use Rattle.name_rules.specs.Iterations.{sequence}
 use Rattle.name_rules.specs.Judging.{Judging, both, fault, given, joined, pure, some, ◌>>=◌}
-use Rattle.name_rules.specs.Operators.{first_kind, open_of}
+use Rattle.name_rules.specs.Operators.{open_of}
 use Rattle.name_rules.specs.Parts.{name, value_named}
 use Rattle.name_rules.specs.Symbols.{number, text}
 use Rattle.name_rules.specs.Types.{typed_scalar}
@@ -65,18 +65,22 @@ abbrev pub alternatives : Names → Inside → Context → Wanted → Option Wai
 alternatives names level here want done syntax.NoElsif = pure done
 alternatives names level here want done (syntax.AlsoElsif (syntax.elsif at c v) es) = alternative names level here want done c v >>= λ d. alternatives names level here want d es
 
+-- the type of a value, a scalar one or that of an array or record, or else the one that is behind it
+abbrev pub type_or : Option Kind × Option ℕ → Option Kind → Option ℕ → Option Kind × Option ℕ
+type_or behind (Some k) n = (Some k, None)
+type_or behind None (Some n) = (None, Some n)
+type_or behind None None = behind
+
+abbrev pub type_of : Known → Option Kind × Option ℕ
+type_of f = (kind_of f, composite_in f)
+
 -- the type of the first value that has one
-abbrev pub common : List Known → Option Kind → Option Kind
-common [] k = k
-common (f ∷ fs) k = common fs (first_kind (kind_of f) k)
+abbrev pub common : List Known → Option Kind × Option ℕ → Option Kind × Option ℕ
+common [] behind = behind
+common (f ∷ fs) behind = common fs (type_or behind (kind_of f) (composite_in f))
 
-abbrev pub first_some : Option ℕ → Option ℕ → Option ℕ
-first_some (Some n) m = Some n
-first_some None m = m
-
-abbrev pub common_composite : List Known → Option ℕ → Option ℕ
-common_composite [] n = n
-common_composite (f ∷ fs) n = common_composite fs (first_some (composite_in f) n)
+abbrev pub common_type : Waiting → Found → Option Kind × Option ℕ
+common_type w f = common w.known (type_of f.known)
 
 abbrev pub if_part : TypedPart → TypedPart → TypedPart → TypedPart
 if_part c v o = part.AnExpr (typed.If (as_expr c) (as_expr v) (as_expr o))
@@ -134,7 +138,7 @@ if_expr names level here want bracket c v more o = do
   d ← alternative names level here want (Some (record { known = []; part = part.Nothing })) c v
   ds ← alternatives names level here want d more
   f ← expr names level here want o
-  both ds f (λ w x. conditional bracket w x (common w.known (kind_of x.known)) (common_composite w.known (composite_in x.known)))
+  both ds f (λ w x. conditional bracket w x (common_type w x).0 (common_type w x).1)
 
 -- ---- brackets, which make an expression no name
 

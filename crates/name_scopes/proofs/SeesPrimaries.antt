@@ -17,7 +17,7 @@ use Rattle.name_rules.specs.Judging.{both, given, joined, pure, unless}
 use Rattle.name_rules.specs.Operators.{open_of}
 use Rattle.name_rules.specs.Parts.{value_named}
 use Rattle.name_rules.specs.Primaries as primaries
-use Rattle.name_rules.specs.Primaries.{Waiting, also_choice, alternative, alternatives, common, common_composite, composite_if, composite_ifs, composite_in, composite_part, conditional, grouped, grouped_by, grouped_form, grouped_scalar, if_expr, if_part, no_text, open_if, open_ifs, open_part, primary, scalar_if, scalar_ifs, target_at, target_found, text_at, with_known}
+use Rattle.name_rules.specs.Primaries.{Waiting, also_choice, alternative, alternatives, common_type, composite_if, composite_ifs, composite_in, composite_part, conditional, grouped, grouped_by, grouped_form, grouped_scalar, if_expr, if_part, no_text, open_if, open_ifs, open_part, primary, scalar_if, scalar_ifs, target_at, target_found, text_at, with_known}
 use Rattle.name_rules.specs.Reducers.{reducer_of}
 use Rattle.name_rules.specs.Symbols.{symbol}
 use Rattle.name_rules.specs.TypedParts.{left_of, right_of}
@@ -130,7 +130,7 @@ module _ (W : World) (V : Sight) where
       v-bind W V (Maybe WaitingOf) (Finding W V) (alternative names level here want (Some (record { known = []; part = part.Nothing })) c v) _ (v-alternative names level here want (Some (record { known = []; part = part.Nothing })) c v l r tt) (λ d q.
       v-bind W V (Maybe WaitingOf) (Finding W V) (alternatives names level here want d more) _ (v-alternatives names level here want d more l r q) (λ ds s.
       v-bind W V (Finding W V) (Finding W V) (expr names level here want o) _ (v-expr W V names level here want o l r) (λ f t.
-      v-both W V WaitingOf (FoundOf W V) (FoundOf W V) ds f _ s t (λ w x i j. v-conditional bracket w x (common w.known (kind_of x.known)) (common_composite w.known (composite_in x.known)) i j))))
+      v-both W V WaitingOf (FoundOf W V) (FoundOf W V) ds f _ s t (λ w x i j. v-conditional bracket w x (common_type w x).0 (common_type w x).1 i j))))
 
   -- ---- brackets
 

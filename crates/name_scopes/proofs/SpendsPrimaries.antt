@@ -31,7 +31,7 @@ use Rattle.typed_tree.specs.Syntax as typed
 use Rattle.std.specs.Prelude.{List, None, Option, Some, [], false, option_map, suc, true, zero, ℕ, ℤ, ◌+◌, ◌∷◌}
 use Rattle.name_rules.specs.TypedParts.{also, left_of, right_of}
 use Rattle.typed_tree.specs.Decoded.{TypedPart, as_expr}
-use Rattle.name_rules.specs.Primaries.{Waiting, also_choice, also_waiting, alternative, alternatives, common, common_composite, composite_if, composite_ifs, composite_in, composite_part, conditional, grouped, grouped_by, grouped_form, grouped_scalar, if_expr, if_part, inside, level_above, no_text, open_if, open_ifs, open_part, primary, scalar_if, scalar_ifs, target_at, target_found, text_at, with_known}
+use Rattle.name_rules.specs.Primaries.{Waiting, also_choice, also_waiting, alternative, alternatives, common_type, composite_if, composite_ifs, composite_in, composite_part, conditional, grouped, grouped_by, grouped_form, grouped_scalar, if_expr, if_part, inside, level_above, no_text, open_if, open_ifs, open_part, primary, scalar_if, scalar_ifs, target_at, target_found, text_at, with_known}
 use Rattle.std.proofs.Common.{arith}
 use Rattle.name_laws.proofs.KeepsPrimaries.{k-inside, k-level_above}
 use Rattle.name_scopes.proofs.SpendsAggregates.{s-aggregate}
@@ -157,7 +157,7 @@ s-if_expr which names level here want bracket c v more o h1 =
     s-bind which (maybe-known which) (maybe-known which) ((maybe-known which).size d) 0 _ (alternatives names level here want d more) _ (s-le which (maybe-known which) _ _ _ (s-alternatives which names level here want d more h1 held1) (omega arith)) (omega arith) (λ ds held2.
     s-bind which (maybe-known which) (maybe-known which) 0 ((maybe-known which).size ds) _ (expr names level here want o) _ (s-le which (maybe-known which) _ _ _ (s-expr which names level here want o h1) (omega arith)) (omega arith) (λ f held3.
     s-both which (with-part which) (with-part which) (with-part which) 0 _ ds f _ held2 held3 (omega arith) (λ w held4 x held5.
-    s-le which (maybe-known which) _ _ _ (s-conditional which bracket w x (common w.known (kind_of x.known)) (common_composite w.known (composite_in x.known)) held4 held5) (omega arith)))))
+    s-le which (maybe-known which) _ _ _ (s-conditional which bracket w x (common_type w x).0 (common_type w x).1 held4 held5) (omega arith)))))
 
 pub s-grouped_scalar : (which : Tally) (x0 : ℕ) (x1 : Found) (x2 : Option Kind) (x3 : Option ℕ) → (with-part which).Whole x1 → Spends which (maybe-known which) (part-size which x1.part) (grouped_scalar x0 x1 x2 x3)
 s-grouped_scalar which bracket f (Some k) n h1 =

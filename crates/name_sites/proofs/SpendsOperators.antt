@@ -21,7 +21,7 @@ use Rattle.ada_base.specs.declared.operation.Comparison.{Comparison}
 use Rattle.std.specs.Prelude.{Bool, None, Option, Some, false, if◌then◌else◌, not, option_map, ℕ, ℤ, ◌&&◌, ◌+◌}
 use Rattle.name_rules.specs.TypedParts.{also_all}
 use Rattle.typed_tree.specs.Decoded.{TypedPart, as_expr}
-use Rattle.name_rules.specs.Operators.{binary, both_mentions, by_kinds, common_kind, compared, compared_at, compared_by, first_kind, joined_text, joined_texts, leaf, limit_of, logical, member, member_of, membership, negation, not_of, of_subtype, open_binary, open_form, open_of, open_power, open_two, open_unary, operand_blamed, operation, operation_by, operation_on, plain, plain_by, plain_open, plain_typed, power, power_to, signed, static_of, static_operation, static_power, static_unary, static_universal, typed_operation, unary, unary_by, unary_open, unary_typed, universal_by, universal_operation, universal_power, universal_to, within_bounds}
+use Rattle.name_rules.specs.Operators.{binary, both_mentions, by_kinds, common_kind, compared, compared_at, compared_by, first_kind, joined_text, joined_texts, leaf, limit_of, logical, member, member_of, membership, negation, not_of, of_subtype, open_binary, open_form, open_of, open_plain, open_power, open_two, open_unary, operand_blamed, operation, operation_by, operation_on, plain, plain_by, plain_open, plain_typed, power, power_to, signed, static_of, static_operation, static_power, static_unary, static_universal, typed_operation, unary, unary_by, unary_open, unary_typed, universal_by, universal_operation, universal_power, universal_to, within_bounds}
 use Rattle.std.proofs.Common.{arith}
 use Rattle.name_laws.proofs.KeepsValues.{k-fitting}
 use Rattle.name_sites.proofs.SpendsFound.{z-opened, z-scalar, z-static, z-text_found, z-universal}
@@ -230,16 +230,23 @@ s-plain_typed which at k a (Some z) h2 = s-le which (maybe-known which) _ _ _ (s
 s-plain_typed which at k a None h2 =
     s-bind which (maybe-part which) (maybe-known which) (part-size which a.part) 0 _ (asked k a) _ (s-le which (maybe-part which) _ _ _ (s-asked which k a h2) (omega arith)) (omega arith) (λ x held1.
     s-given which (part-measure which) (with-part which) 0 _ x _ held1 (omega arith) (λ n held2.
-    s-some which (with-part which) _ (record { known = known.Scalar at k None; part = n }) (held2, omega arith)))
+    s-some which (with-part which) _ (scalar at k None (typed.Group (as_expr n))) (let made3 = z-scalar which at k None (typed.Group (as_expr n)) tt in
+    (made3.0, omega (arith, made3.1, n-expr which n)))))
+
+pub z-open_plain : (which : ℕ) (x0 : ℕ) (x1 : Limits × TypedPart) → (part-measure which).Whole x1.1 → Holds (with-part which) (part-size which x1.1) (open_plain x0 x1)
+z-open_plain which at x h1-1 =
+    let made1 = z-opened which at x.0 (typed.Group (as_expr x.1)) tt in
+    (made1.0, omega (arith, made1.1, n-expr which x.1))
 
 pub s-plain_open : (which : ℕ) (x0 : ℕ) (x1 : Found) (x2 : Option ℤ) → (with-part which).Whole x1 → Spends which (maybe-known which) (part-size which x1.part) (plain_open x0 x1 x2)
 s-plain_open which at a (Some z) h1 =
     s-some which (with-part which) _ (universal at z false a.part) (let made1 = z-universal which at z false a.part h1 in
     (made1.0, omega (arith, made1.1)))
 s-plain_open which at a None h1 =
-    s-pure which (maybe-known which) _ (option_map (λ x. record { known = known.Open at x.0; part = x.1 }) (open_of a)) (let made2 = z-open_of which a h1 in
-    let made3 = h-map (second-of (part-measure which)) (with-part which) 0 (λ x. record { known = known.Open at x.0; part = x.1 }) (open_of a) made2.0 (λ x held1. (held1, omega arith)) in
-    (made3.0, omega (arith, made3.1, made2.1)))
+    s-pure which (maybe-known which) _ (option_map (open_plain at) (open_of a)) (let made2 = z-open_of which a h1 in
+    let made4 = h-map (second-of (part-measure which)) (with-part which) 0 (open_plain at) (open_of a) made2.0 (λ item held1. let made3 = z-open_plain which at item held1 in
+    (made3.0, omega (arith, made3.1))) in
+    (made4.0, omega (arith, made4.1, made2.1)))
 
 pub s-plain_by : (which : ℕ) (x0 : ℕ) (x1 : Found) (x2 : Option Kind) → (with-part which).Whole x1 → Spends which (maybe-known which) (part-size which x1.part) (plain_by x0 x1 x2)
 s-plain_by which at a (Some k) h1 = s-le which (maybe-known which) _ _ _ (s-plain_typed which at k a (value_of a.known) h1) (omega arith)

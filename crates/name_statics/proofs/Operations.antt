@@ -7,7 +7,7 @@ use Rattle.typed_tree.specs.declared.expressions.Sign.{Sign}
 use Rattle.typed_tree.specs.Decoded.{TypedPart, as_expr}
 use Rattle.name_rules.specs.Found.{Found, opened, scalar, static, universal}
 use Rattle.name_rules.specs.Judging.{Judging, fault, pure, some}
-use Rattle.name_rules.specs.Operators.{both_mentions, by_kinds, open_binary, open_of, open_power, open_two, open_unary, operand_blamed, operation, operation_by, operation_on, plain, plain_by, plain_open, plain_typed, power, power_to, signed, static_of, static_operation, static_power, static_universal, typed_operation, unary, unary_by, unary_open, unary_typed, universal_by, universal_operation, universal_power, universal_to}
+use Rattle.name_rules.specs.Operators.{both_mentions, by_kinds, open_binary, open_of, open_plain, open_power, open_two, open_unary, operand_blamed, operation, operation_by, operation_on, plain, plain_by, plain_open, plain_typed, power, power_to, signed, static_of, static_operation, static_power, static_universal, typed_operation, unary, unary_by, unary_open, unary_typed, universal_by, universal_operation, universal_power, universal_to}
 use Rattle.name_rules.specs.Types.{class_of, in_base, is_integer, same}
 use Rattle.name_rules.specs.Values.{asked, asked_form, bounded, exact, first_of, fitting, in_universal, is_number, joint, kind_in, kind_of, literal, object_value, place_asked, place_scalar, suits, value_of, valued}
 use Rattle.name_rules.specs.TypedParts.{selections_of}
@@ -311,39 +311,28 @@ f-abs at x v h = f-unary sign.Abs at x v h
 
 -- `+` leaves the value
 
-bare-open : (f : Known) (x : TypedPart) → Bare f x → value_of f ≡ None → Maybe (λ o. (c : Class) → static_in (with_class c (as_expr o.1)) ≡ None) (open_form f x)
-bare-open (known.Universal first z alone) x b e = absurd cc
-bare-open (known.Open first l) x b e = b
-bare-open (known.Static first k z) x b e = tt
-bare-open (known.Object p) x b e = tt
-bare-open (known.Scalar first k n) x b e = tt
-bare-open (known.Composite first n) x b e = tt
-bare-open (known.Rest first) x b e = tt
-bare-open (known.Text first) x b e = tt
+f-plain_typed : (at : ℕ) (k : Kind) (a : Found) (v : Option ℤ) → Finds (Finding v) (plain_typed at k a v)
+f-plain_typed at k a (Some z) = f-static_of at k a.part (Some z)
+f-plain_typed at k a None =
+    f-then (Finding None) (asked k a) _ (λ x. f-given (Is None) x _ (λ n. f-some (Is None) _ (scalar-is at k None (typed.Group (as_expr n)) refl)))
 
-f-plain_typed : (at : ℕ) (k : Kind) (a : Found) (v : Option ℤ) → Is v a → Finds (Finding v) (plain_typed at k a v)
-f-plain_typed at k a (Some z) h = f-static_of at k a.part (Some z)
-f-plain_typed at k a None h =
-    f-bind (Maybe (Leaves None)) (Finding None) (asked k a) _ (f-asked k a None h) (λ x q. f-given-of (Leaves None) (Is None) x _ q (λ n s. f-some (Is None) (record { known = known.Scalar at k None; part = n }) (record { value = λ t. refl; bare = s })))
-
-f-plain_open : (at : ℕ) (a : Found) (v : Option ℤ) → value_of a.known ≡ v → Bare a.known a.part → Finds (Finding v) (plain_open at a v)
-unfolding open_of
-f-plain_open at a (Some z) e b = f-some (Is (Some z)) (universal at z false a.part) (universal-is at z false a.part)
-f-plain_open at a None e b = by (open_form a.known a.part) (bare-open a.known a.part b e)
+f-plain_open : (at : ℕ) (a : Found) (v : Option ℤ) → Finds (Finding v) (plain_open at a v)
+f-plain_open at a (Some z) = f-some (Is (Some z)) (universal at z false a.part) (universal-is at z false a.part)
+f-plain_open at a None = by (open_of a)
   where
-    by : (x : Option (Limits × TypedPart)) → Maybe (λ o. (c : Class) → static_in (with_class c (as_expr o.1)) ≡ None) x → Finds (Finding None) (pure (option_map (λ o. record { known = known.Open at o.0; part = o.1 }) x))
-    by None q = f-none (Is None)
-    by (Some o) q = f-some (Is None) (record { known = known.Open at o.0; part = o.1 }) (record { value = λ t. refl; bare = q })
+    by : (x : Option (Limits × TypedPart)) → Finds (Finding None) (pure (option_map (open_plain at) x))
+    by None = f-none (Is None)
+    by (Some o) = f-some (Is None) (open_plain at o) (record { value = λ t. refl; bare = λ c. refl })
 
-f-plain_by : (at : ℕ) (a : Found) (k : Option Kind) (v : Option ℤ) → value_of a.known ≡ v → Bare a.known a.part → Finds (Finding v) (plain_by at a k)
-f-plain_by at a (Some k) v e b = subst (λ w. Finds (Finding w) (plain_typed at k a (value_of a.known))) e (f-plain_typed at k a (value_of a.known) (record { value = λ t. refl; bare = b }))
-f-plain_by at a None v e b = subst (λ w. Finds (Finding w) (plain_open at a (value_of a.known))) e (f-plain_open at a (value_of a.known) refl b)
+f-plain_by : (at : ℕ) (a : Found) (k : Option Kind) (v : Option ℤ) → value_of a.known ≡ v → Finds (Finding v) (plain_by at a k)
+f-plain_by at a (Some k) v e = subst (λ w. Finds (Finding w) (plain_typed at k a (value_of a.known))) e (f-plain_typed at k a (value_of a.known))
+f-plain_by at a None v e = subst (λ w. Finds (Finding w) (plain_open at a (value_of a.known))) e (f-plain_open at a (value_of a.known))
 
 pub f-plain : (at : ℕ) (x : Option Found) (v : Option ℤ) → Finding v x → Finds (Finding v) (plain at x)
 unfolding plain
 f-plain at x v h =
     f-given-of (Is v) (Is v) x _ h (λ a p.
-    f-if (Finding v) (is_number a.known) (plain_by at a (kind_of a.known)) (fault at WrongType) (λ e. f-plain_by at a (kind_of a.known) v (p.value (number-scalar a.known e)) p.bare) (f-fault (Is v) at WrongType))
+    f-if (Finding v) (is_number a.known) (plain_by at a (kind_of a.known)) (fault at WrongType) (λ e. f-plain_by at a (kind_of a.known) v (p.value (number-scalar a.known e))) (f-fault (Is v) at WrongType))
 
 -- ---- operators whose results aren't static
 

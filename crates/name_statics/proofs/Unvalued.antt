@@ -43,7 +43,7 @@ use Rattle.name_rules.specs.Expressions.{Inside, condition, expr}
 use Rattle.name_rules.specs.Iterations.{entered, is_reduce, only_reduce_rules, reverse_rule, sequence, sequence_folded, sequence_given, sequence_rules}
 use Rattle.name_rules.specs.Names.{args_alone, wrong_call}
 use Rattle.name_rules.specs.Parts.{name}
-use Rattle.name_rules.specs.Primaries.{Waiting, also_choice, alternative, alternatives, common, common_composite, composite_if, composite_ifs, composite_in, conditional, if_expr, if_part, open_if, open_ifs, open_part, scalar_if, scalar_ifs, with_known}
+use Rattle.name_rules.specs.Primaries.{Waiting, also_choice, alternative, alternatives, common_type, composite_if, composite_ifs, composite_in, conditional, if_expr, if_part, open_if, open_ifs, open_part, scalar_if, scalar_ifs, with_known}
 use Rattle.name_rules.specs.Scope.{expanded_reach, in_ada, in_integer_io, in_package, in_text_io, is_withed, named, predefined, procedure_of, reach_of, selected, undeclared, used_name}
 use Rattle.name_rules.specs.Symbols.{symbol, ada_name, data_error_name, end_error_name, integer_io_name, text_io_name}
 use Rattle.name_rules.specs.TypedParts.{left_of, right_of, selections_of}
@@ -431,4 +431,4 @@ f-if_expr names level here want bracket c v more o =
     f-bind (Maybe Several) (Finding None) (alternative names level here want (Some (record { known = []; part = part.Nothing })) c v) _ (f-alternative names level here want (Some (record { known = []; part = part.Nothing })) c v) (λ d q.
     f-bind (Maybe Several) (Finding None) (alternatives names level here want d more) _ (f-alternatives names level here want d more q) (λ ds s.
     f-then (Finding None) (expr names level here want o) _ (λ f.
-    f-given-of Several (Is None) ds _ s (λ w t. f-given (Is None) f _ (λ x. f-conditional bracket w x (common w.known (kind_of x.known)) (common_composite w.known (composite_in x.known)) t)))))
+    f-given-of Several (Is None) ds _ s (λ w t. f-given (Is None) f _ (λ x. f-conditional bracket w x (common_type w x).0 (common_type w x).1 t)))))

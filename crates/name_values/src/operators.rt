@@ -425,10 +425,11 @@ fn plain_open(judge: &mut Judge, at: u32, operand: Found) -> Finding
             literal: false,
         }));
     }
-    match attempt!(open_of(&mut judge.out, operand)) {
-        None => Ok(None),
-        Some(limits) => Ok(Some(Found::Open { first: at, limits })),
-    }
+    let Some(limits) = attempt!(open_of(&mut judge.out, operand)) else {
+        return Ok(None);
+    };
+    attempt!(judge.out.group());
+    Ok(Some(Found::Open { first: at, limits }))
 }
 
 fn plain_typed(judge: &mut Judge, at: u32, kind: Kind, operand: Found) -> Finding
@@ -437,18 +438,18 @@ fn plain_typed(judge: &mut Judge, at: u32, kind: Kind, operand: Found) -> Findin
     if let Some(value) = value_of(operand) {
         return static_of(judge, at, kind, Some(value));
     }
-    if attempt!(asked(judge, kind, operand)) {
-        Ok(Some(Found::Scalar {
-            first: at,
-            kind,
-            nominal: None,
-        }))
-    } else {
-        Ok(None)
+    if !attempt!(asked(judge, kind, operand)) {
+        return Ok(None);
     }
+    attempt!(judge.out.group());
+    Ok(Some(Found::Scalar {
+        first: at,
+        kind,
+        nominal: None,
+    }))
 }
 
-/// `+`
+/// `+`, behind which what isn't static is a group, as in brackets.
 #[tactic(auto, unfolding(name_rules::specs::Operators::plain))]
 pub fn plain(judge: &mut Judge, at: u32, operand: Option<Found>) -> Finding
     ensures { JudgesOne (spec.plain at) (found_of operand) judge.old result judge.new }

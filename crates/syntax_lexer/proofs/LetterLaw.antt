@@ -1,16 +1,15 @@
 -- Character literals are read as they are spelled, and what the first characters of tokens are.
 use Rattle.std.proofs.Common.{◌≡◌, ℕ, suc, ◌<◌, ◌≤◌, Bool, true, false, cond, not, ◌&&◌, ◌||◌, ◌==◌, List, [], ◌∷◌, length, Option, Some, refl, sym, ap, ◌∙◌, arith, ⊎_elim}
-use Rattle.std.specs.Char.{is_ascii_alphabetic}
-use Rattle.std.proofs.lemmas.Bool.{eqb-true, and_parts, or_cases, or_from, true≢false, le-ltb, not-true, cases_lt, false_from_ne_true, agree_below, agree_below_at}
+use Rattle.std.specs.Char.{is_ascii_alphabetic, is_ascii_alphanumeric}
+use Rattle.std.proofs.lemmas.Bool.{eqb-true, and_parts, or_cases, or_left, true≢false, le-ltb, not-true, cases_lt, false_from_ne_true, agree_below, agree_below_at}
 use Rattle.unicode_ident.specs.Ident.{is_xid_start}
-use Rattle.unicode_ident.proofs.IdentLemmas.{is_xid_start-ascii}
-use Rattle.ucd_category.proofs.Computing.{ucd_category}
+use Rattle.unicode_ident.proofs.IdentLemmas.{is_xid_continue-ascii, is_xid_start-ascii}
 use Rattle.ada_base.specs.declared.token.Kind.{Kind}
 use Rattle.ada_base.specs.declared.token.Kind.TheVariants.{Letter, Mark}
 use Rattle.syntax_lexer.specs.declared.found.Found.{Found}
 use Rattle.syntax_lexer.specs.declared.found.Found.TheVariants.{Other}
-use Rattle.syntax_tree.specs.Characters.{is_control, is_digit, is_letter_or_digit, is_underscore}
-use Rattle.syntax_tree.specs.Numbers.{is_exponent_letter}
+use Rattle.syntax_tree.specs.Characters.{is_control, is_digit, is_of_word, is_underscore}
+use Rattle.syntax_tree.specs.Numbers.{is_digit_or_underscore, is_exponent_letter}
 use Rattle.syntax_tree.specs.Spelling.{admits_letter}
 use Rattle.syntax_lexer.proofs.MarkLaw.{tick_mark}
 use Rattle.syntax_lexer.proofs.Numerals.{some_pair, continues}
@@ -31,33 +30,24 @@ digit_no_letter c h =
     let test = agree_below_at (λ x. not (is_digit 10 x) || not (is_ascii_alphabetic x)) (λ x. true) 128 c refl below in
     is_xid_start-ascii c below ∙ ⊎_elim (λ no. absurd (true≢false (sym h ∙ not-true _ no))) (λ plain. not-true _ plain) (or_cases _ _ test)
 
-digits_below : agree_below (λ x. not (is_digit 10 x) || is_letter_or_digit x) (λ x. true) 128 ≡ true
-unfolding ucd_category
-digits_below = refl
+-- what continues a number may stand in an identifier
+continue_of_word : agree_below (λ x. not (continues x) || (is_ascii_alphanumeric x || (x == 95))) (λ x. true) 128 ≡ true
+continue_of_word = refl
 
--- a decimal digit of ASCII is a digit among all characters
-pub digit_among_all : (c : ℕ) → is_digit 10 c ≡ true → is_letter_or_digit c ≡ true
-digit_among_all c h =
-    let test = agree_below_at (λ x. not (is_digit 10 x) || is_letter_or_digit x) (λ x. true) 128 c digits_below (digit_below c h) in
-    ⊎_elim (λ no. absurd (true≢false (sym h ∙ not-true _ no))) (λ is. is) (or_cases _ _ test)
+continues_below : (c : ℕ) → continues c ≡ true → c < 128
+continues_below c h = ⊎_elim (λ d. ⊎_elim (digit_below c) (λ e. let same : c ≡ 95 = eqb-true c 95 e in omega arith) (or_cases (is_digit 10 c) (is_underscore c) d)) letter (or_cases (is_digit_or_underscore 10 c) (is_exponent_letter c) h) where
+  letter : is_exponent_letter c ≡ true → c < 128
+  letter e = ⊎_elim (λ f. let same : c ≡ 69 = eqb-true c 69 f in omega arith) (λ f. let same : c ≡ 101 = eqb-true c 101 f in omega arith) (or_cases (c == 69) (c == 101) e)
 
-upper_e : is_letter_or_digit 69 ≡ true
-unfolding ucd_category
-upper_e = refl
+continues_word : (c : ℕ) → continues c ≡ true → is_of_word c ≡ true
+continues_word c h =
+    let below = continues_below c h in
+    let test = agree_below_at (λ x. not (continues x) || (is_ascii_alphanumeric x || (x == 95))) (λ x. true) 128 c continue_of_word below in
+    or_left _ _ (is_xid_continue-ascii c below ∙ ⊎_elim (λ no. absurd (true≢false (sym h ∙ not-true _ no))) (λ is. is) (or_cases _ _ test))
 
-lower_e : is_letter_or_digit 101 ≡ true
-unfolding ucd_category
-lower_e = refl
-
-pub exponent_among_all : (c : ℕ) → is_exponent_letter c ≡ true → is_letter_or_digit c ≡ true
-exponent_among_all c h = ⊎_elim (λ e. rw (eqb-true c 69 e) upper_e) (λ e. rw (eqb-true c 101 e) lower_e) (or_cases (c == 69) (c == 101) h)
-
--- what can't continue a number is neither a digit, an underscore nor the letter of an exponent
-pub number_ends : (c : ℕ) → is_letter_or_digit c ≡ false → is_underscore c ≡ false → continues c ≡ false
-number_ends c other underscore =
-    or_from _ _
-    (or_from _ _ (false_from_ne_true _ (λ digit. true≢false (sym (digit_among_all c digit) ∙ other))) underscore)
-    (false_from_ne_true _ (λ letter. true≢false (sym (exponent_among_all c letter) ∙ other)))
+-- what can't follow a number doesn't continue it
+pub number_ends : (c : ℕ) → is_of_word c ≡ false → continues c ≡ false
+number_ends c other = false_from_ne_true _ (λ on. true≢false (sym (continues_word c on) ∙ other))
 
 tick_sound : (before : Option Kind) (cs : List ℕ) (found : Found) (rest : List ℕ) → ◌≡◌ {A = Option (Found × List ℕ)} (Some (Other (Mark 11), cs)) (Some (found, rest)) → Sound before found (39 ∷ cs) rest
 tick_sound before cs found rest h =

@@ -7,7 +7,7 @@ use Rattle.ada_base.specs.declared.token.Kind.{Kind}
 use Rattle.ada_base.specs.declared.token.Kind.TheVariants.{Ident, Word, Number, Text, Letter, Real, Mark, End}
 use Rattle.syntax_lexer.specs.declared.found.Found.{Found}
 use Rattle.syntax_lexer.specs.declared.found.Found.TheVariants.{Other}
-use Rattle.syntax_tree.specs.Characters.{is_control, is_digit, is_letter_or_digit, is_underscore}
+use Rattle.syntax_tree.specs.Characters.{is_control, is_digit, is_of_word}
 use Rattle.syntax_tree.specs.Numbers.{IsInteger, IsReal, IsNumeral, begins_with_digit}
 use Rattle.syntax_tree.specs.Numbers.IsInteger.{Decimal, Based}
 use Rattle.syntax_tree.specs.Numbers.IsReal.{RealLiteral}
@@ -134,12 +134,11 @@ follows : (kind : Kind) (rest : List ℕ) → can_follow kind rest ≡ true → 
 follows kind [] h = refl
 follows kind (c ∷ rest) h = not-true _ h
 
-number_continues : (rest : List ℕ) → goes_on (λ c. (is_letter_or_digit c || is_underscore c) || (c == 35)) rest ≡ false → (goes_on continues rest ≡ false) × (goes_on (λ c. c == 35) rest ≡ false)
+number_continues : (rest : List ℕ) → goes_on (λ c. is_of_word c || (c == 35)) rest ≡ false → (goes_on continues rest ≡ false) × (goes_on (λ c. c == 35) rest ≡ false)
 number_continues [] h = (refl, refl)
 number_continues (c ∷ rest) h =
-    let both = or_parts (is_letter_or_digit c || is_underscore c) (c == 35) h in
-    let parts = or_parts (is_letter_or_digit c) (is_underscore c) both.0 in
-    (number_ends c parts.0 parts.1, both.1)
+    let both = or_parts (is_of_word c) (c == 35) h in
+    (number_ends c both.0, both.1)
 
 tick_from : (before : Option Kind) (n c : ℕ) (s rest : List ℕ) → IsTokenAt before (Mark n) (c ∷ s) rest → slice_get marks n ≡ Some (c ∷ s) → c ≡ 39 → s ≡ [] → candidate_at (admits_letter before) (c ∷ (s ++ rest)) ≡ Some (Other (Mark n), rest)
 tick_from before n c s rest t at there none =

@@ -1,7 +1,7 @@
 //! The kinds of characters, and runs of them.
 ghost use Rattle.std.specs.Prelude.{◌≡◌, ◌≤◌, ◌<◌, length};
 ghost use Rattle.unicode_ident.specs.Ident.{is_xid_continue};
-ghost use Rattle.syntax_tree.specs.Characters.{is_white, is_control, is_letter_or_digit};
+ghost use Rattle.syntax_tree.specs.Characters.{is_white, is_control, is_of_word};
 ghost use Rattle.syntax_tree.specs.Numbers.{is_digit_or_underscore, underscores_between};
 ghost use Rattle.syntax_lexer.specs.Reading.{run, beyond};
 
@@ -21,13 +21,12 @@ pub fn is_control(c: char) -> bool
     GeneralCategory::for_char(c).number() == GeneralCategory::Control.number()
 }
 
-/// Whether the character is a letter or a decimal digit of any script.
-pub fn is_letter_or_digit(c: char) -> bool
-    ensures { result ≡ is_letter_or_digit c }
+/// Whether the character is a letter of any script, or may begin an identifier or stand in one (2.3).
+pub fn is_of_word(c: char) -> bool
+    ensures { result ≡ is_of_word c }
 {
-    let category = GeneralCategory::for_char(c);
-    GeneralCategoryGroup::Letter.contains(category)
-        || category.number() == GeneralCategory::DecimalNumber.number()
+    unicode_ident::is_xid_continue(c)
+        || GeneralCategoryGroup::Letter.contains(GeneralCategory::for_char(c))
 }
 
 /// Cuts the characters after the first ones that may continue an identifier.

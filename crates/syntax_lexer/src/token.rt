@@ -4,7 +4,7 @@ ghost use Rattle.syntax_tree.specs.Spelling.{ends_prefix, admits_letter, runs_on
 ghost use Rattle.syntax_lexer.specs.Reading.{beyond_quoted, text_or_none, letter_at, candidate_at, kind_found, token_at};
 ghost use Rattle.syntax_lexer.specs.Reads.{Reads};
 
-use crate::characters::{is_control, is_letter_or_digit};
+use crate::characters::{is_control, is_of_word};
 use crate::found::Found;
 use crate::mark::mark;
 use crate::name::name;
@@ -83,7 +83,7 @@ fn runs_on(kind: Kind, c: char) -> bool
 {
     match kind {
         Kind::Ident | Kind::Word(_) => is_xid_continue(c),
-        Kind::Number(_) | Kind::Real => is_letter_or_digit(c) || c == '_' || c == '#',
+        Kind::Number(_) | Kind::Real => is_of_word(c) || c == '#',
         Kind::Text => c == '"',
         Kind::Letter | Kind::Mark(_) => false,
         Kind::End => true,

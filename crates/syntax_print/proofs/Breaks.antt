@@ -6,11 +6,14 @@ use Rattle.std.specs.Prelude.{encode_utf8_all, nat_lt, nat_le}
 use Rattle.std.proofs.Math.Utf8.{scalar, scalars}
 use Rattle.std.proofs.lemmas.Str.{encode_ascii}
 use Rattle.std.proofs.lemmas.List.Folds.{list_all-append}
-use Rattle.std.proofs.lemmas.Bool.{eqb-true, and_parts, and_from, or_cases, true≢false, leb-true, ltb-true, not-true, false_from_ne_true, le-ltb, cases_lt, agree_below, agree_below_at}
+use Rattle.std.proofs.lemmas.Bool.{eqb-true, and_parts, and_from, or_cases, or_from, true≢false, leb-true, ltb-true, not-true, false_from_ne_true, le-ltb, cases_lt, agree_below, agree_below_at}
 use Rattle.unicode_ident.specs.Ident.{is_xid_start, is_xid_continue}
 use Rattle.unicode_ident.proofs.IdentLemmas.{is_xid_start-ascii, is_xid_continue-ascii}
 use Rattle.ucd_category.proofs.Computing.{ucd_category}
-use Rattle.syntax_tree.specs.Characters.{is_white, is_digit, is_letter_or_digit, is_underscore}
+use Rattle.ucd_category.specs.declared.GeneralCategoryGroup.TheVariants.{Letter}
+use Rattle.unicode.specs.GeneralCategory.{general_category}
+use Rattle.unicode.specs.GeneralCategoryGroup.{in_group}
+use Rattle.syntax_tree.specs.Characters.{is_white, is_digit, is_of_word}
 use Rattle.syntax_tree.specs.Numbers.{is_digit_or_underscore}
 
 -- the characters of numeric literals: the digits up to base 16, which the letter of an exponent is one of, and marks
@@ -21,19 +24,24 @@ is_of_number c = is_digit_or_underscore 16 c || ((c == 35) || ((c == 43) || ((c 
 pub record IsBreak (c : ℕ) : Type 0 where
   pub white : is_white c ≡ true
   pub no_name : is_xid_continue c ≡ false
-  pub no_letter : is_letter_or_digit c ≡ false
+  pub no_word : is_of_word c ≡ false
   pub no_number : is_of_number c ≡ false
-  pub no_underscore : is_underscore c ≡ false
   pub no_number_sign : (c == 35) ≡ false
   pub no_quote : (c == 34) ≡ false
   pub no_tick : (c == 39) ≡ false
   pub no_hyphen : (c == 45) ≡ false
 
-space_no_letter : is_letter_or_digit 32 ≡ false
+space_no_name : is_xid_continue 32 ≡ false
+space_no_name = is_xid_continue-ascii 32 (lit< tt)
+
+line_no_name : is_xid_continue 10 ≡ false
+line_no_name = is_xid_continue-ascii 10 (lit< tt)
+
+space_no_letter : in_group Letter (general_category 32) ≡ false
 unfolding ucd_category
 space_no_letter = refl
 
-line_no_letter : is_letter_or_digit 10 ≡ false
+line_no_letter : in_group Letter (general_category 10) ≡ false
 unfolding ucd_category
 line_no_letter = refl
 
@@ -41,10 +49,9 @@ pub space_breaks : IsBreak 32
 space_breaks =
     record {
       white = refl;
-      no_name = is_xid_continue-ascii 32 (lit< tt);
-      no_letter = space_no_letter;
+      no_name = space_no_name;
+      no_word = or_from _ _ space_no_name space_no_letter;
       no_number = refl;
-      no_underscore = refl;
       no_number_sign = refl;
       no_quote = refl;
       no_tick = refl;
@@ -55,10 +62,9 @@ pub line_breaks : IsBreak 10
 line_breaks =
     record {
       white = refl;
-      no_name = is_xid_continue-ascii 10 (lit< tt);
-      no_letter = line_no_letter;
+      no_name = line_no_name;
+      no_word = or_from _ _ line_no_name line_no_letter;
       no_number = refl;
-      no_underscore = refl;
       no_number_sign = refl;
       no_quote = refl;
       no_tick = refl;

@@ -122,7 +122,7 @@ no_gap p w r is b =
 follows : (kind : Kind) (w : ℕ) (r : List ℕ) → is_plain kind ≡ true → IsBreak w → can_follow kind (w ∷ r) ≡ true
 follows Ident w r p b = not_from_false _ b.no_name
 follows (Word n) w r p b = not_from_false _ b.no_name
-follows (Number z) w r p b = not_from_false _ (or_from _ _ (or_from _ _ b.no_letter b.no_underscore) b.no_number_sign)
+follows (Number z) w r p b = not_from_false _ (or_from _ _ b.no_word b.no_number_sign)
 follows Text w r p b = not_from_false _ b.no_quote
 follows Letter w r p b = absurd (true≢false (sym p))
 follows Real w r p b = absurd (true≢false (sym p))

@@ -6,7 +6,7 @@ use Rattle.unicode.specs.CaseFolding.{simple_fold}
 use Rattle.unicode_ident.specs.Ident.{is_xid_start, is_xid_continue}
 use Rattle.ada_base.specs.declared.token.Kind.{Kind}
 use Rattle.ada_base.specs.declared.token.Kind.TheVariants.{Ident, Word, Number, Text, Letter, Real, Mark, End}
-use Rattle.syntax_tree.specs.Characters.{is_control, is_letter_or_digit, is_underscore, quotation_mark, apostrophe, number_sign}
+use Rattle.syntax_tree.specs.Characters.{is_control, is_of_word, quotation_mark, apostrophe, number_sign}
 use Rattle.syntax_tree.specs.Numbers.{underscores_between, IsInteger, IsReal}
 use Rattle.ada_base.specs.Symbols.{is_member}
 use Rattle.ada_base.specs.Kinds.{identifier, string, range_word, close_round, close_square}
@@ -65,10 +65,10 @@ IsSpelling before End s = s ≡ []
 abbrev pub runs_on : Kind → ℕ → Bool
 runs_on Ident c = is_xid_continue c
 runs_on (Word n) c = is_xid_continue c
-runs_on (Number z) c = is_letter_or_digit c || is_underscore c || (c == number_sign)
+runs_on (Number z) c = is_of_word c || (c == number_sign)
 runs_on Text c = c == quotation_mark
 runs_on Letter c = false
-runs_on Real c = is_letter_or_digit c || is_underscore c || (c == number_sign)
+runs_on Real c = is_of_word c || (c == number_sign)
 runs_on (Mark n) c = false
 runs_on End c = true
 

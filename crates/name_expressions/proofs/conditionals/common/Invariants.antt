@@ -3,7 +3,7 @@ use Rattle.name_rules.specs.Primaries as spec
 use Rattle.name_expressions.proofs.conditionals.common.Given as goal
 
 abbrev pub invariant-values : goal.invariant-values
-invariant-values l = (l.i ≤ length l.values) × (spec.common (reverse (take l.i l.values)) l.kind ≡ spec.common (reverse l.values) l.fn.last)
+invariant-values l = (l.i ≤ length l.values) × (spec.common (reverse (take l.i l.values)) l.first ≡ spec.common (reverse l.values) (spec.type_of l.fn.last))
 
 abbrev pub decreases-values : goal.decreases-values
 decreases-values l = l.i
