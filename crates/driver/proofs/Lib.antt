@@ -12,3 +12,5 @@ mod Declaring
 mod Reading
 mod Loads
 mod Framed
+mod Only
+mod Standing
