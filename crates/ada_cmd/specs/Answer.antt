@@ -85,10 +85,12 @@ EndsSoak c lines end given out out' err err' = EndsBy c false end given out out'
 abbrev pub unwritten : Stream
 unwritten = record { told = Some []; faults = 0 }
 
--- The unit of a soak's text was run under a setting, while memory held its output, and its end was told.
-pub record RunsSoak (InTells : Type 0) (c : Compiled) (settings : Settings) (statements : ℕ) (text : List ℕ) (given : Status) (before now : Devices) : Type 0 where
+-- The unit of a soak's text was run under a setting, while memory held its output, and its end was told. Where out tells what it
+-- holds, so did it before.
+pub record RunsSoak (InTells OutTells : Type 0) (c : Compiled) (settings : Settings) (statements : ℕ) (text : List ℕ) (given : Status) (before now : Devices) : Type 0 where
   pub end : RunEnd
   pub held : Stream
+  pub tells : OutTells → IsTold before.out
   pub runs : Runs InTells ⊤ c.program (setting_for settings) end before.input now.input unwritten held
   pub ends : EndsSoak c (soak_lines statements (length text) (bytes_of held)) end given before.out now.out before.err now.err
 
@@ -126,8 +128,8 @@ ListsSo c before now given = (now.input ≡ before.input) × ((code : Code) × H
 abbrev pub RunsSo : (InTells OutTells : Type 0) → Asked → Compiled → Devices → Devices → Status → Type 0
 RunsSo InTells OutTells q c before now given = RunsUnit InTells OutTells c q.settings q.vars given before now
 
-abbrev pub SoaksSo : (InTells : Type 0) → Asked → (statements : ℕ) → (text : List ℕ) → Compiled → Devices → Devices → Status → Type 0
-SoaksSo InTells q n text c before now given = RunsSoak InTells c q.settings n text given before now
+abbrev pub SoaksSo : (InTells OutTells : Type 0) → Asked → (statements : ℕ) → (text : List ℕ) → Compiled → Devices → Devices → Status → Type 0
+SoaksSo InTells OutTells q n text c before now given = RunsSoak InTells OutTells c q.settings n text given before now
 
 abbrev pub RefusesSo : Asked → Complaint → Devices → Devices → Status → Type 0
 RefusesSo q fault before now given = Untouched before now × SaysOrLacks status.Refused (ended (line_of q.file fault)) given before.err now.err
@@ -141,7 +143,7 @@ pub data AnswersText (InTells OutTells : Type 0) (q : Asked) (text : List ℕ) (
   Checks : (c : Compiled) → IsAccepted text c → q.mode ≡ mode.Check → ChecksSo before now given → AnswersText InTells OutTells q text given before now
   Lists : (c : Compiled) → IsAccepted text c → q.mode ≡ mode.List → ListsSo c before now given → AnswersText InTells OutTells q text given before now
   Starts : (c : Compiled) → IsAccepted text c → q.mode ≡ mode.Run → RunsSo InTells OutTells q c before now given → AnswersText InTells OutTells q text given before now
-  Soaks : (c : Compiled) → IsAccepted text c → (n : ℕ) → q.mode ≡ mode.Soak n → SoaksSo InTells q n text c before now given → AnswersText InTells OutTells q text given before now
+  Soaks : (c : Compiled) → IsAccepted text c → (n : ℕ) → q.mode ≡ mode.Soak n → SoaksSo InTells OutTells q n text c before now given → AnswersText InTells OutTells q text given before now
   Lacks : Untouched before now → SaysNoMemory given before.err now.err → AnswersText InTells OutTells q text given before now
 
 -- what becomes of a file, what is asked of it, and its text; where memory runs out before the text is there, nothing does

@@ -1,5 +1,5 @@
 -- What comes of an accepted text where no device fails.
-use Rattle.std.specs.Prelude.{◌≡◌, ◌⊎◌, ◌++◌, ⊥, ℕ, List, [], Bool, true, length, drop}
+use Rattle.std.specs.Prelude.{◌≡◌, ◌⊎◌, ◌++◌, ℕ, List, [], Bool, true, length, drop}
 use Rattle.ada_meaning.specs.Law.{Ending, Ended, Raised, TurnsSpent, ReadFault, WriteFault, NoMemory, EndsItself, IsPermitted, Outcome}
 use Rattle.ada_meaning.specs.Programs.{input_of, sequential}
 use Rattle.ada_meaning.specs.Sequential.{IsCalm}
@@ -43,17 +43,24 @@ Completes mode.List number = IsOrLacks number status.Done
 Completes m number = (number ≡ number_of status.Done) ⊎ (number ≡ number_of status.Raised) ⊎ IsOrLacks number status.Spent
 
 -- What is put out of a run that came to this: its output, and behind a normal end the lines of its variables, where they are
--- asked for. In a soak it is the lines on that run, behind a normal end alone.
-abbrev pub put_of : Mode → (vars : Bool) → Ending → Compiled → (text : List ℕ) → Outcome → List ℕ
-put_of (mode.Soak n) vars Ended c text o = soak_lines n (length text) o.output
-put_of (mode.Soak n) vars ending c text o = []
-put_of m true Ended c text o = with_vars c o
-put_of m vars ending c text o = o.output
+-- asked for.
+abbrev pub put_by_run : Ending → (vars : Bool) → Compiled → Outcome → List ℕ
+put_by_run Ended true c o = with_vars c o
+put_by_run ending vars c o = o.output
+
+-- in a soak the lines on that run, behind a normal end alone
+abbrev pub put_by_soak : Ending → (statements : ℕ) → (text : List ℕ) → Outcome → List ℕ
+put_by_soak Ended n text o = soak_lines n (length text) o.output
+put_by_soak ending n text o = []
+
+abbrev pub put_of : Mode → (vars : Bool) → Compiled → (text : List ℕ) → Outcome → List ℕ
+put_of (mode.Soak n) vars c text o = put_by_soak o.ending n text o
+put_of m vars c text o = put_by_run o.ending vars c o
 
 -- The call came to what this run comes to: its status, what it puts out, and what it leaves of the input; or memory ran out.
 pub record ComesTo (OutTells : Type 0) (q : Asked) (c : Compiled) (text : List ℕ) (o : Outcome) (number : ℕ) (before now : Devices) : Type 0 where
   pub status : number ≡ number_of (status_of o.ending)
-  pub put : OutTells → bytes_of now.out ≡ bytes_of before.out ++ put_of q.mode q.vars o.ending c text o
+  pub put : OutTells → bytes_of now.out ≡ bytes_of before.out ++ put_of q.mode q.vars c text o
   pub rest : bytes_of now.input ≡ drop o.taken (bytes_of before.input)
 
 abbrev pub ComesToOrLacks : Type 0 → Asked → Compiled → List ℕ → Outcome → ℕ → Devices → Devices → Type 0

@@ -11,7 +11,6 @@ use Rattle.run_reports.specs.declared.status.Status.{Status}
 use Rattle.ada_cmd.specs.Answer.{ChecksSo, ListsSo, Outside, RefusesSo, RunsSo, SoaksSo, UsageSo, text_of}
 use Rattle.ada_cmd.specs.Causes.{Answered, Cause, IsNotMadeGood, Meets, OfDue, PutsPrefix, PutsVars, PutsVarsPrefix}
 use Rattle.ada_cmd.specs.Complete.{Completes, ComesToCalm, ComesToOnly, NoneRose}
-use Rattle.ada_cmd.specs.Soak.{soak_text}
 
 -- What is promised of a call with these words, of the number of its status, and of the outside before it and after it. `InTells`
 -- and `OutTells` hold where input and out tell their bytes. Where this or that is met, a device may have failed before it, or
@@ -27,7 +26,7 @@ pub record Headline (InTells OutTells : Type 0) (words : List (List ℕ)) (numbe
   pub runs : OfDue words before (λ q text c. q.mode ≡ mode.Run → Meets (RunsSo InTells OutTells q c) number before now)
   pub checks : OfDue words before (λ q text c. q.mode ≡ mode.Check → Meets ChecksSo number before now)
   pub lists : OfDue words before (λ q text c. q.mode ≡ mode.List → Meets (ListsSo c) number before now)
-  pub soaks : OfDue words before (λ q text c. (n : ℕ) → q.mode ≡ mode.Soak n → Meets (SoaksSo InTells q n (soak_text n) c) number before now)
+  pub soaks : OfDue words before (λ q text c. (n : ℕ) → q.mode ≡ mode.Soak n → Meets (SoaksSo InTells OutTells q n text c) number before now)
   pub soak_fetches_nothing : (q : Asked) (n : ℕ) → asked words ≡ Some q → q.mode ≡ mode.Soak n → now.shelf ≡ before.shelf
   -- A text with a fault is refused by the line of that fault, and wrong words get the usage line.
   pub refuses : (q : Asked) (text : List ℕ) (fault : Complaint) → asked words ≡ Some q → text_of q before.shelf ≡ Some text

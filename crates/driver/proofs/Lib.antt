@@ -12,5 +12,5 @@ mod Declaring
 mod Reading
 mod Loads
 mod Framed
-mod Only
+pub mod Only
 mod Standing
