@@ -47,21 +47,21 @@ module _ (given : Status) (old new : Stream) (fine : Rose old new → ⊥) where
 
 -- ---- a run that ended by itself, its status, and what it put
 
-module _ (OutTells : Type 0) (given : Status) (before now : Stream) (o : Outcome) (put : Ending → List ℕ) where
+module _ (OutTells : Type 0) (given : Status) (before now : Stream) (o : Outcome) (due : Ending → List ℕ) where
   pub record Came : Type 0 where
     pub itself : EndsItself o.ending
     pub status : given ≡ status_of o.ending
-    pub put : OutTells → bytes_of now ≡ bytes_of before ++ put o.ending
+    pub put : OutTells → bytes_of now ≡ bytes_of before ++ due o.ending
 
-  came : (e : Ending) → o.ending ≡ e → EndsItself e → given ≡ status_of e → (OutTells → bytes_of now ≡ bytes_of before ++ put e) → Came
+  came : (e : Ending) → o.ending ≡ e → EndsItself e → given ≡ status_of e → (OutTells → bytes_of now ≡ bytes_of before ++ due e) → Came
   came e same itself is puts = record {
     itself = subst EndsItself (sym same) itself;
     status = is ∙ ap status_of (sym same);
-    put = λ tells. puts tells ∙ ap (λ x. bytes_of before ++ put x) (sym same);
+    put = λ tells. puts tells ∙ ap (λ x. bytes_of before ++ due x) (sym same);
   }
 
   -- or memory ran out
-  came_or : (e : Ending) → o.ending ≡ e → EndsItself e → (given ≡ status_of e) ⊎ (given ≡ status.OutOfMemory) → (OutTells → bytes_of now ≡ bytes_of before ++ put e) → Came ⊎ (given ≡ status.OutOfMemory)
+  came_or : (e : Ending) → o.ending ≡ e → EndsItself e → (given ≡ status_of e) ⊎ (given ≡ status.OutOfMemory) → (OutTells → bytes_of now ≡ bytes_of before ++ due e) → Came ⊎ (given ≡ status.OutOfMemory)
   came_or e same itself (inl is) puts = inl (came e same itself is puts)
   came_or e same itself (inr lacks) puts = inr lacks
 
@@ -82,15 +82,13 @@ module _ (InTells OutTells : Type 0) (q : Asked) (c : Compiled) (given : Status)
 
   module _ (no_input : Rose before.input now.input → ⊥) (no_out : Rose before.out now.out → ⊥) (no_err : Rose before.err now.err → ⊥) where
     run_came : (vars : Bool) (end : RunEnd) (left : Stream) → (OutTells → IsTold left) → (ran : Ran end left) → EndsBy c vars end given left now.out before.err now.err → RunCame vars ran.run.outcome
-    run_came true (run_end.Ended finals) left tells ran ends = go (closed given before.err now.err no_err lines left now.out (λ rose. no_out (Risen-after_same ran.causes.1 rose)) ends) where
-      abbrev run : running.TellsOf InTells OutTells c.program (setting_for q.settings) (run_end.Ended finals) ran.on (bytes_of now.input) (bytes_of before.out) (bytes_of left)
-      run = ran.run
-
-      abbrev lines : List ℕ
-      lines = vars_lines c.finals (values_of c.program finals)
-
-      go : ((given ≡ status.Done) × Grows left now.out lines) ⊎ (given ≡ status.OutOfMemory) → RunCame true ran.run.outcome
+    run_came true (run_end.Ended finals) left tells ran ends =
+        go (closed given before.err now.err no_err (vars_lines c.finals (values_of c.program finals)) left now.out (λ rose. no_out (Risen-after_same ran.causes.1 rose)) ends)
+      where
+      go : ((given ≡ status.Done) × Grows left now.out (vars_lines c.finals (values_of c.program finals))) ⊎ (given ≡ status.OutOfMemory) → RunCame true ran.run.outcome
       go (inl (is, grown)) =
+          let run = ran.run in
+          let lines = vars_lines c.finals (values_of c.program finals) in
           inl (came OutTells given before.out now.out run.outcome (λ e. put_by_run e true c run.outcome) law.Ended run.ends.0 tt is (λ told.
               appended left.told now.out.told lines (tells told) grown.told
               ∙ ap (λ z. z ++ lines) (run.output told)

@@ -53,3 +53,7 @@ pub record IsBuilt (unit : Unit) : Type 0 where
   pub accepted : IsAccepted (typed.program unit.typed)
   pub coded : HasCode (typed.program unit.typed) unit.code
   pub placed : unit.variables ≡ main_variables (typed.program unit.typed) 0 (typed.program unit.typed).body.decls
+
+-- So each unit that was built has code that stands for its program.
+abbrev pub BuiltStands : Type 0
+BuiltStands = (unit : Unit) → IsBuilt unit → StandsFor (typed.program unit.typed) unit.code

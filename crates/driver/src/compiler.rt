@@ -11,7 +11,7 @@ ghost use Rattle.ada_meaning.specs.Law.{IsRaceFree};
 ghost use Rattle.ada_meaning.specs.Nonblocking.{KeepsRule};
 ghost use Rattle.typed_tree.specs.Programs.{program};
 ghost use Rattle.syntax_nodes.specs.Trees.{program_of};
-ghost use Rattle.driver.specs.Coded.{IsBuilt, IsTyped, StandsFor};
+ghost use Rattle.driver.specs.Coded.{BuiltStands, IsBuilt, IsTyped, StandsFor};
 ghost use Rattle.driver.specs.Complaints.{Complaint};
 ghost use Rattle.driver.specs.Compile.{Decides, IsRefusal, lexing, parsing, from_unblocked, from_typed, from_tree, from_tokens, compiling, refusal_of, IsAccepted, IsFaultOf, IsRefusalOf, GivesUnit, GivesRefusal};
 ghost use Rattle.driver.specs.Compiled.{Compiled, compiled_of};
@@ -49,7 +49,17 @@ pub fn compile(alloc: Global, text: &[u8]) -> Result<Unit, Refusal>
     ensures all_accepted { (due : Compiled) → IsAccepted text.now due → GivesUnit result due }
     ensures all_refused { (fault : Complaint) → IsFaultOf text.now fault → GivesRefusal result (refusal_of fault) }
 {
+    built_stands();
     compiled(alloc, text)
+}
+
+/// The code of a unit that was built stands for its program.
+pub fn built_stands()
+    ensures { BuiltStands }
+{
+    run_loaded::laws();
+    name_scopes::laws();
+    run_machine_laws::laws();
 }
 
 fn compiled(alloc: Global, text: &[u8]) -> Result<Unit, Refusal>

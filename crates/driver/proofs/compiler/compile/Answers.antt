@@ -13,4 +13,4 @@ pub returns-clause-race_free : goal.returns-clause-race_free
 returns-clause-race_free c = unit_race_free c.args.text.now c.compiled.result c.compiled.ensures.unit
 
 pub returns-clause-stands : goal.returns-clause-stands
-returns-clause-stands c = unit_stands c.compiled.result c.compiled.ensures.built
+returns-clause-stands c = unit_stands c.built_stands.ensures c.compiled.result c.compiled.ensures.built
