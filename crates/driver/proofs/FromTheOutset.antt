@@ -23,6 +23,7 @@ use Rattle.run_outside.proofs.Getting.{some_input, told_input}
 use Rattle.run_outside.specs.Outside.{Faults, Leaves, MayBe, Outside, fresh}
 use Rattle.driver.specs.Kept.{IsRoom, read_over}
 use Rattle.driver.specs.Running.{Causes, EndsAs, Runs, end_by}
+use Rattle.driver.proofs.Only.{only_settled}
 use Rattle.driver.proofs.Reading.{finals_read}
 use Rattle.run_reports.specs.Ends.{values_of}
 use Rattle.run_reports.specs.declared.ends.Finals.{Finals}
@@ -93,6 +94,7 @@ machine_runs {InTells} p set c frame slots variables room f h t cells i j o q lo
         ends = ends_as p h set.limit f (record { output = runs.over.output; taken = length t.came; finals = tells.finals; ending = ending_of h }) refl (λ ended. tells.left ended ∙ values_read p variables room f cells placed is read same);
         left = λ told. left_over t j q some.0 left some.1 told;
         output = λ told. left.put told ∙ runs.over.put;
+        only = λ settled itself. only_settled p set some.0 tells.early _ loaded.accepted tells.permitted settled itself;
         calm = tells.calm;
         prefix = tells.prefix;
       };
@@ -127,6 +129,7 @@ unbegun_runs {InTells} {OutTells} p set b n i j o q rule new back left =
         ends = refl;
         left = λ told. here.coming;
         output = λ told. here.put told ∙ both.0;
+        only = λ settled itself. absurd itself;
         calm = λ calm itself. absurd itself;
         prefix = λ calm. ((sequential p set.limit (input_of (bytes_of i))).output, ap (λ z. z ++ (sequential p set.limit (input_of (bytes_of i))).output) (sym (nothing_behind (bytes_of o))));
       };

@@ -12,3 +12,5 @@ mod Declaring
 mod Reading
 mod Loads
 mod Framed
+pub mod Only
+mod Standing

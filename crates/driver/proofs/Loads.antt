@@ -34,7 +34,7 @@ same_grants : (gs : List Grant) (site : ℕ) → granted_by gs site ≡ paths_at
 same_grants [] site = refl
 same_grants (g ∷ gs) site = λ i. cond (eq_sym site g.site i) ((g.arm, effect_path g.path) ∷ same_grants gs site i) (same_grants gs site i)
 
-code_loaded : NamedProgramsLaw → AcceptedLaw → (p : Program) (c : Code) → IsAccepted p → IsTyped p → HasCode p c → (slots : ℕ) × IsLoaded p c (main_frame c) slots
+pub code_loaded : NamedProgramsLaw → AcceptedLaw → (p : Program) (c : Code) → IsAccepted p → IsTyped p → HasCode p c → (slots : ℕ) × IsLoaded p c (main_frame c) slots
 code_loaded names loads p c accepted typed coded =
     let named = names typed.0 typed.1.0 p typed.1.1 in
     let loaded = loads p named.0 coded.grants accepted ((blocked_law p).1 accepted.unblocked) named.1 coded.granted in

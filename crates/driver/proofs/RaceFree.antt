@@ -19,11 +19,15 @@ use Rattle.driver.specs.declared.unit.Unit.{Unit}
 pub accepts : (p : Program) → KeepsRule p → IsFormed p → AreApart p → effects.IsAccepted p
 accepts p rule formed (strict, free) = record { formed = formed; unblocked = (blocked_law p).0 rule; apart = free; strict = strict }
 
-pub accepted_race_free : (text : List ℕ) (c : Compiled) → IsAccepted text c → IsRaceFree c.program
-accepted_race_free text c (t, lexed, (tree, parsed, (p, typed, (q, (rule, same), (s, (apart, same'), unit))))) =
+-- the typed program of an accepted text is accepted
+pub accepted_program : (text : List ℕ) (c : Compiled) → IsAccepted text c → effects.IsAccepted c.program
+accepted_program text c (t, lexed, (tree, parsed, (p, typed, (q, (rule, same), (s, (apart, same'), unit))))) =
     let formed : IsFormed p = formed_programs_law (names_of t tree) tree p (sym typed) in
-    let of_s : IsRaceFree s = subst IsRaceFree (sym same') (accept_law q (accepts q (subst KeepsRule (sym same) rule) (subst IsFormed (sym same) formed) apart)).0 in
-    subst (λ (x : Compiled). IsRaceFree x.program) (sym unit) of_s
+    let of_s : effects.IsAccepted s = subst effects.IsAccepted (sym same') (accepts q (subst KeepsRule (sym same) rule) (subst IsFormed (sym same) formed) apart) in
+    subst (λ (x : Compiled). effects.IsAccepted x.program) (sym unit) of_s
+
+pub accepted_race_free : (text : List ℕ) (c : Compiled) → IsAccepted text c → IsRaceFree c.program
+accepted_race_free text c is = (accept_law c.program (accepted_program text c is)).0
 
 pub unit_race_free : (text : List ℕ) (r : Result Unit Refusal) → Decides compiling compiled_of text r → IfOk r (λ (unit : Unit). IsRaceFree (program unit.typed))
 unit_race_free text (Ok unit) accepted = accepted_race_free text (compiled_of unit) accepted

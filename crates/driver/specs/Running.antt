@@ -1,5 +1,5 @@
 -- How a unit ran: which run an answer tells of, and which devices failed.
-use Rattle.std.specs.Prelude.{◌≡◌, ℕ, nat_eq, List, ◌++◌, drop, Bool}
+use Rattle.std.specs.Prelude.{◌≡◌, ◌⊎◌, ℕ, nat_eq, List, ◌++◌, drop, Bool, true, false}
 use Rattle.ada_base.specs.Cuts.{Plan}
 use Rattle.ada_meaning.specs.Law as law
 use Rattle.ada_meaning.specs.Law.{EndsItself, IsPermitted, IsPrefix, Outcome}
@@ -32,11 +32,21 @@ EndsAs p limit run_end.ReadFault o = o.ending ≡ law.ReadFault
 EndsAs p limit run_end.WriteFault o = o.ending ≡ law.WriteFault
 EndsAs p limit run_end.NoMemory o = o.ending ≡ law.NoMemory
 
+-- a run that left no parallel construct early, or one with one worker
+abbrev pub IsSettled : Setting → (early : Bool) → Type 0
+IsSettled set early = (early ≡ false) ⊎ (set.one ≡ true)
+
+-- each run that is permitted on this input, and ends by itself, comes to this
+abbrev pub IsOnly : Program → Setting → (input : List ℕ) → Outcome → Type 0
+IsOnly p set input o = (early : Bool) (other : Outcome) → IsPermitted p set input early other → EndsItself other.ending → other ≡ o
+
 -- The answer tells of a run that is permitted under the setting on these bytes of input. Where the input tells, what is left
--- of it is what that run didn't take; where the output tells, what was put before is followed by that run's output. Let the
--- sequential run be calm: it ends within the limit, normally or by an exception, leaves no parallel construct early, and its
--- parallel reductions are listed ones without partial overflow. Then a run that ended by itself is that run; and however the
--- run ended, also where a fault or want of memory stopped it, its output is a prefix of that run's.
+-- of it is what that run didn't take; where the output tells, what was put before is followed by that run's output. Where it
+-- ended by itself, and left no parallel construct early or had one worker, no other permitted run that ends by itself comes to
+-- another output, count of bytes taken, list of variables or ending. Let the sequential run be calm: it ends within the limit,
+-- normally or by an exception, leaves no parallel construct early, and its parallel reductions are listed ones without partial
+-- overflow. Then a run that ended by itself is that run; and however the run ended, also where a fault or want of memory stopped
+-- it, its output is a prefix of that run's.
 pub record TellsOf (InTells OutTells : Type 0) (p : Program) (set : Setting) (end : RunEnd) (input rest before now : List ℕ) : Type 0 where
   pub outcome : Outcome
   pub early : Bool
@@ -44,6 +54,7 @@ pub record TellsOf (InTells OutTells : Type 0) (p : Program) (set : Setting) (en
   pub ends : EndsAs p set.limit end outcome
   pub left : InTells → rest ≡ drop outcome.taken input
   pub output : OutTells → now ≡ before ++ outcome.output
+  pub only : IsSettled set early → EndsItself outcome.ending → IsOnly p set input outcome
   pub calm : IsCalm (sequential p set.limit (input_of input)) → EndsItself outcome.ending → outcome ≡ law.outcome_of p input (sequential p set.limit (input_of input))
   pub prefix : IsCalm (sequential p set.limit (input_of input)) → IsPrefix outcome.output (sequential p set.limit (input_of input)).output
 

@@ -11,7 +11,7 @@ ghost use Rattle.ada_meaning.specs.Law.{IsRaceFree};
 ghost use Rattle.ada_meaning.specs.Nonblocking.{KeepsRule};
 ghost use Rattle.typed_tree.specs.Programs.{program};
 ghost use Rattle.syntax_nodes.specs.Trees.{program_of};
-ghost use Rattle.driver.specs.Coded.{IsBuilt, IsTyped};
+ghost use Rattle.driver.specs.Coded.{BuiltStands, IsBuilt, IsTyped, StandsFor};
 ghost use Rattle.driver.specs.Complaints.{Complaint};
 ghost use Rattle.driver.specs.Compile.{Decides, IsRefusal, lexing, parsing, from_unblocked, from_typed, from_tree, from_tokens, compiling, refusal_of, IsAccepted, IsFaultOf, IsRefusalOf, GivesUnit, GivesRefusal};
 ghost use Rattle.driver.specs.Compiled.{Compiled, compiled_of};
@@ -36,18 +36,30 @@ use typed_tree::Typed;
 /// of an accepted text touch one variable where one writes, under whatever plan, limit and number of workers.
 ///
 /// A unit was built of the text: its code is that of its typed program, whose parallel constructs lend what their threads
-/// may write, and its variables have their places in the main frame. So it can be run.
+/// may write, and its variables have their places in the main frame. So it can be run: its code is valid and forward, and
+/// stands for the program, so that each run of the machine on it tells of a run of the program that is permitted.
 ///
 /// An accepted text gets its unit, and every fault of a text its refusal, unless memory runs out.
 pub fn compile(alloc: Global, text: &[u8]) -> Result<Unit, Refusal>
     ensures accepted { IfOk result (λ unit. IsAccepted text.now (compiled_of unit)) }
     ensures race_free { IfOk result (λ unit. IsRaceFree (program unit.typed)) }
     ensures built { IfOk result IsBuilt }
+    ensures stands { IfOk result (λ unit. StandsFor (program unit.typed) unit.code) }
     ensures refused { IfErr result (IsRefusalOf text.now) }
     ensures all_accepted { (due : Compiled) → IsAccepted text.now due → GivesUnit result due }
     ensures all_refused { (fault : Complaint) → IsFaultOf text.now fault → GivesRefusal result (refusal_of fault) }
 {
+    built_stands();
     compiled(alloc, text)
+}
+
+/// The code of a unit that was built stands for its program.
+pub fn built_stands()
+    ensures { BuiltStands }
+{
+    run_loaded::laws();
+    name_scopes::laws();
+    run_machine_laws::laws();
 }
 
 fn compiled(alloc: Global, text: &[u8]) -> Result<Unit, Refusal>

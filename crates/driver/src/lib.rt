@@ -11,7 +11,7 @@ mod shapes;
 mod unit;
 mod units;
 
-pub use compiler::{compile, one_answer};
+pub use compiler::{built_stands, compile, one_answer};
 pub use note::Note;
 pub use refusal::Refusal;
 pub use run_reports::{Final, Finals, RunEnd};

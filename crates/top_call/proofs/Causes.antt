@@ -3,13 +3,11 @@ use Rattle.std.proofs.Common.{◌≡◌, ℕ, zero, suc, List, Bool, true, false
 use Rattle.std.specs.Prelude.{IfSome, length, option_map, ⊤}
 use Rattle.ada_meaning.specs.Law as law
 use Rattle.ada_meaning.specs.Law.{Ending}
-use Rattle.ada_port.specs.Ports.{Stream, Rose, bytes_of, fetched}
+use Rattle.ada_port.specs.Ports.{Stream, Texts, Rose, bytes_of, fetched}
 use Rattle.ada_port.proofs.Faults.{Risen-after_same}
-use Rattle.driver.specs.Running.{by_workers}
 use Rattle.driver.specs.Compile.{IsAccepted, IsFaultOf}
 use Rattle.driver.specs.Compiled.{Compiled}
 use Rattle.driver.specs.Complaints.{Complaint}
-use Rattle.driver.specs.Lines.{line_of}
 use Rattle.driver.specs.Running as running
 use Rattle.run_reports.specs.declared.ends.RunEnd.{RunEnd}
 use Rattle.run_reports.specs.declared.ends.RunEnd.TheVariants as run_end
@@ -17,14 +15,10 @@ use Rattle.driver.proofs.Exact.{compiling_exact}
 use Rattle.command_words.specs.Words.{Asked, asked}
 use Rattle.command_words.specs.declared.request.Mode.{Mode}
 use Rattle.command_words.specs.declared.request.Mode.TheVariants as mode
-use Rattle.driver.specs.Coded.{HasCode}
-use Rattle.stack_code.specs.Listing.{listing_of}
-use Rattle.stack_code.specs.declared.code.Code.{Code}
-use Rattle.top_call.specs.Answer.{Answers, Wrong, Right, Stated, Unasked, AnswersFile, Unread, Read, Short, AnswersText, Refuses, Checks, Lists, Starts, Soaks, Lacks, Closes, Whole, OutFailed, Lacked, EndsBy, EndsSoak, Fetches, IsFetched, Outside, RunsSoak, RunsUnit, Untouched, text_by, text_of}
+use Rattle.top_call.specs.Answer.{Answers, Wrong, Right, Stated, Unasked, AnswersFile, Unread, Read, Short, AnswersText, Refuses, Checks, Lists, Starts, Soaks, Lacks, ChecksSo, ListsSo, RunsSo, SoaksSo, RefusesSo, UsageSo, Closes, Whole, OutFailed, Lacked, Devices, EndsBy, EndsSoak, Fetches, IsFetched, Outside, Untouched, setting_for, text_by, text_of}
 use Rattle.top_call.specs.Soak.{soak_lines, soak_text}
 use Rattle.run_reports.specs.Says.{Says, SaysNoMemory, SaysOrLacks, number_of}
-use Rattle.top_call.specs.Causes.{Asks, Cause, Executes, ShelfFails, ErrFails, MemoryFails, MayEnd, Meets}
-use Rattle.run_reports.specs.Lines.{accepted_line, ended, usage_line}
+use Rattle.top_call.specs.Causes.{Asks, Cause, Executes, ShelfFails, ErrFails, MemoryFails, IsDue, MayEnd, Meets, OfDue}
 use Rattle.run_reports.specs.declared.status.Status.{Status}
 use Rattle.run_reports.specs.declared.status.Status.TheVariants as status
 
@@ -55,12 +49,6 @@ fetched_for (mode.Soak n) told text fetches is = absurd fetches
 stated_for : (m : Mode) (n : ℕ) (told : Option (List ℕ)) → m ≡ mode.Soak n → IsAsked (text_by m told) (soak_text n)
 stated_for m n told is = subst (λ (x : Mode). IsAsked (text_by x told) (soak_text n)) (sym is) refl
 
-told_for : (m : Mode) (told : Option (List ℕ)) (whole : List ℕ) → Fetches m → told ≡ Some whole → text_by m told ≡ Some (fetched whole)
-told_for mode.Check told whole fetches is = ap (option_map fetched) is
-told_for mode.Run told whole fetches is = ap (option_map fetched) is
-told_for mode.List told whole fetches is = ap (option_map fetched) is
-told_for (mode.Soak n) told whole fetches is = absurd fetches
-
 -- ---- each status by its cause
 
 -- what is said is what is due, or err failed
@@ -86,7 +74,7 @@ module _ (InTells OutTells : Type 0) (words : List (List ℕ)) (before now : Out
     asks_for c accepted = record { asks = asks; text = text; has = has; accepted = accepted }
 
     -- the run's outcome has the ending that the answer tells
-    may_end : {Tells : Type 0} {out : Stream} (c : Compiled) (end : RunEnd) (ending : Ending) (left : Stream) → running.Runs InTells Tells c.program (by_workers q.settings.plan q.settings.workers q.settings.turns) end before.devices.input now.devices.input out left
+    may_end : {Tells : Type 0} {out : Stream} (c : Compiled) (end : RunEnd) (ending : Ending) (left : Stream) → running.Runs InTells Tells c.program (setting_for q.settings) end before.devices.input now.devices.input out left
         → ((o : law.Outcome) → running.EndsAs c.program q.settings.turns end o → o.ending ≡ ending) → MayEnd InTells q c before.devices ending
     may_end c end ending left runs gives = let r = runs.run in (runs.on, (runs.told, (r.outcome, (r.early, r.permitted, gives r.outcome r.ends))))
 
@@ -97,7 +85,7 @@ module _ (InTells OutTells : Type 0) (words : List (List ℕ)) (before now : Out
     soaked n is = subst Executes (sym is) tt
 
     run_cause : (given : Status) (c : Compiled) (vars : Bool) (end : RunEnd) (left : Stream) → IsAccepted text c → q.mode ≡ mode.Run → q.vars ≡ vars
-        → running.Runs InTells OutTells c.program (by_workers q.settings.plan q.settings.workers q.settings.turns) end before.devices.input now.devices.input before.devices.out left
+        → running.Runs InTells OutTells c.program (setting_for q.settings) end before.devices.input now.devices.input before.devices.out left
         → EndsBy c vars end given left now.devices.out before.devices.err now.devices.err → Cause InTells words before now given
     run_cause given c true (run_end.Ended finals) left accepted runs_it asks_vars runs ends =
         closes_cause (λ s. Cause InTells words before now s) _ given left now.devices.out before.devices.err now.devices.err err_fault
@@ -126,7 +114,7 @@ module _ (InTells OutTells : Type 0) (words : List (List ℕ)) (before now : Out
         says_cause (λ s. Cause InTells words before now s) status.OutOfMemory given _ before.devices.err now.devices.err err_fault tt ends.1
 
     soak_cause : {out : Stream} (given : Status) (c : Compiled) (n : ℕ) (lines : List ℕ) (end : RunEnd) (held : Stream) → IsAccepted text c → q.mode ≡ mode.Soak n
-        → running.Runs InTells ⊤ c.program (by_workers q.settings.plan q.settings.workers q.settings.turns) end before.devices.input now.devices.input out held
+        → running.Runs InTells ⊤ c.program (setting_for q.settings) end before.devices.input now.devices.input out held
         → EndsSoak c lines end given before.devices.out now.devices.out before.devices.err now.devices.err → Cause InTells words before now given
     soak_cause given c n lines (run_end.Ended finals) held accepted soaks runs (inl closes) =
         closes_cause (λ s. Cause InTells words before now s) lines given before.devices.out now.devices.out before.devices.err now.devices.err err_fault
@@ -151,15 +139,15 @@ module _ (InTells OutTells : Type 0) (words : List (List ℕ)) (before now : Out
         says_cause (λ s. Cause InTells words before now s) status.OutOfMemory given _ before.devices.err now.devices.err err_fault tt ends.1
 
     text_cause : (given : Status) → AnswersText InTells OutTells q text given before.devices now.devices → Cause InTells words before now given
-    text_cause given (Refuses fault is same says) =
+    text_cause given (Refuses fault is (same, says)) =
         or_lacks_cause (λ s. Cause InTells words before now s) status.Refused given _ before.devices.err now.devices.err err_fault tt (q, asks, never) says
       where
         never : (due : List ℕ) (c : Compiled) → text_of q before.shelf ≡ Some due → IsAccepted due c → ⊥
         never due c due_is accepted = compiling_exact.apart text c fault (subst (λ (t : List ℕ). IsAccepted t c) (sym (same_text (text_of q before.shelf) due text due_is has)) accepted) is
-    text_cause given (Checks c accepted checks same closes) =
+    text_cause given (Checks c accepted checks (same, closes)) =
         closes_cause (λ s. Cause InTells words before now s) _ given before.devices.out now.devices.out before.devices.err now.devices.err err_fault (λ rose. inl (inr (inr (q, c, asks_for c accepted, inl checks)), rose)) tt
         (inl (q, c, asks_for c accepted, inl checks)) closes
-    text_cause given (Lists c accepted lists same code has closes) =
+    text_cause given (Lists c accepted lists (same, (code, coded, stands, closes))) =
         closes_cause (λ s. Cause InTells words before now s) _ given before.devices.out now.devices.out before.devices.err now.devices.err err_fault (λ rose. inl (inr (inr (q, c, asks_for c accepted, inr lists)), rose)) tt
         (inl (q, c, asks_for c accepted, inr lists)) closes
     text_cause given (Starts c accepted runs_it run) = run_cause given c q.vars run.end run.left accepted runs_it refl run.runs run.ends
@@ -180,17 +168,17 @@ module _ (InTells OutTells : Type 0) (words : List (List ℕ)) (before now : Out
 
 -- ---- what is due comes, or something failed
 
-fails_says : (P : Status → Type 0) (given : Status) (before now : Outside) → Untouched before.devices now.devices → SaysNoMemory given before.devices.err now.devices.err → Meets P (number_of given) before now
+fails_says : (P : Devices → Devices → Status → Type 0) (given : Status) (before now : Outside) → Untouched before.devices now.devices → SaysNoMemory given before.devices.err now.devices.err → Meets P (number_of given) before now
 fails_says P given before now same (inl (is, grown)) = inr (MemoryFails (ap number_of is) same)
 fails_says P given before now same (inr (is, broke)) = inr (ErrFails (ap number_of is) broke.rose same)
 
-unread_fails : (P : Status → Type 0) (given : Status) (line : List ℕ) (before now : Outside) → Rose before.shelf now.shelf → Untouched before.devices now.devices → SaysOrLacks status.ShelfFault line given before.devices.err now.devices.err → Meets P (number_of given) before now
+unread_fails : (P : Devices → Devices → Status → Type 0) (given : Status) (line : List ℕ) (before now : Outside) → Rose before.shelf now.shelf → Untouched before.devices now.devices → SaysOrLacks status.ShelfFault line given before.devices.err now.devices.err → Meets P (number_of given) before now
 unread_fails P given line before now rose same (inl (inl (is, grown))) = inr (ShelfFails (ap number_of is) rose same)
 unread_fails P given line before now rose same (inl (inr (is, broke))) = inr (ErrFails (ap number_of is) broke.rose same)
 unread_fails P given line before now rose same (inr lacks) = fails_says P given before now same lacks
 
 -- what becomes of a text that is asked for
-text_meets : {InTells OutTells : Type 0} (P : Status → Type 0) (words : List (List ℕ)) (given : Status) (before now : Outside) (q : Asked) (text : List ℕ) → asked words ≡ Some q → text_of q before.shelf ≡ Some text
+text_meets : {InTells OutTells : Type 0} (P : Devices → Devices → Status → Type 0) (words : List (List ℕ)) (given : Status) (before now : Outside) (q : Asked) (text : List ℕ) → asked words ≡ Some q → text_of q before.shelf ≡ Some text
     → (AnswersText InTells OutTells q text given before.devices now.devices → Meets P (number_of given) before now) → Answers InTells OutTells words given before now → Meets P (number_of given) before now
 text_meets P words given before now q text asks has go (Wrong none same untouched says) = absurd (some_or_none q (sym asks ∙ none))
 text_meets P words given before now q text asks has go (Unasked same untouched says) = fails_says P given before now untouched says
@@ -214,15 +202,9 @@ text_meets {InTells} {OutTells} P words given before now q text asks has go (Sta
     stated : soak_text n ≡ text
     stated = same_text (text_of q before.shelf) text (soak_text n) has (stated_for q.mode n (before.shelf.told q.file) (subst (λ (x : Asked). x.mode ≡ mode.Soak n) one soaks))
 
--- what becomes of a text that the shelf tells, in a mode in which it is fetched
-told_meets : {InTells OutTells : Type 0} (P : Status → Type 0) (words : List (List ℕ)) (given : Status) (before now : Outside) (q : Asked) (told : List ℕ) (due : Mode) → Fetches due → asked words ≡ Some q → q.mode ≡ due → before.shelf.told q.file ≡ Some told
-    → (AnswersText InTells OutTells q (fetched told) given before.devices now.devices → Meets P (number_of given) before now) → Answers InTells OutTells words given before now → Meets P (number_of given) before now
-told_meets P words given before now q told due fetches asks is has go answers =
-    text_meets P words given before now q (fetched told) asks (told_for q.mode (before.shelf.told q.file) told (subst Fetches (sym is) fetches) has) go answers
-
-pub runs : {InTells OutTells : Type 0} (words : List (List ℕ)) (given : Status) (before now : Outside) → Answers InTells OutTells words given before now → (q : Asked) (told : List ℕ) (c : Compiled) → asked words ≡ Some q → q.mode ≡ mode.Run → before.shelf.told q.file ≡ Some told → IsAccepted (fetched told) c
-    → Meets (λ s. RunsUnit InTells OutTells c q.settings q.vars s before.devices now.devices) (number_of given) before now
-runs {InTells} {OutTells} words given before now answers q told c asks runs_it has accepted = told_meets (λ s. RunsUnit InTells OutTells c q.settings q.vars s before.devices now.devices) words given before now q told mode.Run tt asks runs_it has go answers where
+pub runs : {InTells OutTells : Type 0} (words : List (List ℕ)) (given : Status) (before now : Outside) → Answers InTells OutTells words given before now
+    → OfDue words before (λ q text c. q.mode ≡ mode.Run → Meets (RunsSo InTells OutTells q c) (number_of given) before now)
+runs {InTells} {OutTells} words given before now answers q text c due runs_it = text_meets (RunsSo InTells OutTells q c) words given before now q text due.asks due.told go answers where
   check_or_run : mode.Check ≡ mode.Run → ⊥
   check_or_run e = absurd cc
 
@@ -232,20 +214,17 @@ runs {InTells} {OutTells} words given before now answers q told c asks runs_it h
   soak_or_run : (n : ℕ) → mode.Soak n ≡ mode.Run → ⊥
   soak_or_run n e = absurd cc
 
-  go : AnswersText InTells OutTells q (fetched told) given before.devices now.devices → Meets (λ s. RunsUnit InTells OutTells c q.settings q.vars s before.devices now.devices) (number_of given) before now
-  go (Refuses fault is same says) = absurd (compiling_exact.apart (fetched told) c fault accepted is)
-  go (Checks d is checks same closes) = absurd (check_or_run (sym checks ∙ runs_it))
-  go (Lists d is lists same code coded closes) = absurd (list_or_run (sym lists ∙ runs_it))
-  go (Starts d is runs' run) = inl (given, refl, subst (λ (x : Compiled). RunsUnit InTells OutTells x q.settings q.vars given before.devices now.devices) (compiling_exact.one_result (fetched told) d c is accepted) run)
-  go (Soaks d is n soaks run) = absurd (soak_or_run n (sym soaks ∙ runs_it))
-  go (Lacks same says) = fails_says (λ s. RunsUnit InTells OutTells c q.settings q.vars s before.devices now.devices) given before now same says
+  go : AnswersText InTells OutTells q text given before.devices now.devices → Meets (RunsSo InTells OutTells q c) (number_of given) before now
+  go (Refuses fault is says) = absurd (compiling_exact.apart text c fault due.accepted is)
+  go (Checks d is checks' closes) = absurd (check_or_run (sym checks' ∙ runs_it))
+  go (Lists d is lists' closes) = absurd (list_or_run (sym lists' ∙ runs_it))
+  go (Starts d is runs' run) = inl (given, refl, subst (λ (x : Compiled). RunsSo InTells OutTells q x before.devices now.devices given) (compiling_exact.one_result text d c is due.accepted) run)
+  go (Soaks d is n soaks' run) = absurd (soak_or_run n (sym soaks' ∙ runs_it))
+  go (Lacks same says) = fails_says (RunsSo InTells OutTells q c) given before now same says
 
-abbrev ChecksSo : Outside → Outside → Status → Type 0
-ChecksSo before now s = (now.devices.input ≡ before.devices.input) × Closes accepted_line s before.devices.out now.devices.out before.devices.err now.devices.err
-
-pub checks : {InTells OutTells : Type 0} (words : List (List ℕ)) (given : Status) (before now : Outside) → Answers InTells OutTells words given before now → (q : Asked) (told : List ℕ) (c : Compiled) → asked words ≡ Some q → q.mode ≡ mode.Check → before.shelf.told q.file ≡ Some told → IsAccepted (fetched told) c
-    → Meets (λ s. (now.devices.input ≡ before.devices.input) × Closes accepted_line s before.devices.out now.devices.out before.devices.err now.devices.err) (number_of given) before now
-checks {InTells} {OutTells} words given before now answers q told c asks checks_it has accepted = told_meets (ChecksSo before now) words given before now q told mode.Check tt asks checks_it has go answers where
+pub checks : {InTells OutTells : Type 0} (words : List (List ℕ)) (given : Status) (before now : Outside) → Answers InTells OutTells words given before now
+    → OfDue words before (λ q text c. q.mode ≡ mode.Check → Meets ChecksSo (number_of given) before now)
+checks {InTells} {OutTells} words given before now answers q text c due checks_it = text_meets ChecksSo words given before now q text due.asks due.told go answers where
   run_or_check : mode.Run ≡ mode.Check → ⊥
   run_or_check e = absurd cc
 
@@ -255,20 +234,17 @@ checks {InTells} {OutTells} words given before now answers q told c asks checks_
   soak_or_check : (n : ℕ) → mode.Soak n ≡ mode.Check → ⊥
   soak_or_check n e = absurd cc
 
-  go : AnswersText InTells OutTells q (fetched told) given before.devices now.devices → Meets (ChecksSo before now) (number_of given) before now
-  go (Refuses fault is same says) = absurd (compiling_exact.apart (fetched told) c fault accepted is)
-  go (Checks d is checks' same closes) = inl (given, refl, (same, closes))
-  go (Lists d is lists same code coded closes) = absurd (list_or_check (sym lists ∙ checks_it))
+  go : AnswersText InTells OutTells q text given before.devices now.devices → Meets ChecksSo (number_of given) before now
+  go (Refuses fault is says) = absurd (compiling_exact.apart text c fault due.accepted is)
+  go (Checks d is checks' closes) = inl (given, refl, closes)
+  go (Lists d is lists' closes) = absurd (list_or_check (sym lists' ∙ checks_it))
   go (Starts d is runs' run) = absurd (run_or_check (sym runs' ∙ checks_it))
-  go (Soaks d is n soaks run) = absurd (soak_or_check n (sym soaks ∙ checks_it))
-  go (Lacks same says) = fails_says (ChecksSo before now) given before now same says
+  go (Soaks d is n soaks' run) = absurd (soak_or_check n (sym soaks' ∙ checks_it))
+  go (Lacks same says) = fails_says ChecksSo given before now same says
 
-abbrev ListsSo : Compiled → Outside → Outside → Status → Type 0
-ListsSo c before now s = (now.devices.input ≡ before.devices.input) × ((code : Code) × HasCode c.program code × Closes (listing_of code) s before.devices.out now.devices.out before.devices.err now.devices.err)
-
-pub lists : {InTells OutTells : Type 0} (words : List (List ℕ)) (given : Status) (before now : Outside) → Answers InTells OutTells words given before now → (q : Asked) (told : List ℕ) (c : Compiled) → asked words ≡ Some q → q.mode ≡ mode.List → before.shelf.told q.file ≡ Some told → IsAccepted (fetched told) c
-    → Meets (λ s. (now.devices.input ≡ before.devices.input) × ((code : Code) × HasCode c.program code × Closes (listing_of code) s before.devices.out now.devices.out before.devices.err now.devices.err)) (number_of given) before now
-lists {InTells} {OutTells} words given before now answers q told c asks lists_it has accepted = told_meets (ListsSo c before now) words given before now q told mode.List tt asks lists_it has go answers where
+pub lists : {InTells OutTells : Type 0} (words : List (List ℕ)) (given : Status) (before now : Outside) → Answers InTells OutTells words given before now
+    → OfDue words before (λ q text c. q.mode ≡ mode.List → Meets (ListsSo c) (number_of given) before now)
+lists {InTells} {OutTells} words given before now answers q text c due lists_it = text_meets (ListsSo c) words given before now q text due.asks due.told go answers where
   run_or_list : mode.Run ≡ mode.List → ⊥
   run_or_list e = absurd cc
 
@@ -278,43 +254,42 @@ lists {InTells} {OutTells} words given before now answers q told c asks lists_it
   soak_or_list : (n : ℕ) → mode.Soak n ≡ mode.List → ⊥
   soak_or_list n e = absurd cc
 
-  go : AnswersText InTells OutTells q (fetched told) given before.devices now.devices → Meets (ListsSo c before now) (number_of given) before now
-  go (Refuses fault is same says) = absurd (compiling_exact.apart (fetched told) c fault accepted is)
-  go (Checks d is checks same closes) = absurd (check_or_list (sym checks ∙ lists_it))
-  go (Lists d is lists' same code coded closes) = inl (given, refl, (same, (code, subst (λ (x : Compiled). HasCode x.program code) (compiling_exact.one_result (fetched told) d c is accepted) coded, closes)))
+  go : AnswersText InTells OutTells q text given before.devices now.devices → Meets (ListsSo c) (number_of given) before now
+  go (Refuses fault is says) = absurd (compiling_exact.apart text c fault due.accepted is)
+  go (Checks d is checks' closes) = absurd (check_or_list (sym checks' ∙ lists_it))
+  go (Lists d is lists' closes) = inl (given, refl, subst (λ (x : Compiled). ListsSo x before.devices now.devices given) (compiling_exact.one_result text d c is due.accepted) closes)
   go (Starts d is runs' run) = absurd (run_or_list (sym runs' ∙ lists_it))
-  go (Soaks d is n soaks run) = absurd (soak_or_list n (sym soaks ∙ lists_it))
-  go (Lacks same says) = fails_says (ListsSo c before now) given before now same says
+  go (Soaks d is n soaks' run) = absurd (soak_or_list n (sym soaks' ∙ lists_it))
+  go (Lacks same says) = fails_says (ListsSo c) given before now same says
 
-abbrev SoaksSo : Type 0 → Compiled → Asked → ℕ → Outside → Outside → Status → Type 0
-SoaksSo InTells c q n before now s = RunsSoak InTells c q.settings n (soak_text n) s before.devices now.devices
+pub soaks : {InTells OutTells : Type 0} (words : List (List ℕ)) (given : Status) (before now : Outside) → Answers InTells OutTells words given before now
+    → OfDue words before (λ q text c. (n : ℕ) → q.mode ≡ mode.Soak n → Meets (SoaksSo InTells OutTells q n text c) (number_of given) before now)
+soaks {InTells} {OutTells} words given before now answers q text c due n soaks_it = text_meets (SoaksSo InTells OutTells q n text c) words given before now q text due.asks due.told go answers where
+  check_or_soak : mode.Check ≡ mode.Soak n → ⊥
+  check_or_soak e = absurd cc
 
-pub soaks : {InTells OutTells : Type 0} (words : List (List ℕ)) (given : Status) (before now : Outside) → Answers InTells OutTells words given before now → (q : Asked) (n : ℕ) (c : Compiled) → asked words ≡ Some q → q.mode ≡ mode.Soak n → IsAccepted (soak_text n) c
-    → Meets (λ s. RunsSoak InTells c q.settings n (soak_text n) s before.devices now.devices) (number_of given) before now
-soaks {InTells} {OutTells} words given before now answers q n c asks soaks_it accepted =
-    text_meets (SoaksSo InTells c q n before now) words given before now q (soak_text n) asks (ap (λ m. text_by m (before.shelf.told q.file)) soaks_it) go answers
-  where
-    check_or_soak : mode.Check ≡ mode.Soak n → ⊥
-    check_or_soak e = absurd cc
+  run_or_soak : mode.Run ≡ mode.Soak n → ⊥
+  run_or_soak e = absurd cc
 
-    run_or_soak : mode.Run ≡ mode.Soak n → ⊥
-    run_or_soak e = absurd cc
+  list_or_soak : mode.List ≡ mode.Soak n → ⊥
+  list_or_soak e = absurd cc
 
-    list_or_soak : mode.List ≡ mode.Soak n → ⊥
-    list_or_soak e = absurd cc
+  one_number : (m : ℕ) → mode.Soak m ≡ mode.Soak n → m ≡ n
+  one_number m e = cc
 
-    one_number : (m : ℕ) → mode.Soak m ≡ mode.Soak n → m ≡ n
-    one_number m e = cc
+  go : AnswersText InTells OutTells q text given before.devices now.devices → Meets (SoaksSo InTells OutTells q n text c) (number_of given) before now
+  go (Refuses fault is says) = absurd (compiling_exact.apart text c fault due.accepted is)
+  go (Checks d is checks' closes) = absurd (check_or_soak (sym checks' ∙ soaks_it))
+  go (Lists d is lists' closes) = absurd (list_or_soak (sym lists' ∙ soaks_it))
+  go (Starts d is runs' run) = absurd (run_or_soak (sym runs' ∙ soaks_it))
+  go (Soaks d is m soaks' run) =
+      let of_one = subst (λ (x : Compiled). SoaksSo InTells OutTells q m text x before.devices now.devices given) (compiling_exact.one_result text d c is due.accepted) run in
+      inl (given, refl, subst (λ k. SoaksSo InTells OutTells q k text c before.devices now.devices given) (one_number m (sym soaks' ∙ soaks_it)) of_one)
+  go (Lacks same says) = fails_says (SoaksSo InTells OutTells q n text c) given before now same says
 
-    go : AnswersText InTells OutTells q (soak_text n) given before.devices now.devices → Meets (SoaksSo InTells c q n before now) (number_of given) before now
-    go (Refuses fault is same says) = absurd (compiling_exact.apart (soak_text n) c fault accepted is)
-    go (Checks d is checks same closes) = absurd (check_or_soak (sym checks ∙ soaks_it))
-    go (Lists d is lists same code coded closes) = absurd (list_or_soak (sym lists ∙ soaks_it))
-    go (Starts d is runs' run) = absurd (run_or_soak (sym runs' ∙ soaks_it))
-    go (Soaks d is m soaks' run) =
-        let of_one = subst (λ (x : Compiled). RunsSoak InTells x q.settings m (soak_text n) given before.devices now.devices) (compiling_exact.one_result (soak_text n) d c is accepted) run in
-        inl (given, refl, subst (λ k. RunsSoak InTells c q.settings k (soak_text n) given before.devices now.devices) (one_number m (sym soaks' ∙ soaks_it)) of_one)
-    go (Lacks same says) = fails_says (SoaksSo InTells c q n before now) given before now same says
+-- the text of a soak is the stated one
+pub stated_text : (words : List (List ℕ)) (shelf : Texts) (q : Asked) (text : List ℕ) (c : Compiled) → IsDue words shelf q text c → (n : ℕ) → q.mode ≡ mode.Soak n → soak_text n ≡ text
+stated_text words shelf q text c due n soaks_it = some_is (soak_text n) text (sym (ap (λ m. text_by m (shelf.told q.file)) soaks_it) ∙ due.told)
 
 pub fetches_nothing : {InTells OutTells : Type 0} (words : List (List ℕ)) (given : Status) (before now : Outside) → Answers InTells OutTells words given before now → (q : Asked) (n : ℕ) → asked words ≡ Some q → q.mode ≡ mode.Soak n
     → now.shelf ≡ before.shelf
@@ -324,26 +299,22 @@ fetches_nothing words given before now (Stated r asks' m soaks' same answers) q 
 fetches_nothing words given before now (Right r asks' fetches answers) q n asks soaks_it =
     absurd (subst Fetches soaks_it (subst (λ (x : Asked). Fetches x.mode) (some_is r q (sym asks' ∙ asks)) fetches))
 
-abbrev RefusesSo : List ℕ → Complaint → Outside → Outside → Status → Type 0
-RefusesSo file fault before now s = Untouched before.devices now.devices × SaysOrLacks status.Refused (ended (line_of file fault)) s before.devices.err now.devices.err
-
 pub refuses : {InTells OutTells : Type 0} (words : List (List ℕ)) (given : Status) (before now : Outside) → Answers InTells OutTells words given before now → (q : Asked) (text : List ℕ) (fault : Complaint) → asked words ≡ Some q → text_of q before.shelf ≡ Some text → IsFaultOf text fault
-    → Meets (λ s. Untouched before.devices now.devices × SaysOrLacks status.Refused (ended (line_of q.file fault)) s before.devices.err now.devices.err) (number_of given) before now
-refuses {InTells} {OutTells} words given before now answers q text fault asks has is_fault = text_meets (RefusesSo q.file fault before now) words given before now q text asks has go answers where
-  go : AnswersText InTells OutTells q text given before.devices now.devices → Meets (RefusesSo q.file fault before now) (number_of given) before now
-  go (Refuses own is same says) = inl (given, refl, (same, subst (λ (f : Complaint). SaysOrLacks status.Refused (ended (line_of q.file f)) given before.devices.err now.devices.err) (compiling_exact.one_fault text own fault is is_fault) says))
-  go (Checks d is checks' same closes) = absurd (compiling_exact.apart text d fault is is_fault)
-  go (Lists d is lists same code coded closes) = absurd (compiling_exact.apart text d fault is is_fault)
+    → Meets (RefusesSo q fault) (number_of given) before now
+refuses {InTells} {OutTells} words given before now answers q text fault asks has is_fault = text_meets (RefusesSo q fault) words given before now q text asks has go answers where
+  go : AnswersText InTells OutTells q text given before.devices now.devices → Meets (RefusesSo q fault) (number_of given) before now
+  go (Refuses own is says) = inl (given, refl, subst (λ (f : Complaint). RefusesSo q f before.devices now.devices given) (compiling_exact.one_fault text own fault is is_fault) says)
+  go (Checks d is checks' closes) = absurd (compiling_exact.apart text d fault is is_fault)
+  go (Lists d is lists' closes) = absurd (compiling_exact.apart text d fault is is_fault)
   go (Starts d is runs' run) = absurd (compiling_exact.apart text d fault is is_fault)
   go (Soaks d is n soaks' run) = absurd (compiling_exact.apart text d fault is is_fault)
-  go (Lacks same says) = fails_says (RefusesSo q.file fault before now) given before now same says
+  go (Lacks same says) = fails_says (RefusesSo q fault) given before now same says
 
-pub wrong_words : {InTells OutTells : Type 0} (words : List (List ℕ)) (given : Status) (before now : Outside) → Answers InTells OutTells words given before now → asked words ≡ None
-    → Meets (λ s. Untouched before.devices now.devices × Says status.Usage usage_line s before.devices.err now.devices.err) (number_of given) before now
+pub wrong_words : {InTells OutTells : Type 0} (words : List (List ℕ)) (given : Status) (before now : Outside) → Answers InTells OutTells words given before now → asked words ≡ None → Meets UsageSo (number_of given) before now
 wrong_words words given before now (Wrong none same untouched says) wrong = inl (given, refl, (untouched, says))
 wrong_words words given before now (Right q asks fetches answers) wrong = absurd (some_or_none q (sym asks ∙ wrong))
 wrong_words words given before now (Stated q asks n soaks' same answers) wrong = absurd (some_or_none q (sym asks ∙ wrong))
-wrong_words words given before now (Unasked same untouched says) wrong = fails_says (λ s. Untouched before.devices now.devices × Says status.Usage usage_line s before.devices.err now.devices.err) given before now untouched says
+wrong_words words given before now (Unasked same untouched says) wrong = fails_says UsageSo given before now untouched says
 
 -- ---- numbers of statuses
 

@@ -8,6 +8,7 @@ use Rattle.run_reports.specs.declared.ends.RunEnd.{RunEnd}
 use Rattle.run_reports.specs.declared.ends.RunEnd.TheVariants as run_end
 use Rattle.command_words.specs.Words.{Asked}
 use Rattle.top_call.specs.Answer.{Answers, Wrong, Right, Stated, Unasked, AnswersFile, Unread, Read, Short, AnswersText, Refuses, Checks, Lists, Starts, Soaks, Lacks, Closes, ClosesOrLacks, Whole, OutFailed, Lacked, Devices, EndsBy, EndsSoak, Outside, Untouched, unwritten}
+use Rattle.top_call.specs.Causes.{IsNotMadeGood}
 use Rattle.top_call.specs.Soak.{soak_lines}
 use Rattle.run_reports.specs.Says.{Says, SaysOrLacks, number_of}
 use Rattle.run_reports.specs.declared.status.Status.{Status}
@@ -125,25 +126,25 @@ module _ (c : Compiled) (given : Status) (before now : Devices) where
 
 module _ (q : Asked) (text : List ℕ) (given : Status) (before now : Devices) where
   pub err_text : {InTells OutTells : Type 0} → AnswersText InTells OutTells q text given before now → before.err.faults < now.err.faults → given ≡ status.WriteFault
-  err_text (Refuses fault is same says) h = err_lacks status.Refused given _ before.err now.err says h
-  err_text (Checks c is checks same closes) h = err_closes _ given before.out now.out before.err now.err closes h
-  err_text (Lists c is lists same code coded closes) h = err_closes _ given before.out now.out before.err now.err closes h
+  err_text (Refuses fault is (same, says)) h = err_lacks status.Refused given _ before.err now.err says h
+  err_text (Checks c is checks (same, closes)) h = err_closes _ given before.out now.out before.err now.err closes h
+  err_text (Lists c is lists (same, (code, coded, stands, closes))) h = err_closes _ given before.out now.out before.err now.err closes h
   err_text (Starts c is runs run) h = err_run c given before now q.vars run.end run.left run.ends h
   err_text (Soaks c is n soaks run) h = err_soak c given before now (soak_lines n (length text) (bytes_of run.held)) run.end run.ends h
   err_text (Lacks same says) h = err_says status.OutOfMemory given _ before.err now.err says h
 
   pub out_text : {InTells OutTells : Type 0} → AnswersText InTells OutTells q text given before now → before.out.faults < now.out.faults → given ≡ status.WriteFault
-  out_text (Refuses fault is same says) h = no_rise before.out.faults now.out.faults (given ≡ status.WriteFault) (faults_of same.out) h
-  out_text (Checks c is checks same closes) h = out_closes _ given before.out now.out before.err now.err closes h
-  out_text (Lists c is lists same code coded closes) h = out_closes _ given before.out now.out before.err now.err closes h
+  out_text (Refuses fault is (same, says)) h = no_rise before.out.faults now.out.faults (given ≡ status.WriteFault) (faults_of same.out) h
+  out_text (Checks c is checks (same, closes)) h = out_closes _ given before.out now.out before.err now.err closes h
+  out_text (Lists c is lists (same, (code, coded, stands, closes))) h = out_closes _ given before.out now.out before.err now.err closes h
   out_text (Starts c is runs run) h = out_run c given before now q.vars run.end run.left run.runs.causes run.ends h
   out_text (Soaks c is n soaks run) h = out_soak c given before now (soak_lines n (length text) (bytes_of run.held)) run.end run.ends h
   out_text (Lacks same says) h = no_rise before.out.faults now.out.faults (given ≡ status.WriteFault) (faults_of same.out) h
 
   pub input_text : {InTells OutTells : Type 0} → AnswersText InTells OutTells q text given before now → before.input.faults < now.input.faults → (given ≡ status.ReadFault) ⊎ (given ≡ status.WriteFault)
-  input_text (Refuses fault is same says) h = no_rise before.input.faults now.input.faults ((given ≡ status.ReadFault) ⊎ (given ≡ status.WriteFault)) (faults_of same.input) h
-  input_text (Checks c is checks same closes) h = no_rise before.input.faults now.input.faults ((given ≡ status.ReadFault) ⊎ (given ≡ status.WriteFault)) (faults_of same) h
-  input_text (Lists c is lists same code coded closes) h = no_rise before.input.faults now.input.faults ((given ≡ status.ReadFault) ⊎ (given ≡ status.WriteFault)) (faults_of same) h
+  input_text (Refuses fault is (same, says)) h = no_rise before.input.faults now.input.faults ((given ≡ status.ReadFault) ⊎ (given ≡ status.WriteFault)) (faults_of same.input) h
+  input_text (Checks c is checks (same, closes)) h = no_rise before.input.faults now.input.faults ((given ≡ status.ReadFault) ⊎ (given ≡ status.WriteFault)) (faults_of same) h
+  input_text (Lists c is lists (same, (code, coded, stands, closes))) h = no_rise before.input.faults now.input.faults ((given ≡ status.ReadFault) ⊎ (given ≡ status.WriteFault)) (faults_of same) h
   input_text (Starts c is runs run) h = input_run c given before now q.vars run.end run.left run.runs.causes run.ends h
   input_text (Soaks c is n soaks run) h = input_soak c given before now unwritten (soak_lines n (length text) (bytes_of run.held)) run.end run.held run.runs.causes run.ends h
   input_text (Lacks same says) h = no_rise before.input.faults now.input.faults ((given ≡ status.ReadFault) ⊎ (given ≡ status.WriteFault)) (faults_of same.input) h
@@ -180,7 +181,7 @@ file_counts q given before now (Read text is same answers) = record {
 texts_of : {s t : Texts} → t ≡ s → t.faults ≡ s.faults
 texts_of e = ap (λ (x : Texts). x.faults) e
 
-pub counted : {InTells OutTells : Type 0} (words : List (List ℕ)) (given : Status) (before now : Outside) → Answers InTells OutTells words given before now → Counts given before now
+counted : {InTells OutTells : Type 0} (words : List (List ℕ)) (given : Status) (before now : Outside) → Answers InTells OutTells words given before now → Counts given before now
 counted words given before now (Wrong none same untouched says) =
     untouched_counts given before now untouched (err_says status.Usage given _ before.devices.err now.devices.err says) (λ h. no_rise before.shelf.faults now.shelf.faults (Shelved given) (texts_of same) h)
 counted words given before now (Right q asks fetches answers) = file_counts q given before now answers
@@ -193,11 +194,21 @@ counted words given before now (Stated q asks n soaks same answers) = record {
 counted words given before now (Unasked same untouched says) =
     untouched_counts given before now untouched (err_says status.OutOfMemory given _ before.devices.err now.devices.err says) (λ h. no_rise before.shelf.faults now.shelf.faults (Shelved given) (texts_of same) h)
 
-pub read_number : (given : Status) → (given ≡ status.ReadFault) ⊎ (given ≡ status.WriteFault) → (number_of given ≡ 6) ⊎ (number_of given ≡ 7)
+read_number : (given : Status) → (given ≡ status.ReadFault) ⊎ (given ≡ status.WriteFault) → (number_of given ≡ 6) ⊎ (number_of given ≡ 7)
 read_number given (inl is) = inl (ap number_of is)
 read_number given (inr is) = inr (ap number_of is)
 
-pub shelf_number : (given : Status) → (given ≡ status.ShelfFault) ⊎ (given ≡ status.WriteFault) ⊎ (given ≡ status.OutOfMemory) → (number_of given ≡ 3) ⊎ (number_of given ≡ 7) ⊎ (number_of given ≡ 8)
+shelf_number : (given : Status) → (given ≡ status.ShelfFault) ⊎ (given ≡ status.WriteFault) ⊎ (given ≡ status.OutOfMemory) → (number_of given ≡ 3) ⊎ (number_of given ≡ 7) ⊎ (number_of given ≡ 8)
 shelf_number given (inl is) = inl (ap number_of is)
 shelf_number given (inr (inl is)) = inr (inl (ap number_of is))
 shelf_number given (inr (inr is)) = inr (inr (ap number_of is))
+
+pub not_made_good : {InTells OutTells : Type 0} (words : List (List ℕ)) (given : Status) (before now : Outside) → Answers InTells OutTells words given before now → IsNotMadeGood (number_of given) before now
+not_made_good words given before now answers =
+    let counts = counted words given before now answers in
+    record {
+      out = λ h. ap number_of (counts.out h);
+      err = λ h. ap number_of (counts.err h);
+      input = λ h. read_number given (counts.input h);
+      shelf = λ h. shelf_number given (counts.shelf h);
+    }

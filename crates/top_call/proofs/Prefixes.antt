@@ -10,7 +10,7 @@ use Rattle.run_reports.specs.declared.ends.RunEnd.{RunEnd}
 use Rattle.run_reports.specs.declared.ends.RunEnd.TheVariants as run_end
 use Rattle.run_reports.specs.declared.status.Status.{Status}
 use Rattle.command_words.specs.Words.{Asked}
-use Rattle.top_call.specs.Answer.{Devices, EndsBy, Outside, RunsUnit, Untouched}
+use Rattle.top_call.specs.Answer.{Devices, EndsBy, Outside, RunsSo, RunsUnit, Untouched}
 use Rattle.top_call.specs.Causes.{ErrFails, MemoryFails, Meets, PutsPrefix, ShelfFails}
 
 -- where no variables are asked for nothing is put out behind the run
@@ -38,7 +38,7 @@ module _ {InTells OutTells : Type 0} (q : Asked) (c : Compiled) where
       ([], ap bytes_of same.out ∙ sym (append-nil (bytes_of before.out)), ((sequential c.program q.settings.turns (input_of (bytes_of before.input))).output, refl))
 
   pub meets_puts : (number : ℕ) (before now : Outside) → q.vars ≡ false
-      → Meets (λ given. RunsUnit InTells OutTells c q.settings q.vars given before.devices now.devices) number before now → PutsPrefix InTells OutTells q c before.devices now.devices
+      → Meets (RunsSo InTells OutTells q c) number before now → PutsPrefix InTells OutTells q c before.devices now.devices
   meets_puts number before now none (inl (given, is, unit)) = unit_puts given before.devices now.devices none unit
   meets_puts number before now none (inr (ShelfFails is rose same)) = nothing_puts before.devices now.devices same
   meets_puts number before now none (inr (ErrFails is rose same)) = nothing_puts before.devices now.devices same

@@ -47,6 +47,7 @@ held_runs p set end input input' out out' tells runs = let run = runs.run in rec
     ends = run.ends;
     left = run.left;
     output = λ t. run.output tells;
+    only = run.only;
     calm = run.calm;
     prefix = run.prefix;
   };

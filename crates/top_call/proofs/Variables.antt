@@ -7,7 +7,6 @@ use Rattle.ada_meaning.specs.Law.{EndsItself, IsPrefix, Outcome}
 use Rattle.ada_meaning.specs.Programs.{input_of, sequential}
 use Rattle.ada_meaning.specs.Sequential.{IsCalm}
 use Rattle.ada_port.specs.Ports.{AppendsPrefix, IsTold, Stream, bytes_of, bytes_told}
-use Rattle.driver.specs.Running.{by_workers}
 use Rattle.driver.specs.Compiled.{Compiled}
 use Rattle.driver.specs.Running as running
 use Rattle.run_reports.specs.Ends.{values_of}
@@ -19,13 +18,13 @@ use Rattle.run_reports.specs.declared.ends.RunEnd.TheVariants as run_end
 use Rattle.run_reports.specs.declared.status.Status.{Status}
 use Rattle.run_reports.specs.declared.status.Status.TheVariants as status
 use Rattle.command_words.specs.Words.{Asked}
-use Rattle.top_call.specs.Answer.{Closes, Devices, EndsBy, Lacked, OutFailed, Outside, RunsUnit, Untouched, Whole}
+use Rattle.top_call.specs.Answer.{Closes, Devices, EndsBy, Lacked, OutFailed, Outside, RunsSo, Untouched, Whole, setting_for}
 use Rattle.top_call.specs.Causes.{ErrFails, MemoryFails, Meets, PutsVars, PutsVarsPrefix, ShelfFails, sequential_of, with_vars}
 use Rattle.top_call.proofs.Causes.{same_status}
 
 -- ---- bytes of what tells
 
-appended : (old new : Option (List ℕ)) (bytes : List ℕ) → IsSome old → Appends old new bytes → bytes_told new ≡ bytes_told old ++ bytes
+pub appended : (old new : Option (List ℕ)) (bytes : List ℕ) → IsSome old → Appends old new bytes → bytes_told new ≡ bytes_told old ++ bytes
 appended None new bytes h g = absurd (true≢false (sym h))
 appended (Some xs) None bytes h g = absurd g
 appended (Some xs) (Some ys) bytes h g = g
@@ -57,7 +56,7 @@ never_either due given line old new other done (inr lacks) = lacks_done given ol
 
 module _ (InTells OutTells : Type 0) (q : Asked) (c : Compiled) (given : Status) (before now : Devices) (left : Stream) (tells : OutTells → IsTold left) where
   abbrev Ran : RunEnd → Type 0
-  Ran end = running.Runs InTells OutTells c.program (by_workers q.settings.plan q.settings.workers q.settings.turns) end before.input now.input before.out left
+  Ran end = running.Runs InTells OutTells c.program (setting_for q.settings) end before.input now.input before.out left
 
   abbrev Ends : RunEnd → Type 0
   Ends end = EndsBy c true end given left now.out before.err now.err
@@ -78,6 +77,7 @@ module _ (InTells OutTells : Type 0) (q : Asked) (c : Compiled) (given : Status)
             ∙ ap (λ z. z ++ lines) (run.output out)
             ∙ append_assoc (bytes_of before.out) run.outcome.output lines
             ∙ ap (λ vs. bytes_of before.out ++ (run.outcome.output ++ vars_lines c.finals vs)) (sym run.ends.1);
+        only = λ settled. run.only settled (subst EndsItself (sym run.ends.0) tt);
         calm = λ calm. run.calm calm (subst EndsItself (sym run.ends.0) tt);
       }
   ended (run_end.Ended finals) done runs (OutFailed broke says) = absurd (never status.WriteFault given _ before.err now.err fault_done done says)
@@ -98,10 +98,10 @@ module _ (InTells OutTells : Type 0) (q : Asked) (c : Compiled) (given : Status)
     Put = (part : List ℕ) × (bytes_of now.out ≡ bytes_of before.out ++ part) × IsPrefix part (with_vars c due)
 
     abbrev Told : RunEnd → Type 0
-    Told end = running.TellsOf InTells OutTells c.program (by_workers q.settings.plan q.settings.workers q.settings.turns) end (bytes_of before.input) (bytes_of now.input) (bytes_of before.out) (bytes_of left)
+    Told end = running.TellsOf InTells OutTells c.program (setting_for q.settings) end (bytes_of before.input) (bytes_of now.input) (bytes_of before.out) (bytes_of left)
 
     told_of : (end : RunEnd) → Ran end → Told end
-    told_of end runs = subst (λ z. running.TellsOf InTells OutTells c.program (by_workers q.settings.plan q.settings.workers q.settings.turns) end z (bytes_of now.input) (bytes_of before.out) (bytes_of left)) (runs.told input) runs.run
+    told_of end runs = subst (λ z. running.TellsOf InTells OutTells c.program (setting_for q.settings) end z (bytes_of now.input) (bytes_of before.out) (bytes_of left)) (runs.told input) runs.run
 
     -- nothing behind the run
     short : (end : RunEnd) → now.out ≡ left → Told end → Put
@@ -132,13 +132,10 @@ module _ (InTells OutTells : Type 0) (q : Asked) (c : Compiled) (given : Status)
 -- ---- of a call
 
 module _ (InTells OutTells : Type 0) (q : Asked) (c : Compiled) (number : ℕ) (before now : Outside) (asked_for : q.vars ≡ true) where
-  abbrev IsRun : Status → Type 0
-  IsRun given = RunsUnit InTells OutTells c q.settings q.vars given before.devices now.devices
-
-  ends_of : (given : Status) (unit : IsRun given) → EndsBy c true unit.end given unit.left now.devices.out before.devices.err now.devices.err
+  ends_of : (given : Status) (unit : RunsSo InTells OutTells q c before.devices now.devices given) → EndsBy c true unit.end given unit.left now.devices.out before.devices.err now.devices.err
   ends_of given unit = subst (λ vars. EndsBy c vars unit.end given unit.left now.devices.out before.devices.err now.devices.err) asked_for unit.ends
 
-  pub meets_vars : number ≡ 0 → Meets IsRun number before now → PutsVars InTells OutTells q c before.devices now.devices
+  pub meets_vars : number ≡ 0 → Meets (RunsSo InTells OutTells q c) number before now → PutsVars InTells OutTells q c before.devices now.devices
   meets_vars zero (inl (given, is, unit)) = ended InTells OutTells q c given before.devices now.devices unit.left unit.tells unit.end (same_status given status.Done (sym is ∙ zero)) unit.runs (ends_of given unit)
   meets_vars zero (inr (ShelfFails is rose same)) = absurd (omega (arith, is, zero))
   meets_vars zero (inr (ErrFails is rose same)) = absurd (omega (arith, is, zero))
@@ -147,7 +144,7 @@ module _ (InTells OutTells : Type 0) (q : Asked) (c : Compiled) (number : ℕ) (
   nothing_puts : Untouched before.devices now.devices → PutsVarsPrefix InTells OutTells q c before.devices now.devices
   nothing_puts same input out calm = ([], ap bytes_of same.out ∙ sym (append-nil (bytes_of before.devices.out)), (with_vars c (sequential_of q c (bytes_of before.devices.input)), refl))
 
-  pub meets_prefix : Meets IsRun number before now → PutsVarsPrefix InTells OutTells q c before.devices now.devices
+  pub meets_prefix : Meets (RunsSo InTells OutTells q c) number before now → PutsVarsPrefix InTells OutTells q c before.devices now.devices
   meets_prefix (inl (given, is, unit)) = λ input out calm. puts_front InTells OutTells q c given before.devices now.devices unit.left unit.tells input out calm unit.end unit.runs (ends_of given unit)
   meets_prefix (inr (ShelfFails is rose same)) = nothing_puts same
   meets_prefix (inr (ErrFails is rose same)) = nothing_puts same

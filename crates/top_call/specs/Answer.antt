@@ -1,7 +1,8 @@
 -- The answers of the top call: what is put to out and to err, which devices failed, and the status.
 use Rattle.std.specs.Prelude.{◌≡◌, ◌⊎◌, ⊤, ℕ, List, [], Bool, true, false, length, Option, Some, None, option_map, IfSome}
+use Rattle.ada_meaning.specs.Programs.{Setting}
 use Rattle.ada_port.specs.Ports.{Texts, Stream, Grows, GrowsByPrefix, Breaks, IsTold, Rose, bytes_of, fetched}
-use Rattle.driver.specs.Coded.{HasCode}
+use Rattle.driver.specs.Coded.{HasCode, StandsFor}
 use Rattle.driver.specs.Compile.{IsAccepted, IsFaultOf}
 use Rattle.driver.specs.Compiled.{Compiled}
 use Rattle.driver.specs.Complaints.{Complaint}
@@ -60,13 +61,17 @@ EndsBy c vars run_end.ReadFault given out out' err err' = (out' ≡ out) × Says
 EndsBy c vars run_end.WriteFault given out out' err err' = (out' ≡ out) × Says status.WriteFault write_fault_line given err err'
 EndsBy c vars run_end.NoMemory given out out' err err' = (out' ≡ out) × SaysNoMemory given err err'
 
+-- the setting of a run that is asked for
+abbrev pub setting_for : Settings → Setting
+setting_for s = by_workers s.plan s.workers s.turns
+
 -- A unit was run under a setting, and its end was told. Where out tells what it holds, so did it as the run left it, before
 -- lines of variables.
 pub record RunsUnit (InTells OutTells : Type 0) (c : Compiled) (settings : Settings) (vars : Bool) (given : Status) (before now : Devices) : Type 0 where
   pub end : RunEnd
   pub left : Stream
   pub tells : OutTells → IsTold left
-  pub runs : Runs InTells OutTells c.program (by_workers settings.plan settings.workers settings.turns) end before.input now.input before.out left
+  pub runs : Runs InTells OutTells c.program (setting_for settings) end before.input now.input before.out left
   pub ends : EndsBy c vars end given left now.out before.err now.err
 
 -- How a soak ended: after a normal end its lines are put out, and else nothing. What holds its output fails for want of
@@ -80,11 +85,13 @@ EndsSoak c lines end given out out' err err' = EndsBy c false end given out out'
 abbrev pub unwritten : Stream
 unwritten = record { told = Some []; faults = 0 }
 
--- The unit of a soak's text was run under a setting, while memory held its output, and its end was told.
-pub record RunsSoak (InTells : Type 0) (c : Compiled) (settings : Settings) (statements : ℕ) (text : List ℕ) (given : Status) (before now : Devices) : Type 0 where
+-- The unit of a soak's text was run under a setting, while memory held its output, and its end was told. Where out tells what it
+-- holds, so did it before.
+pub record RunsSoak (InTells OutTells : Type 0) (c : Compiled) (settings : Settings) (statements : ℕ) (text : List ℕ) (given : Status) (before now : Devices) : Type 0 where
   pub end : RunEnd
   pub held : Stream
-  pub runs : Runs InTells ⊤ c.program (by_workers settings.plan settings.workers settings.turns) end before.input now.input unwritten held
+  pub tells : OutTells → IsTold before.out
+  pub runs : Runs InTells ⊤ c.program (setting_for settings) end before.input now.input unwritten held
   pub ends : EndsSoak c (soak_lines statements (length text) (bytes_of held)) end given before.out now.out before.err now.err
 
 -- a text is fetched in each mode but a soak, of which it is stated
@@ -109,16 +116,34 @@ pub record Untouched (before now : Devices) : Type 0 where
   pub input : now.input ≡ before.input
   pub out : now.out ≡ before.out
 
+-- what is done in each mode, and of words and texts that are wrong, with the status that is given
+
+abbrev pub ChecksSo : Devices → Devices → Status → Type 0
+ChecksSo before now given = (now.input ≡ before.input) × Closes accepted_line given before.out now.out before.err now.err
+
+-- the listing is put of code that stands for the program, and whose parallel constructs lend what their threads may write
+abbrev pub ListsSo : Compiled → Devices → Devices → Status → Type 0
+ListsSo c before now given = (now.input ≡ before.input) × ((code : Code) × HasCode c.program code × StandsFor c.program code × Closes (listing_of code) given before.out now.out before.err now.err)
+
+abbrev pub RunsSo : (InTells OutTells : Type 0) → Asked → Compiled → Devices → Devices → Status → Type 0
+RunsSo InTells OutTells q c before now given = RunsUnit InTells OutTells c q.settings q.vars given before now
+
+abbrev pub SoaksSo : (InTells OutTells : Type 0) → Asked → (statements : ℕ) → (text : List ℕ) → Compiled → Devices → Devices → Status → Type 0
+SoaksSo InTells OutTells q n text c before now given = RunsSoak InTells OutTells c q.settings n text given before now
+
+abbrev pub RefusesSo : Asked → Complaint → Devices → Devices → Status → Type 0
+RefusesSo q fault before now given = Untouched before now × SaysOrLacks status.Refused (ended (line_of q.file fault)) given before.err now.err
+
+abbrev pub UsageSo : Devices → Devices → Status → Type 0
+UsageSo before now given = Untouched before now × Says status.Usage usage_line given before.err now.err
+
 -- what becomes of a text
 pub data AnswersText (InTells OutTells : Type 0) (q : Asked) (text : List ℕ) (given : Status) (before now : Devices) : Type 0 where
-  Refuses : (fault : Complaint) → IsFaultOf text fault → Untouched before now
-      → SaysOrLacks status.Refused (ended (line_of q.file fault)) given before.err now.err → AnswersText InTells OutTells q text given before now
-  Checks : (c : Compiled) → IsAccepted text c → q.mode ≡ mode.Check → now.input ≡ before.input
-      → Closes accepted_line given before.out now.out before.err now.err → AnswersText InTells OutTells q text given before now
-  Lists : (c : Compiled) → IsAccepted text c → q.mode ≡ mode.List → now.input ≡ before.input
-      → (code : Code) → HasCode c.program code → Closes (listing_of code) given before.out now.out before.err now.err → AnswersText InTells OutTells q text given before now
-  Starts : (c : Compiled) → IsAccepted text c → q.mode ≡ mode.Run → RunsUnit InTells OutTells c q.settings q.vars given before now → AnswersText InTells OutTells q text given before now
-  Soaks : (c : Compiled) → IsAccepted text c → (n : ℕ) → q.mode ≡ mode.Soak n → RunsSoak InTells c q.settings n text given before now → AnswersText InTells OutTells q text given before now
+  Refuses : (fault : Complaint) → IsFaultOf text fault → RefusesSo q fault before now given → AnswersText InTells OutTells q text given before now
+  Checks : (c : Compiled) → IsAccepted text c → q.mode ≡ mode.Check → ChecksSo before now given → AnswersText InTells OutTells q text given before now
+  Lists : (c : Compiled) → IsAccepted text c → q.mode ≡ mode.List → ListsSo c before now given → AnswersText InTells OutTells q text given before now
+  Starts : (c : Compiled) → IsAccepted text c → q.mode ≡ mode.Run → RunsSo InTells OutTells q c before now given → AnswersText InTells OutTells q text given before now
+  Soaks : (c : Compiled) → IsAccepted text c → (n : ℕ) → q.mode ≡ mode.Soak n → SoaksSo InTells OutTells q n text c before now given → AnswersText InTells OutTells q text given before now
   Lacks : Untouched before now → SaysNoMemory given before.err now.err → AnswersText InTells OutTells q text given before now
 
 -- what becomes of a file, what is asked of it, and its text; where memory runs out before the text is there, nothing does

@@ -1,17 +1,17 @@
 -- Why each status comes, and what comes where something is due.
-use Rattle.std.specs.Prelude.{◌≡◌, ◌⊎◌, ◌++◌, ⊤, ℕ, List, Some, None, Bool, true, IfSome}
+use Rattle.std.specs.Prelude.{◌≡◌, ◌⊎◌, ◌<◌, ◌++◌, ⊤, ℕ, List, Some, None, Bool, true, IfSome}
 use Rattle.ada_base.specs.declared.reason.Reason.{Reason}
 use Rattle.ada_meaning.specs.Law.{Ending, Ended, Raised, TurnsSpent, ReadFault, WriteFault, IsPermitted, IsPrefix, Outcome, outcome_of}
 use Rattle.ada_meaning.specs.Programs.{input_of, sequential}
 use Rattle.ada_meaning.specs.Sequential.{IsCalm}
 use Rattle.ada_port.specs.Ports.{Texts, Rose, bytes_of}
-use Rattle.driver.specs.Running.{by_workers}
+use Rattle.driver.specs.Running.{IsOnly, IsSettled}
 use Rattle.driver.specs.Compile.{IsAccepted}
 use Rattle.driver.specs.Compiled.{Compiled}
 use Rattle.command_words.specs.Words.{Asked, asked}
 use Rattle.command_words.specs.declared.request.Mode.{Mode}
 use Rattle.command_words.specs.declared.request.Mode.TheVariants as mode
-use Rattle.top_call.specs.Answer.{Answers, Devices, Outside, Untouched, text_of}
+use Rattle.top_call.specs.Answer.{Answers, Devices, Outside, Untouched, setting_for, text_of}
 use Rattle.run_reports.specs.Says.{number_of}
 use Rattle.run_reports.specs.Vars.{vars_lines}
 use Rattle.run_reports.specs.declared.status.Status.{Status}
@@ -20,6 +20,16 @@ use Rattle.run_reports.specs.declared.status.Status.TheVariants as status
 -- the number of a status, with what became of the words
 abbrev pub Answered : Type 0 → Type 0 → List (List ℕ) → ℕ → Outside → Outside → Type 0
 Answered InTells OutTells words number before now = (given : Status) × (number ≡ number_of given) × Answers InTells OutTells words given before now
+
+-- the words ask so for a text, which is told and accepted
+pub record IsDue (words : List (List ℕ)) (shelf : Texts) (q : Asked) (text : List ℕ) (c : Compiled) : Type 0 where
+  pub asks : asked words ≡ Some q
+  pub told : text_of q shelf ≡ Some text
+  pub accepted : IsAccepted text c
+
+-- it is so of each
+abbrev pub OfDue : List (List ℕ) → Outside → (Asked → List ℕ → Compiled → Type 0) → Type 0
+OfDue words before P = (q : Asked) (text : List ℕ) (c : Compiled) → IsDue words before.shelf q text c → P q text c
 
 -- the words ask for a text that is accepted
 pub record Asks (words : List (List ℕ)) (shelf : Texts) (q : Asked) (c : Compiled) : Type 0 where
@@ -31,7 +41,7 @@ pub record Asks (words : List (List ℕ)) (shelf : Texts) (q : Asked) (c : Compi
 -- On some input a run that is permitted under what is asked for ends so; where the input tells, that is what it tells.
 abbrev pub MayEnd : Type 0 → Asked → Compiled → Devices → Ending → Type 0
 MayEnd InTells q c before ending =
-    (on : List ℕ) × ((InTells → on ≡ bytes_of before.input) × ((o : Outcome) × ((early : Bool) × IsPermitted c.program (by_workers q.settings.plan q.settings.workers q.settings.turns) on early o × (o.ending ≡ ending))))
+    (on : List ℕ) × ((InTells → on ≡ bytes_of before.input) × ((o : Outcome) × ((early : Bool) × IsPermitted c.program (setting_for q.settings) on early o × (o.ending ≡ ending))))
 
 -- the words ask so for an accepted text, and on some input a permitted run of it ends so
 abbrev pub HasRun : (Asked → Type 0) → Type 0 → List (List ℕ) → Outside → Ending → Type 0
@@ -93,15 +103,17 @@ abbrev pub with_vars : Compiled → Outcome → List ℕ
 with_vars c o = o.output ++ vars_lines c.finals o.finals
 
 -- On some input, which is what the input tells where it tells, a permitted run ended normally. Where out tells, that run's
--- output was put out, and then the lines of its variables. Where the sequential run on that input is calm, it is that run.
+-- output was put out, and then the lines of its variables. Where it left no parallel construct early or had one worker, it is the
+-- only one that ends by itself; and where the sequential run on that input is calm, it is that run.
 pub record PutsVars (InTells OutTells : Type 0) (q : Asked) (c : Compiled) (before now : Devices) : Type 0 where
   pub on : List ℕ
   pub told : InTells → on ≡ bytes_of before.input
   pub outcome : Outcome
   pub early : Bool
-  pub permitted : IsPermitted c.program (by_workers q.settings.plan q.settings.workers q.settings.turns) on early outcome
+  pub permitted : IsPermitted c.program (setting_for q.settings) on early outcome
   pub ended : outcome.ending ≡ Ended
   pub written : OutTells → bytes_of now.out ≡ bytes_of before.out ++ with_vars c outcome
+  pub only : IsSettled (setting_for q.settings) early → IsOnly c.program (setting_for q.settings) on outcome
   pub calm : IsCalm (sequential c.program q.settings.turns (input_of on)) → outcome ≡ sequential_of q c on
 
 -- The same as a prefix of that run's output where the lines of variables follow it.
@@ -116,6 +128,13 @@ pub data Fails (number : ℕ) (before now : Outside) : Type 0 where
   ErrFails : number ≡ 7 → Rose before.devices.err now.devices.err → Untouched before.devices now.devices → Fails number before now
   MemoryFails : number ≡ 8 → Untouched before.devices now.devices → Fails number before now
 
--- a status of which this holds, or nothing was done
-abbrev pub Meets : (Status → Type 0) → ℕ → Outside → Outside → Type 0
-Meets P number before now = ((given : Status) × (number ≡ number_of given) × P given) ⊎ Fails number before now
+-- this was done with the devices, with the status, or something failed before it
+abbrev pub Meets : (Devices → Devices → Status → Type 0) → ℕ → Outside → Outside → Type 0
+Meets P number before now = ((given : Status) × (number ≡ number_of given) × P before.devices now.devices given) ⊎ Fails number before now
+
+-- A call that failed is not made good: a count that is greater than before gives its status.
+pub record IsNotMadeGood (number : ℕ) (before now : Outside) : Type 0 where
+  pub out : before.devices.out.faults < now.devices.out.faults → number ≡ 7
+  pub err : before.devices.err.faults < now.devices.err.faults → number ≡ 7
+  pub input : before.devices.input.faults < now.devices.input.faults → (number ≡ 6) ⊎ (number ≡ 7)
+  pub shelf : before.shelf.faults < now.shelf.faults → (number ≡ 3) ⊎ (number ≡ 7) ⊎ (number ≡ 8)

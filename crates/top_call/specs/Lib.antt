@@ -1,3 +1,5 @@
 pub mod Soak
 pub mod Answer
 pub mod Causes
+pub mod Complete
+pub mod Headline

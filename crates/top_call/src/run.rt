@@ -189,7 +189,7 @@ fn run_soak<R: Threads + Sync, I: Source + Drop, O: Sink + Drop, E: Sink, P: Pul
     requires planned { HasNoZero setting.plan }
     requires some { 0 < setting.workers }
     requires built { IsBuilt unit.now }
-    ensures { RunsSoak ((s : I) → IsTold (I.state s)) (compiled_of unit.now) (settings_of setting) soak.entry.statements soak.entry.text.now result.status
+    ensures { RunsSoak ((s : I) → IsTold (I.state s)) ((s : O) → IsTold (O.state s)) (compiled_of unit.now) (settings_of setting) soak.entry.statements soak.entry.text.now result.status
         (devices (I.state input) (O.state out) (E.state err.old)) (devices (I.state result.input) (O.state result.out) (E.state err.new)) }
 {
     let held = HeldSink::new(alloc);

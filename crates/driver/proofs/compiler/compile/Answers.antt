@@ -1,4 +1,5 @@
 use Rattle.driver.proofs.RaceFree.{unit_race_free}
+use Rattle.driver.proofs.Standing.{unit_stands}
 use Rattle.driver.proofs.Steps.{gives_unit, gives_refusal}
 use Rattle.driver.proofs.compiler.compile.Goals as goal
 
@@ -10,3 +11,6 @@ returns-clause-all_refused c = λ fault wrong. gives_refusal c.args.text.now c.c
 
 pub returns-clause-race_free : goal.returns-clause-race_free
 returns-clause-race_free c = unit_race_free c.args.text.now c.compiled.result c.compiled.ensures.unit
+
+pub returns-clause-stands : goal.returns-clause-stands
+returns-clause-stands c = unit_stands c.built_stands.ensures c.compiled.result c.compiled.ensures.built

@@ -11,6 +11,7 @@ returns g c =
     record {
       end = ran.end;
       held = grown_of ran.out;
+      tells = λ told. told c.args.out;
       runs = held_runs (program c.args.unit.now.typed) (setting_of c.args.setting) ran.end _ (g.I.Source.state ran.input) _ (grown_of ran.out) (λ s. refl) (rw c.new-held.ensures at c.execute-end.ensures);
       ends = rw c.bytes.ensures at c.say_soak-status.ensures;
     }
