@@ -30,12 +30,12 @@ use Rattle.std.proofs.lemmas.Bool.{and_parts}
 use Rattle.typed_tree.specs.Classes.{with_class}
 use Rattle.typed_tree.specs.declared.scalars.Class.{Class}
 use Rattle.ada_base.specs.declared.operation.Comparison.{Comparison}
-use Rattle.name_rules.specs.Operators.{limit_of, binary, common_kind, compared, compared_at, first_kind, joined_text, joined_texts, logical, member, member_of, membership, negation, not_of, of_subtype, open_form, within_bounds}
+use Rattle.name_rules.specs.Operators.{limit_of, binary, common_kind, compared, compared_at, first_kind, joined_text, joined_texts, logical, member, member_of, membership, negation, not_of, of_subtype, within_bounds}
 use Rattle.name_rules.specs.Values.{beyond, is_integer_kind, is_kind, is_scalar, is_universal, object_expr, settled, settled_by}
 use Rattle.name_rules.specs.Found.{text_found}
 use Rattle.name_rules.specs.TypedParts.{also_all}
 use Rattle.name_rules.specs.declared.types.Scalar.{Scalar}
-use Rattle.name_statics.proofs.Finds.{Bare, Finding, Finds, Is, Maybe, f-bind, f-both, f-both-of, f-fault, f-given, f-given-of, f-if, f-none, f-pure, f-some, f-then, mapped, paired}
+use Rattle.name_statics.proofs.Finds.{Bare, Finding, Finds, Is, Maybe, f-both, f-both-of, f-fault, f-given, f-given-of, f-if, f-none, f-pure, f-some, f-then, mapped, paired}
 use Rattle.name_statics.specs.Law.{static_in}
 use Rattle.name_statics.specs.Values.{absolute, computed, opposite}
 

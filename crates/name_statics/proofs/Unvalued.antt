@@ -43,7 +43,7 @@ use Rattle.name_rules.specs.Expressions.{Inside, condition, expr}
 use Rattle.name_rules.specs.Iterations.{entered, is_reduce, only_reduce_rules, reverse_rule, sequence, sequence_folded, sequence_given, sequence_rules}
 use Rattle.name_rules.specs.Names.{args_alone, wrong_call}
 use Rattle.name_rules.specs.Parts.{name}
-use Rattle.name_rules.specs.Primaries.{Waiting, also_choice, alternative, alternatives, common_type, composite_if, composite_ifs, composite_in, conditional, if_expr, if_part, open_if, open_ifs, open_part, scalar_if, scalar_ifs, with_known}
+use Rattle.name_rules.specs.Primaries.{Waiting, also_choice, alternative, alternatives, common_type, composite_if, composite_ifs, conditional, if_expr, if_part, open_if, open_ifs, open_part, scalar_if, scalar_ifs, with_known}
 use Rattle.name_rules.specs.Scope.{expanded_reach, in_ada, in_integer_io, in_package, in_text_io, is_withed, named, predefined, procedure_of, reach_of, selected, undeclared, used_name}
 use Rattle.name_rules.specs.Symbols.{symbol, ada_name, data_error_name, end_error_name, integer_io_name, text_io_name}
 use Rattle.name_rules.specs.TypedParts.{left_of, right_of, selections_of}
