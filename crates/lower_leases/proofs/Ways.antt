@@ -69,8 +69,8 @@ one_step ss x = let n = all_steps ss x [] in omega (arith, n)
 module _ (ss all : List Step) (places n before : ℕ) (e : End) (here : length ss ≡ before) where
   -- steps follow, or the way ends at less than all cells of a place
   pub goes_on : (o : Option Way) → (length all - before ≡ 1 → e.run ≡ n → ⊥) → path_found (Some e) all ≡ path_by (ss ++ step.All places n ∷ []) o → path_found (Some e) all ≡ path_by ss (at_any places n o)
-  goes_on None no c = absurd (none-some _ (sym c))
-  goes_on (Some w) no c = c ∙ go (is_row n w) refl
+  goes_on None never c = absurd (none-some _ (sym c))
+  goes_on (Some w) never c = c ∙ go (is_row n w) refl
     where
       go : (z : Bool) → is_row n w ≡ z → path_by (ss ++ step.All places n ∷ []) (Some w) ≡ path_by ss (cond z (Some (record { base = w.base; places = []; run = places * n })) (also (All places n) (Some w)))
       go false z = first_is ss (All places n) (Some w)
@@ -78,7 +78,7 @@ module _ (ss all : List Step) (places n before : ℕ) (e : End) (here : length s
           let is = row_is n w z in
           let steps : all ≡ (ss ++ step.All places n ∷ []) ++ steps_of w.places = ap (λ (p : Path). p.steps) (some_inj c) in
           let one : length all - before ≡ 1 = ap (λ (xs : List Step). length xs - before) (steps ∙ ap (λ (ps : List Place). (ss ++ step.All places n ∷ []) ++ steps_of ps) is.0) ∙ ap (λ (k : ℕ). length ((ss ++ step.All places n ∷ []) ++ []) - k) (sym here) ∙ one_step ss (step.All places n) in
-          absurd (no one (ap (λ (p : Path). p.run) (some_inj c) ∙ is.1))
+          absurd (never one (ap (λ (p : Path). p.run) (some_inj c) ∙ is.1))
 
   pub is_joined : (run : ℕ) (last : List Step) (o : Option Way) → length all - before ≡ 1 → e.run ≡ n → run ≡ places * n → last ≡ take before all → path_found (Some e) all ≡ path_by (ss ++ step.All places n ∷ []) o
       → Some (record { base = e.base; steps = last; run = run }) ≡ path_by ss (at_any places n o)
@@ -157,7 +157,7 @@ module _ (t : Typed) (ranges : Bool) (steps : List Step) (items : Option ℕ) (i
       a ∙ ap (λ (xs : List Step). xs ++ item_steps items (places * n)) e ∙ ap (λ (m : ℕ). steps ++ item_steps items (m * n)) p ∙ ap (λ (m : ℕ). steps ++ item_steps items (count i.low i.high * m)) s
 
   -- the way by any index, by the way behind it
-  any_way : Option Way → Option Way
+  abbrev any_way : Option Way → Option Way
   any_way w = at_item items (dimension_shape t i) (at_any (count i.low i.high) (size (part_shape t i.inner)) w)
 
   any_behind : (same all whole : List Step) (places n : ℕ) (r : Reached) (found : Option Path) → whole ≡ all ++ step.All places n ∷ [] → Enters r → Comes whole r found → found ≡ path_by (all ++ step.All places n ∷ []) inner_way
