@@ -1,0 +1,6 @@
+def main():
+    for i in range(1, 1000001):
+        print("", i)
+
+
+main()
