@@ -85,16 +85,18 @@ module _ (InTells OutTells : Type 0) (q : Asked) (c : Compiled) (given : Status)
     run_came true (run_end.Ended finals) left tells ran ends =
         go (closed given before.err now.err no_err (vars_lines c.finals (values_of c.program finals)) left now.out (λ rose. no_out (Risen-after_same ran.causes.1 rose)) ends)
       where
-      go : ((given ≡ status.Done) × Grows left now.out (vars_lines c.finals (values_of c.program finals))) ⊎ (given ≡ status.OutOfMemory) → RunCame true ran.run.outcome
-      go (inl (is, grown)) =
-          let run = ran.run in
-          let lines = vars_lines c.finals (values_of c.program finals) in
-          inl (came OutTells given before.out now.out run.outcome (λ e. put_by_run e true c run.outcome) law.Ended run.ends.0 tt is (λ told.
-              appended left.told now.out.told lines (tells told) grown.told
-              ∙ ap (λ z. z ++ lines) (run.output told)
-              ∙ append_assoc (bytes_of before.out) run.outcome.output lines
-              ∙ ap (λ vs. bytes_of before.out ++ (run.outcome.output ++ vars_lines c.finals vs)) (sym run.ends.1)))
-      go (inr lacks) = inr lacks
+        put : Grows left now.out (vars_lines c.finals (values_of c.program finals)) → OutTells → bytes_of now.out ≡ bytes_of before.out ++ put_by_run law.Ended true c ran.run.outcome
+        put grown told =
+            let run = ran.run in
+            let lines = vars_lines c.finals (values_of c.program finals) in
+            appended left.told now.out.told lines (tells told) grown.told
+            ∙ ap (λ z. z ++ lines) (run.output told)
+            ∙ append_assoc (bytes_of before.out) run.outcome.output lines
+            ∙ ap (λ vs. bytes_of before.out ++ (run.outcome.output ++ vars_lines c.finals vs)) (sym run.ends.1)
+
+        go : ((given ≡ status.Done) × Grows left now.out (vars_lines c.finals (values_of c.program finals))) ⊎ (given ≡ status.OutOfMemory) → RunCame true ran.run.outcome
+        go (inl (is, grown)) = inl (came OutTells given before.out now.out ran.run.outcome (λ e. put_by_run e true c ran.run.outcome) law.Ended ran.run.ends.0 tt is (put grown))
+        go (inr lacks) = inr lacks
     run_came false (run_end.Ended finals) left tells ran ends =
         let o = ran.run.outcome in
         inl (came OutTells given before.out now.out o (λ e. put_by_run e false c o) law.Ended ran.run.ends.0 tt ends.0 (λ told. ap bytes_of ends.1 ∙ ran.run.output told))
@@ -111,12 +113,13 @@ module _ (InTells OutTells : Type 0) (q : Asked) (c : Compiled) (given : Status)
     soak_came : (n : ℕ) (text : List ℕ) (end : RunEnd) (held : Stream) → (OutTells → IsTold before.out) → (ran : Held end held) → EndsSoak c (soak_lines n (length text) (bytes_of held)) end given before.out now.out before.err now.err
         → SoakCame n text ran.run.outcome
     soak_came n text (run_end.Ended finals) held tells ran (inl closes) = go (closed given before.err now.err no_err (soak_lines n (length text) (bytes_of held)) before.out now.out no_out closes) where
+      put : Grows before.out now.out (soak_lines n (length text) (bytes_of held)) → OutTells → bytes_of now.out ≡ bytes_of before.out ++ put_by_soak law.Ended n text ran.run.outcome
+      put grown told =
+          appended before.out.told now.out.told (soak_lines n (length text) (bytes_of held)) (tells told) grown.told
+          ∙ ap (λ h. bytes_of before.out ++ soak_lines n (length text) h) (ran.run.output tt)
+
       go : ((given ≡ status.Done) × Grows before.out now.out (soak_lines n (length text) (bytes_of held))) ⊎ (given ≡ status.OutOfMemory) → SoakCame n text ran.run.outcome
-      go (inl (is, grown)) =
-          let o = ran.run.outcome in
-          inl (came OutTells given before.out now.out o (λ e. put_by_soak e n text o) law.Ended ran.run.ends.0 tt is (λ told.
-              appended before.out.told now.out.told (soak_lines n (length text) (bytes_of held)) (tells told) grown.told
-              ∙ ap (λ h. bytes_of before.out ++ soak_lines n (length text) h) (ran.run.output tt)))
+      go (inl (is, grown)) = inl (came OutTells given before.out now.out ran.run.outcome (λ e. put_by_soak e n text ran.run.outcome) law.Ended ran.run.ends.0 tt is (put grown))
       go (inr lacks) = inr lacks
     soak_came n text (run_end.Ended finals) held tells ran (inr lacks) = inr (said given before.err now.err no_err status.OutOfMemory _ lacks.1)
     soak_came n text (run_end.Raised why) held tells ran ends =
@@ -165,8 +168,8 @@ module _ (InTells OutTells : Type 0) (q : Asked) (c : Compiled) (text : List ℕ
   -- and the sequential one, where that is calm
   comes_calm : CarriedOrLacks → InTells → IsCalm (sequential c.program q.settings.turns (input_of (bytes_of before.input))) → ComesToOrLacks OutTells q c text (sequential_of q c (bytes_of before.input)) number before now
   comes_calm (inl k) tells calm =
-      inl (comes k (sequential_of q c (bytes_of before.input)) tells
-          (subst (λ w. IsCalm (sequential c.program q.settings.turns (input_of w)) → k.outcome ≡ sequential_of q c w) (k.told tells) (λ is. k.calm is k.itself) calm))
+      let same = subst (λ w. IsCalm (sequential c.program q.settings.turns (input_of w)) → k.outcome ≡ sequential_of q c w) (k.told tells) (λ is. k.calm is k.itself) calm in
+      inl (comes k (sequential_of q c (bytes_of before.input)) tells same)
   comes_calm (inr lacks) tells calm = inr lacks
 
   statuses : (e : Ending) → EndsItself e → number ≡ number_of (status_of e) → (number ≡ 0) ⊎ (number ≡ 4) ⊎ IsOrLacks number status.Spent
