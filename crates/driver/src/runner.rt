@@ -118,9 +118,11 @@ fn on_machine<R: Threads + Sync, I: Source + Drop, O: Sink + Drop, P: Pulse + Sy
 /// Runs a unit under a setting, on an input and an output, which it gives back as the run left them. `ReadFault` and
 /// `WriteFault` come only where the count of that device's faults rose. There is an input on which a run is permitted under
 /// the setting's plan, number of workers and limit that ends as the answer says: where the input tells what it holds, that,
-/// and what that run didn't take is left; where the output tells, that run's output was put. Where the sequential run on that
-/// input is calm, the output is a prefix of that run's, also where a fault or want of memory stopped the run. The threads of
-/// outermost parallel constructs run on so many workers; the pulse is told of each thread that one of them begins.
+/// and what that run didn't take is left; where the output tells, that run's output was put. Where it ended by itself, and
+/// left no parallel construct early or had one worker, no other run that is permitted there ends by itself and comes to
+/// anything else. Where the sequential run on that input is calm, the output is a prefix of that run's, also where a fault or
+/// want of memory stopped the run. The threads of outermost parallel constructs run on so many workers; the pulse is told of
+/// each thread that one of them begins.
 pub fn execute<R: Threads + Sync, I: Source + Drop, O: Sink + Drop, P: Pulse + Sync>(
     rt: &R,
     alloc: Global,

@@ -69,10 +69,14 @@ fn answer_words<
 /// input on which the manual permits, under the plan and so many workers, a run that ends so, with these final variables: the
 /// one that the input tells, where it tells, of which what that run didn't take is left. Where out tells, the bytes written
 /// are that run's, and where `--vars` stands there and the run ended normally, a line for each final variable behind them; in a
-/// soak they are four lines on that run, after a normal end alone. Where no device failed and the sequential run on that input
-/// is calm, it is that run; and where a fault or want of memory stopped the run, its output is a prefix of that run's. A line
-/// to err says why the status isn't 0. Once a device has failed it is not asked again. The threads of outermost parallel
-/// constructs run on so many workers as the words say, and the pulse is told of each thread that begins.
+/// soak they are four lines on that run, after a normal end alone. Where no device failed, and the run ended by itself and left
+/// no parallel construct early or had one worker, it is the only one: status and bytes are a function of text, input, plan and
+/// limit. Where no device failed and the sequential run on that input is calm, it is that run; and where a fault or want of
+/// memory stopped the run, its output is a prefix of that run's. A line to err says why the status isn't 0. Once a device has
+/// failed it is not asked again. The threads of outermost parallel constructs run on so many workers as the words say, and the
+/// pulse is told of each thread that begins.
+///
+/// `Headline` has a field for each of these claims.
 pub fn run_words<
     R: Threads + Sync,
     F: Shelf,
