@@ -17,7 +17,7 @@ use syntax_tree::{mark_text, word_text};
 
 pub(crate) const BEGINNING: Place = Place { line: 1, column: 1 };
 
-/// Why a text is refused: its fault, or that memory ran out. The fault has the number of its kind, 1 to 13; its place;
+/// Why a text is refused: its fault, or that memory ran out. The fault has the number of its kind, 1 to 12; its place;
 /// the place of the other part of a clash; and what is said of it.
 #[derive(Clone, Copy, Debug, PartialEq, Eq)]
 pub enum Refusal {
