@@ -1,8 +1,10 @@
 use mir.Syntax.{w128}
 use mir.Val.{SFits}
-use Rattle.std.proofs.Common.{rules, map, w64}
+use Rattle.std.proofs.Common.{rules, map, w64, Option, sym, ap, ◌∙◌}
 use Rattle.std.proofs.lemmas.Int.{to_z-of_z}
 use Rattle.check_inference.specs.Exact.{plain}
+use Rattle.lower_leases.specs.Paths.{path_found}
+use Rattle.lower_leases.specs.declared.paths.End.{End}
 use Rattle.lower_leases.proofs.Ways.{any_none, any_some, chunk_is, inside_is, range_is}
 use Rattle.lower_leases.proofs.paths.+way.Goals as goal
 
@@ -13,7 +15,8 @@ by_any-returns-in-None t c = λ h.
     let b = c.step_of_item.ensures s.0 in
     let m = c.measured-found.ensures b.0 in (
       m.0,
-      any_none c.args.through.typed.now c.args.through.ranges _ c.args.at.items c.args.dimension c.args.at.cell (map plain c.args.rest.now) _ _ c.measured-found.result.places c.measured-found.result.size c.entered.result s.1 c.entered.ensures w.1,
+      any_none c.args.through.typed.now c.args.through.ranges _ c.args.at.items c.args.dimension c.args.at.cell (map plain c.args.rest.now) _ _ c.measured-found.result.places c.measured-found.result.size c.entered.result s.1 c.entered.ensures
+          (sym (ap (λ (r : Option End). path_found r c.way.new.out.steps) c.in-None.is) ∙ w.1),
     )
 
 pub by_any-returns-in-Some : goal.by_any-returns-in-Some
@@ -25,7 +28,7 @@ by_any-returns-in-Some t c = λ h.
     let m = c.measured-found.ensures b.0 in (
       m.0,
       any_some c.args.through.typed.now c.args.through.ranges _ c.args.at.items c.args.dimension c.args.at.cell (map plain c.args.rest.now) _ _ _ c.measured-found.result.places c.measured-found.result.size c.len-before.result c.entered.result _ _
-          m.1.0 m.1.1.0 m.1.1.1 b.1 c.len-before.ensures s.1 c.entered.ensures w.1 j.1,
+          m.1.0 m.1.1.0 m.1.1.1 b.1 c.len-before.ensures s.1 c.entered.ensures (sym (ap (λ (r : Option End). path_found r c.way.new.out.steps) c.in-Some.is) ∙ w.1) j.1,
     )
 
 pub by_chunk-returns : goal.by_chunk-returns
