@@ -1,11 +1,8 @@
 -- What the law says of the code of a typed program beside what is emitted.
-use Rattle.std.specs.Prelude.{◌≡◌, ℕ, ◌+◌, ℤ, List, [], ◌∷◌, ◌++◌, Some, slice_get}
+use Rattle.std.specs.Prelude.{ℕ, ◌+◌, ℤ, List, [], ◌∷◌, ◌++◌}
 use Rattle.ada_base.specs.Image.{padded}
 use Rattle.ada_meaning.specs.Values.{image_of}
 use Rattle.typed_tree.specs.Syntax.{Pieces, NoPiece, Text, Image, Padded}
-use Rattle.stack_code.specs.declared.code.Code.{Code}
-use Rattle.stack_code.specs.declared.code.CodeSite.{CodeSite}
-use Rattle.stack_code.specs.declared.code.SiteKind.{SiteKind}
 pub use Rattle.lower_emission.specs.Scope.{keep, keep_checked, array_root_of, thread_scope}
 pub use Rattle.lower_emission.specs.Emission.{lost, checked, load_by, load, load_named, load_where, address, is_whole, unary_instr, binary_instr, fixed_instr, static_instr, operated_by, compare_instr, falsity, truth, within, negated_code, Shape, lead, shape_by, shapes, shapes_cells, formal_cell, formals_or_none, first_parameter, leaving_by, range_scope, item_scope, counting, bounds_code, ascending, stepping, folding, ranged, reducing, combined, is_plain, is_repeated, doubled, filling, fillings, iterated_scope, turning, entering, entering_next, run_steps, run_turnings, turn_height, turnings, components_of, locating, locating_in, repeating, chunk_scope, loop_kind, folded_by, reduction_kind, raise_above, raise_beyond, ends_code, fork_code, turns_code, items_code, turn_item, turn_range, turn_component, cells_of, formals_in, formal_of, passing, composite_width, width, own_level, own_where, own_named, own_cell, indexed_by, item_by, main_level, main_named, component_address, component_value}
 unfoldable pub use Rattle.lower_emission.specs.Emission.{emit, named_value, selected, read, passed, put_into, composed, associated, component, filtered, iterated, chunk_code, course_code, threaded}
@@ -26,7 +23,3 @@ piece_cells NoPiece = 0
 piece_cells (Text bytes rest) = piece_cells rest
 piece_cells (Image class e rest) = 1 + piece_cells rest
 piece_cells (Padded class e width rest) = 1 + piece_cells rest
-
--- ---- what the code of a site must have: it stands two behind each fork that names it
-abbrev pub SiteStands : Code → (site fork : ℕ) → SiteKind → (frame : ℕ) → CodeSite → Type 0
-SiteStands c site fork kind frame cs = (slice_get c.sites site ≡ Some cs) × (cs.entry ≡ fork + 2) × (cs.kind ≡ kind) × (cs.frame ≡ frame)

@@ -5,18 +5,12 @@ use Rattle.ada_base.specs.declared.reason.Reason.{Reason}
 use Rattle.ada_base.specs.declared.reason.Reason.TheVariants.{Declared}
 use Rattle.stack_code.specs.declared.instr.Instr.{Instr}
 use Rattle.stack_code.specs.declared.instr.Instr.TheVariants.{Turn, Call, CallAt, CallTo, Part, Repeat, Again, Ret, RetV, Exit, Leave, LeaveV, Fork, Nest, Unnest, Words, Img, Bool, Wide, Send, SendLn, Get, End, EndV, Halt, Combine, Copy}
-use Rattle.ada_base.specs.Cells.{Cell, Gone, Seen, Mine, seen, written}
+use Rattle.ada_base.specs.Cells.{Cell, seen, written}
 use Rattle.stack_code.specs.Deeds.{Deed, GoesOn, Fails, Loads, Stores, on_two, loads_all, stores_all}
 use Rattle.ada_machine.specs.declared.memory.Placed.{Placed}
 use Rattle.ada_machine.specs.declared.memory.Placed.TheVariants.{At, Outside, Beyond as Far}
 use Rattle.ada_machine.specs.declared.operands.Computed.{Computed}
 use Rattle.ada_machine.specs.declared.operands.Computed.TheVariants.{To, Failed, Beyond, Other}
-
-abbrev pub AreMine : List Cell → Type 0
-AreMine [] = Unit {0}
-AreMine (Mine v ∷ cells) = AreMine cells
-AreMine (Gone ∷ cells) = ⊥
-AreMine (Seen v ∷ cells) = ⊥
 
 -- the cell of a number, where it is one
 abbrev pub cell_of : ℤ → ℕ

@@ -19,6 +19,9 @@ ghost use Rattle.machine_paths.specs.Law.{AnswerLaw, AskLaw, ConstructLaw, EndLa
 /// - enough: in valid, forward code whose threads ask for nothing, where the machine's thread comes to an end, this path
 ///   comes to it.
 /// - leaves, answers: no other than a raise leaves a reduction's thread, and the answer of a construct is of its kind.
+///
+/// Of these, steps, worlds, moves, constructs, nested and leaves are results for a reader: the laws and the code above go by
+/// the others.
 pub fn laws()
     ensures frames { FrameLaw }
     ensures steps { StepLaw }

@@ -7,12 +7,14 @@ pub fn standing_law()
     ensures { StandingLaw }
 {}
 
-/// A path that pauses before a look is one that is cut there when its looks are counted.
+/// A path that pauses before a look is one that is cut there when its looks are counted. A result for a reader: no other law
+/// goes by it.
 pub fn cut_law()
     ensures { CutLaw }
 {}
 
-/// A path that is lent some cells does the same on the whole memory, and leaves the other cells alone.
+/// A path that is lent some cells does the same on the whole memory, and leaves the other cells alone. A result for a reader:
+/// machine_paths has its own law of views.
 pub fn frame_law()
     ensures { FrameLaw }
 {}
