@@ -9,7 +9,8 @@ ghost use Rattle.lower_laws.specs.LeasesLaw.{FitLaw, GrantedLaw, LeasedLaw, Lent
 /// frames have room for what is kept, and no object is declared twice (3.6, 3.8, 6.4.1, 8.2). That holds of each program that
 /// names have formed, whose names are in scope, none of whose arrays is empty and no exit of which leaves a body, where parallel
 /// constructs have numbers of their own (lowered). It is ready for its code (`IsReady`), and its objects may be declared without
-/// an initial value (ready). The rows of its constructs tell the bodies in which they stand (surrounded).
+/// an initial value (ready). The rows of its constructs tell the bodies in which they stand (surrounded), a result for a
+/// reader.
 ///
 /// What the leases are that are computed of the paths that `accept` of check_conflicts grants, in the code of a program in
 /// scope, each of whose constructs has a number of its own:
