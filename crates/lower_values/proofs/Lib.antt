@@ -1,3 +1,4 @@
 -- Lemmas.
+pub mod Fitting
 pub mod Reading
 pub mod Found
