@@ -33,14 +33,14 @@ map-zeros (suc n) = ap (λ l. Mine (pos 0) ∷ l) (map-zeros n)
 abbrev four : List Cell → ℕ → ℤ → ℤ → ℤ → ℤ → List Cell
 four cs b u v w x = set (set (set (set cs b (Mine u)) (b + 1) (Mine v)) (b + 2) (Mine w)) (b + 3) (Mine x)
 
-four_set : (cs : List Cell) (f : Frame) (b : ℕ) → b ≡ length cs → four (cs ++ replicate (f.more + 4) (Mine (pos 0))) b f.first f.count f.number f.initial ≡ cs ++ map Mine (frame_values f)
+four_set : (cs : List Cell) (f : Frame) (b : ℕ) → b ≡ length cs → four (cs ++ replicate (f.more + 4) (Mine (pos 0))) b f.chunk f.initial f.first f.last ≡ cs ++ map Mine (frame_values f)
 four_set cs f b e =
-    ap (λ l. four (cs ++ l) b f.first f.count f.number f.initial) (more_zeros f.more)
-    ∙ ap (λ l. set (set (set l (b + 1) (Mine f.count)) (b + 2) (Mine f.number)) (b + 3) (Mine f.initial)) (set-append cs _ 0 b (Mine f.first) (omega (arith, e)))
-    ∙ ap (λ l. set (set l (b + 2) (Mine f.number)) (b + 3) (Mine f.initial)) (set-append cs _ 1 (b + 1) (Mine f.count) (omega (arith, e)))
-    ∙ ap (λ l. set l (b + 3) (Mine f.initial)) (set-append cs _ 2 (b + 2) (Mine f.number) (omega (arith, e)))
-    ∙ set-append cs _ 3 (b + 3) (Mine f.initial) (omega (arith, e))
-    ∙ ap (λ l. cs ++ Mine f.first ∷ Mine f.count ∷ Mine f.number ∷ Mine f.initial ∷ l) (sym (map-zeros f.more))
+    ap (λ l. four (cs ++ l) b f.chunk f.initial f.first f.last) (more_zeros f.more)
+    ∙ ap (λ l. set (set (set l (b + 1) (Mine f.initial)) (b + 2) (Mine f.first)) (b + 3) (Mine f.last)) (set-append cs _ 0 b (Mine f.chunk) (omega (arith, e)))
+    ∙ ap (λ l. set (set l (b + 2) (Mine f.first)) (b + 3) (Mine f.last)) (set-append cs _ 1 (b + 1) (Mine f.initial) (omega (arith, e)))
+    ∙ ap (λ l. set l (b + 3) (Mine f.last)) (set-append cs _ 2 (b + 2) (Mine f.first) (omega (arith, e)))
+    ∙ set-append cs _ 3 (b + 3) (Mine f.last) (omega (arith, e))
+    ∙ ap (λ l. cs ++ Mine f.chunk ∷ Mine f.initial ∷ Mine f.first ∷ Mine f.last ∷ l) (sym (map-zeros f.more))
 
 own_mine : (own : List ℤ) (i : ℕ) → i < length own → is_gone (get_or (map Mine own) i Gone) ≡ false
 own_mine [] i lt = absurd (omega (arith, lt))
@@ -51,9 +51,9 @@ frame_long : (f : Frame) → length (frame_values f) ≡ f.more + 4
 frame_long f = omega (arith, length-replicate f.more (pos 0))
 
 pub entered : (s r t : Sight) (f : Frame) (b : ℕ) → b ≡ length s.cells → s.own ≤ length s.cells → OwnThere s → r.cells ≡ s.cells → r.own ≡ s.own → r.held ≡ s.held
-    → t ≡ stored (stored (stored (stored (pushed r (f.more + 4)) b f.first) (b + 1) f.count) (b + 2) f.number) (b + 3) f.initial → Entered s f t
+    → t ≡ stored (stored (stored (stored (pushed r (f.more + 4)) b f.chunk) (b + 1) f.initial) (b + 2) f.first) (b + 3) f.last → Entered s f t
 entered s r t f b e o there rc ro rh is =
-    let cells : t.cells ≡ s.cells ++ map Mine (frame_values f) = ap (λ (v : Sight). v.cells) is ∙ ap (λ l. four (l ++ replicate (f.more + 4) (Mine (pos 0))) b f.first f.count f.number f.initial) rc ∙ four_set s.cells f b e in
+    let cells : t.cells ≡ s.cells ++ map Mine (frame_values f) = ap (λ (v : Sight). v.cells) is ∙ ap (λ l. four (l ++ replicate (f.more + 4) (Mine (pos 0))) b f.chunk f.initial f.first f.last) rc ∙ four_set s.cells f b e in
     let own : t.own ≡ s.own + (f.more + 4) = ap (λ (v : Sight). v.own) is ∙ ap (λ n. n + (f.more + 4)) ro in
     let long : length t.cells ≡ length s.cells + (f.more + 4) = ap length cells ∙ length-append s.cells (map Mine (frame_values f)) ∙ omega (arith, length-map (frame_values f) Mine, frame_long f) in
     record {
