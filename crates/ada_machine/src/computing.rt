@@ -15,8 +15,9 @@ use crate::memory::{
 use crate::operands::{
     Computed, add, add_constant, check_range, combine_digits, compare, differ, divide, double,
     exchange, flip, greater, invert, jump_if_false, jump_if_true, jump_unless, lesser,
-    make_absolute, measure, multiply, multiply_by_constant, negate, pop, push, push_local, push_number,
-    raise_again, raise_to, reduce, reduce_by_constant, remain, subtract, subtract_constant,
+    make_absolute, measure, multiply, multiply_by_constant, negate, pop, push, push_local,
+    push_number, raise_again, raise_to, reduce, reduce_by_constant, remain, subtract,
+    subtract_constant,
 };
 use leave_board::Halt;
 use stack_code::{Code, Digits, Instr, Relation};
