@@ -118,7 +118,6 @@ fn text_number(env: &Env<'_>, bytes: u32, out: &mut Emitter) -> u32
         Ok(number) => number,
         Err(_) => {
             out.whole = false;
-            out.short = true;
             0
         }
     }

@@ -1,4 +1,3 @@
 -- Lemmas.
-pub mod Fitting
 pub mod Reading
 pub mod Found
