@@ -1,7 +1,8 @@
-ghost use Rattle.std.specs.Prelude.{◌≡◌, ◌++◌, length, replicate, take, IfOk, OnErr, OnOk};
+ghost use Rattle.std.specs.Prelude.{◌≡◌, ◌++◌, pos, length, replicate, take, IfOk, OnErr, OnOk};
+ghost use Rattle.ada_base.specs.Operation.{number};
 ghost use Rattle.ada_base.specs.Image.{image, padded, truth_image};
 
-use ada_base::Items;
+use ada_base::{Base, Items, digits};
 use itoa::Buffer;
 use std::alloc::{AllocError, Global};
 
@@ -23,6 +24,32 @@ pub fn append_image(text: &mut Items<u8>, value: i64) -> Result<(), AllocError>
     let mut buffer = Buffer::new();
     let number = buffer.format(value).as_bytes();
     append_field(text, usize::from(value >= 0), number)
+}
+
+/// The image of the number that is kept in a cell of a base range (4.10). An Err is want of memory.
+pub fn image_of(alloc: Global, base: Base, kept: i64) -> Result<Items<u8>, AllocError>
+    ensures { IfOk result (λ text. text ≡ image (number base kept)) }
+{
+    match base {
+        Base::Modulo(_) => {
+            let mut text = Items::new(alloc);
+            append_digits(&mut text, digits(kept))?;
+            Ok(text)
+        }
+        Base::Narrow => image(alloc, kept),
+        Base::Wide => image(alloc, kept),
+    }
+}
+
+/// Appends the image of a number of a modular type (4.10) to a text. An Err is want of memory, and leaves the text as it
+/// was.
+pub fn append_digits(text: &mut Items<u8>, value: u64) -> Result<(), AllocError>
+    ensures ok { OnOk result (text.new ≡ text.old ++ image (pos value)) }
+    ensures err { OnErr result (text.new ≡ text.old) }
+{
+    let mut buffer = Buffer::new();
+    let number = buffer.format(value).as_bytes();
+    append_field(text, 1, number)
 }
 
 /// An integer as Put writes it (A.10.8): at the right end of `width` places, or whole where it needs more. An Err is want

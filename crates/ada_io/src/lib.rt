@@ -6,5 +6,7 @@ pub mod images;
 pub mod input;
 mod phases;
 
-pub use images::{append_image, append_padded, image, padded, truth_image};
+pub use images::{
+    append_digits, append_image, append_padded, image, image_of, padded, truth_image,
+};
 pub use input::{GetEnd, Got, Reader};

@@ -20,7 +20,7 @@ use Rattle.ada_base.specs.Input.{Held}
 use Rattle.behaviours.specs.Doings.{through, folded}
 use Rattle.behaviours.specs.Joins.{Site}
 use Rattle.behaviours.specs.Paths.{Leave, Exits, Returns, Raises, Entity, VariableOf, ConstantOf, Region, Everywhere, Here}
-use Rattle.ada_meaning.specs.Values.{result, truth, bit, is_in, between, to_nat, count, base_of, unary, is_zero, divides, overflows, value_or_zero, defaults, laid, zeros, image_of, handles_reason, is_chosen}
+use Rattle.ada_meaning.specs.Values.{result, truth, bit, is_modular, is_in, between, to_nat, count, base_of, unary, is_zero, divides, overflows, value_or_zero, defaults, laid, zeros, image_of, handles_reason, is_chosen}
 use Rattle.ada_meaning.specs.Operations.{CheckKind, RangeCheck, IndexCheck, OverflowCheck, ZeroCheck, Cut, Sized, Operations, zero_checked, overflow_checked, operate, reduce}
 use Rattle.ada_meaning.specs.Meaning
 use Rattle.ada_meaning.specs.Meaning.{ObjectPart, Env, Back, Passed, Returned, outset, with_target, with_handled, inside, variable_root, constant_root, array_root, iterated_env, cut_of, value_cut_of, arms_of, exits, returns, raises, value_of, reason_of, has_handlers, sub_at, moved, object_layout, most_nested, most_threads, most_iterations, most_calls}
@@ -115,10 +115,13 @@ module _ {ℓ κ ν} {o : Operations {ℓ}} {q : Operations {κ}} (rel : Relates
   most : (w : World) (v : ℤ) → R w (Meaning.most_of o v) (Meaning.most_of q v)
   most w v = rel.bind w (unless w (int_lt (pos 0) v) reason.ProgramError) (λ _. rel.ret w (min (to_nat v) most_threads))
 
+  sign_check : (w : World) (s : Sign) (at : ℕ) (class : Class) (v : ℤ) → R w (Meaning.sign_checked o s at class v) (Meaning.sign_checked q s at class v)
+  sign_check w sign.Minus at class v = rel.checks w OverflowCheck at (is_in_base (base_of class) v)
+  sign_check w sign.Abs at class v = rel.checks w OverflowCheck at (is_in_base (base_of class) v)
+  sign_check w sign.Not at class v = rel.ret w tt
+
   unary_check : (w : World) (s : Sign) (at : ℕ) (class : Class) (v : ℤ) → R w (Meaning.unary_checked o s at class v) (Meaning.unary_checked q s at class v)
-  unary_check w sign.Minus at class v = rel.checks w OverflowCheck at (is_in_base (base_of class) v)
-  unary_check w sign.Abs at class v = rel.checks w OverflowCheck at (is_in_base (base_of class) v)
-  unary_check w sign.Not at class v = rel.ret w tt
+  unary_check w s at class v = choose w (is_modular class) (rel.ret w tt) (sign_check w s at class v)
 
   one_run : (w : World) (k n first stride : ℕ) (so_far : List ℤ) {f : ℕ → o.Doing (List ℤ)} {g : ℕ → q.Doing (List ℤ)} → ((k : ℕ) → R w (f k) (g k)) → R w (Meaning.run_values o k n first stride f so_far) (Meaning.run_values q k n first stride g so_far)
   one_run w k zero first stride so_far r = rel.ret w so_far
@@ -211,7 +214,7 @@ module _ {ℓ κ ν} {o : Operations {ℓ}} {q : Operations {κ}} (rel : Relates
         eval (Parameter at x) env h k = rel.ret h.world (env.parameter x)
         eval (Target at scalar) env h k = rel.reads h.world (VariableOf env.target.object) env.target.offset scalar
         eval (Group e) env h k = eval e env h k
-        eval (Unary at s class e) env h k = rel.bind h.world (eval e env h k) (λ v. rel.bind h.world (unary_check h.world s at class (unary s v)) (λ _. rel.ret h.world (unary s v)))
+        eval (Unary at s class e) env h k = rel.bind h.world (eval e env h k) (λ v. rel.bind h.world (unary_check h.world s at class (unary s class v)) (λ _. rel.ret h.world (unary s class v)))
         eval (Binary at op class e f) env h k = rel.bind h.world (eval e env h k.0) (λ x. rel.bind h.world (eval f env h k.1) (λ y. operates h.world op at class x y))
         eval (AndThen e f) env h k = rel.bind h.world (eval e env h k.0) (λ x. choose h.world (truth x) (eval f env h k.1) (rel.ret h.world (bit false)))
         eval (OrElse e f) env h k = rel.bind h.world (eval e env h k.0) (λ x. choose h.world (truth x) (rel.ret h.world (bit true)) (eval f env h k.1))

@@ -15,6 +15,7 @@ pub mod Fronts
 pub mod Induction
 pub mod Law
 pub mod Lays
+pub mod Digits
 pub mod Listed
 pub mod LooksComputed
 pub mod LoopsComputed

@@ -1,23 +1,31 @@
 -- The reducers of the list: folds of parts, put together, are the fold of the whole.
-use Rattle.std.proofs.Common.{◌≡◌, ℕ, zero, suc, ◌*◌, ℤ, pos, negsuc, neg_ℤ, ◌+ℤ◌, ◌*ℤ◌, List, [], ◌∷◌, ◌++◌, Some, None, is_some, if◌then◌else◌, Bool, true, false, refl, sym, subst, ap, ap₂, ◌∙◌, arith, append_assoc, append-nil, mul-zero}
-use Rattle.std.proofs.Math.Nat.{mul_assoc, mul_comm}
+use Rattle.std.proofs.Common.{◌≡◌, ℕ, zero, suc, ◌+◌, ◌-◌, ◌*◌, ◌%◌, ◌<◌, max, min, ℤ, pos, negsuc, neg_ℤ, ◌+ℤ◌, ◌*ℤ◌, int_le, Option, List, [], ◌∷◌, ◌++◌, Some, None, is_some, if◌then◌else◌, Bool, true, false, refl, sym, subst, ap, ap₂, ◌∙◌, arith, append_assoc, append-nil, mul-zero}
+use Rattle.std.proofs.Math.Nat.{mul_assoc, mul_comm, mod-eq_of_lt, zero-mod}
+use Rattle.std.proofs.lemmas.Bool.{leb-true}
+use Rattle.std.proofs.lemmas.Nat.{and_assoc, and_comm, or_comm, xor_comm}
+use Rattle.std.specs.Int.Bits.{and_self, or_self, xor_assoc}
+use Rattle.std.specs.Int.RustNames.{bit_and, bit_or, bit_xor}
 use Rattle.std.proofs.Math.IntN.{+ℤ_assoc, +ℤ_comm, +ℤ_idl, +ℤ_idr, *ℤ_comm, *ℤ-one, one}
 use Rattle.std.proofs.lemmas.Int.{ints, clamps}
 use Rattle.std.specs.Int.{int_min, int_max}
 use Rattle.ada_base.specs.declared.reason.Reason.TheVariants as reason
+use Rattle.ada_base.specs.declared.operation.Op.{Op}
 use Rattle.ada_base.specs.declared.operation.Op.TheVariants as op
-use Rattle.ada_base.specs.Operation.{is_in_base}
+use Rattle.ada_base.specs.declared.operation.Base.TheVariants.{Narrow, Wide, Modulo}
+use Rattle.ada_base.specs.Operation.{is_in_base, within, turned, digits, modulus}
 use Rattle.typed_tree.specs.declared.scalars.Class.{Class}
+use Rattle.typed_tree.specs.declared.scalars.Class.TheVariants as class
 use Rattle.typed_tree.specs.declared.expressions.Reducer.{Reducer}
 use Rattle.typed_tree.specs.declared.expressions.Reducer.TheVariants.{Operator, Function}
 use Rattle.behaviours.specs.Doings.{onto}
 use Rattle.behaviours.specs.Paths.{Raises, Instance, End, Gives, Leaves, Path, Scope}
 use Rattle.behaviours.specs.Memory.{Memory}
-use Rattle.ada_meaning.specs.Values.{base_of, value_or_zero, truth, bit, differ}
+use Rattle.ada_meaning.specs.Values.{base_of, binary_digits, result, value_or_zero, truth, bit, differ}
 use Rattle.ada_meaning.specs.Operations.{OverflowCheck, reduce}
 use Rattle.ada_meaning.specs.Planned
 use Rattle.ada_meaning.specs.Planned.{Planned, plain, next, doings, ◌>>=◌}
-use Rattle.ada_meaning.specs.Sequential.{IsListed, HasNoPartialOverflow, total, product}
+use Rattle.ada_meaning.specs.Sequential.{IsListed, HasNoPartialOverflow, EachSegment, total, product}
+use Rattle.ada_meaning.proofs.Digits.{or_assoc, sum_assoc, product_assoc, kept_again, digits_kept}
 use Rattle.ada_meaning.proofs.Folds.{over, over_append, concat}
 
 -- a step of a fold: its result, or the failed check
@@ -147,55 +155,142 @@ over_product : (a : ℤ) (vs : List ℤ) → over (λ x y. x *ℤ y) a vs ≡ a 
 over_product a [] = sym (times_one a)
 over_product a (v ∷ vs) = over_product (a *ℤ v) vs ∙ times_assoc a v (product vs)
 
+-- a step by its result
+abbrev operated : Option ℤ → ℕ → Planned ℤ
+operated z at = ◌>>=◌ (Planned.ret {A = Unit {0}} tt) (λ _. ◌>>=◌ (Planned.checks OverflowCheck at (is_some z)) (λ _. Planned.ret (value_or_zero z)))
+
 -- a step with a check
 checked_step : (c : Bool) (z : ℤ) (at : ℕ) (s : Scope Instance) (p : Path Instance) (m : Memory)
     → ◌>>=◌ (Planned.ret {A = Unit {0}} tt) (λ _. ◌>>=◌ (Planned.checks OverflowCheck at (is_some (if c then Some z else None))) (λ _. Planned.ret (value_or_zero (if c then Some z else None)))) s p m ≡ plain p m (stepped c z)
 checked_step true z at s p m = refl
 checked_step false z at s p m = refl
 
-adds_up : (t at : ℕ) (class : Class) (initial : ℤ) → initial ≡ pos 0 → Listed (Operator t op.Add class) at initial
-adds_up t at class initial e = record {
+-- the steps of a type that isn't modular
+adds_up : (t at : ℕ) (class : Class) (initial : ℤ) → ((a v : ℤ) → result op.Add class a v ≡ within (base_of class) (Some (a +ℤ v))) → ((vs : List ℤ) → HasNoPartialOverflow (Operator t op.Add class) vs → EachSegment total (base_of class) vs)
+    → initial ≡ pos 0 → Listed (Operator t op.Add class) at initial
+adds_up t at class initial same each e = record {
   put = λ a b. a +ℤ b;
   fits = λ z. is_in_base (base_of class) z;
   assoc = +ℤ_assoc;
   comm = +ℤ_comm;
   idle = subst (λ z. z +ℤ z ≡ z) (sym e) refl;
-  step = λ call a v s p m. checked_step (is_in_base (base_of class) (a +ℤ v)) (a +ℤ v) at s p m;
-  segments = λ values h before part after eq. ap (λ z. is_in_base (base_of class) z) (ap (λ z. over (λ x y. x +ℤ y) z part) e ∙ over_total (pos 0) part ∙ +ℤ_idl (total part)) ∙ h before part after eq;
+  step = λ call a v s p m. ap (λ z. operated z at s p m) (same a v) ∙ checked_step (is_in_base (base_of class) (a +ℤ v)) (a +ℤ v) at s p m;
+  segments = λ values h before part after eq. ap (λ z. is_in_base (base_of class) z) (ap (λ z. over (λ x y. x +ℤ y) z part) e ∙ over_total (pos 0) part ∙ +ℤ_idl (total part)) ∙ each values h before part after eq;
 }
 
-multiplies : (t at : ℕ) (class : Class) (initial : ℤ) → initial ≡ pos 1 → Listed (Operator t op.Mul class) at initial
-multiplies t at class initial e = record {
+multiplies : (t at : ℕ) (class : Class) (initial : ℤ) → ((a v : ℤ) → result op.Mul class a v ≡ within (base_of class) (Some (a *ℤ v))) → ((vs : List ℤ) → HasNoPartialOverflow (Operator t op.Mul class) vs → EachSegment product (base_of class) vs)
+    → initial ≡ pos 1 → Listed (Operator t op.Mul class) at initial
+multiplies t at class initial same each e = record {
   put = λ a b. a *ℤ b;
   fits = λ z. is_in_base (base_of class) z;
   assoc = times_assoc;
   comm = *ℤ_comm;
   idle = subst (λ z. z *ℤ z ≡ z) (sym e) refl;
-  step = λ call a v s p m. checked_step (is_in_base (base_of class) (a *ℤ v)) (a *ℤ v) at s p m;
-  segments = λ values h before part after eq. ap (λ z. is_in_base (base_of class) z) (ap (λ z. over (λ x y. x *ℤ y) z part) e ∙ over_product (pos 1) part ∙ *ℤ_comm (pos 1) (product part) ∙ times_one (product part)) ∙ h before part after eq;
+  step = λ call a v s p m. ap (λ z. operated z at s p m) (same a v) ∙ checked_step (is_in_base (base_of class) (a *ℤ v)) (a *ℤ v) at s p m;
+  segments = λ values h before part after eq. ap (λ z. is_in_base (base_of class) z) (ap (λ z. over (λ x y. x *ℤ y) z part) e ∙ over_product (pos 1) part ∙ *ℤ_comm (pos 1) (product part) ∙ times_one (product part)) ∙ each values h before part after eq;
 }
 
+-- those that have no check
+unchecked : (by : Reducer) (at : ℕ) (initial : ℤ) (put : ℤ → ℤ → ℤ) → ((a b c : ℤ) → put (put a b) c ≡ put a (put b c)) → ((a b : ℤ) → put a b ≡ put b a) → put initial initial ≡ initial
+    → ((call : ℤ → ℤ → Planned ℤ) (a v : ℤ) (s : Scope Instance) (p : Path Instance) (m : Memory) → reduce doings Planned.checks by at call a v s p m ≡ plain p m (Gives (put a v))) → Listed by at initial
+unchecked by at initial put assoc comm idle step = record { put = put; fits = λ z. true; assoc = assoc; comm = comm; idle = idle; step = step; segments = λ values u before part after eq. refl }
+
+-- those of a modular type, by numbers
+by_numbers : (by : Reducer) (at : ℕ) (initial : ℤ) (f : ℕ → ℕ → ℕ) → ((a b c : ℕ) → f (f a b) c ≡ f a (f b c)) → ((a b : ℕ) → f a b ≡ f b a) → f (digits initial) (digits initial) ≡ digits initial → turned (pos (digits initial)) ≡ initial
+    → ((call : ℤ → ℤ → Planned ℤ) (a v : ℤ) (s : Scope Instance) (p : Path Instance) (m : Memory) → reduce doings Planned.checks by at call a v s p m ≡ plain p m (Gives (turned (pos (f (digits a) (digits v)))))) → Listed by at initial
+by_numbers by at initial f assoc comm idle kept step = unchecked by at initial (λ a b. turned (pos (f (digits a) (digits b))))
+    (λ a b c. ap (λ n. turned (pos n)) (ap (λ n. f n (digits c)) (digits_kept (f (digits a) (digits b))) ∙ assoc (digits a) (digits b) (digits c) ∙ sym (ap (f (digits a)) (digits_kept (f (digits b) (digits c))))))
+    (λ a b. ap (λ n. turned (pos n)) (comm (digits a) (digits b)))
+    (ap (λ n. turned (pos n)) idle ∙ kept)
+    step
+
+zero_digits : (z : ℤ) → z ≡ pos 0 → digits z ≡ 0
+zero_digits z e = ap digits e
+
+zero_kept : (z : ℤ) → z ≡ pos 0 → turned (pos (digits z)) ≡ z
+zero_kept z e = subst (λ x. turned (pos (digits x)) ≡ x) (sym e) refl
+
+one_fits : (k : ℕ) → is_in_base (Modulo k) (pos 1) ≡ true → 1 < modulus k
+one_fits k h = go (modulus k) h
+  where
+    go : (m : ℕ) → int_le (pos 1) (pos (m - 1)) ≡ true → 1 < m
+    go m e = let l = leb-true 1 (m - 1) e in omega arith
+
+greater : (m n : ℕ) → int_max (pos m) (pos n) ≡ pos (max m n)
+greater m n = omega (arith, ints, clamps)
+
+lesser : (m n : ℕ) → int_min (pos m) (pos n) ≡ pos (min m n)
+lesser m n = omega (arith, ints, clamps)
+
+modular_listed : (t : ℕ) (o : Op) (k at : ℕ) (initial : ℤ) → IsListed (Operator t o (class.Integer (Modulo k))) initial → Listed (Operator t o (class.Integer (Modulo k))) at initial
+modular_listed t op.Add k at initial h = by_numbers _ at initial (λ a b. (a + b) % modulus (binary_digits k)) (sum_assoc (modulus (binary_digits k))) (λ a b. ap (λ n. n % modulus (binary_digits k)) (omega arith))
+    (ap (λ n. (n + n) % modulus (binary_digits k)) (zero_digits initial h) ∙ zero-mod (modulus (binary_digits k)) ∙ sym (zero_digits initial h)) (zero_kept initial h) (λ call a v s p m. refl)
+modular_listed t op.Mul k at initial h = by_numbers _ at initial (λ a b. (a * b) % modulus (binary_digits k)) (product_assoc (modulus (binary_digits k))) (λ a b. ap (λ n. n % modulus (binary_digits k)) (mul_comm a b))
+    (subst (λ z. (digits z * digits z) % modulus (binary_digits k) ≡ digits z) (sym h.0) (mod-eq_of_lt (one_fits (binary_digits k) (subst (λ z. is_in_base (Modulo (binary_digits k)) z ≡ true) h.0 h.1)))) (kept_again (binary_digits k) initial h.1) (λ call a v s p m. refl)
+modular_listed t op.Xor k at initial h = by_numbers _ at initial bit_xor xor_assoc xor_comm (ap (λ n. bit_xor n n) (zero_digits initial h) ∙ sym (zero_digits initial h)) (zero_kept initial h) (λ call a v s p m. refl)
+modular_listed t op.And k at initial h = by_numbers _ at initial bit_and (λ a b c. and_assoc c a b) and_comm (and_self (digits initial)) (kept_again (binary_digits k) initial h) (λ call a v s p m. refl)
+modular_listed t op.Or k at initial h = by_numbers _ at initial bit_or (λ a b c. or_assoc c a b) or_comm (or_self (digits initial)) (kept_again (binary_digits k) initial h) (λ call a v s p m. refl)
+modular_listed t op.Max k at initial h = by_numbers _ at initial max (λ a b c. omega arith) (λ a b. omega arith) (omega arith) (kept_again (binary_digits k) initial h) (λ call a v s p m. ap (λ z. plain p m (Gives (turned z))) (greater (digits a) (digits v)))
+modular_listed t op.Min k at initial h = by_numbers _ at initial min (λ a b c. omega arith) (λ a b. omega arith) (omega arith) (kept_again (binary_digits k) initial h) (λ call a v s p m. ap (λ z. plain p m (Gives (turned z))) (lesser (digits a) (digits v)))
+modular_listed t op.Sub k at initial h = absurd h
+modular_listed t op.Div k at initial h = absurd h
+modular_listed t op.Mod k at initial h = absurd h
+modular_listed t op.Rem k at initial h = absurd h
+modular_listed t op.Pow k at initial h = absurd h
+
+plain_listed : (t : ℕ) (class : Class) (o : Op) (at : ℕ) (initial : ℤ) → IsListed (Operator t o class) initial → Listed (Operator t o class) at initial
+plain_listed t (class.Integer (Modulo k)) o at initial h = modular_listed t o k at initial h
+plain_listed t class.Boolean op.Add at initial h = adds_up t at class.Boolean initial (λ a v. refl) (λ vs each. each) h
+plain_listed t class.Boolean op.Mul at initial h = multiplies t at class.Boolean initial (λ a v. refl) (λ vs each. each) h.0
+plain_listed t class.Boolean op.Xor at initial h = unchecked _ at initial differs differs_assoc differs_comm (subst (λ z. differs z z ≡ z) (sym h) refl) (λ call a v s p m. refl)
+plain_listed t class.Boolean op.And at initial h = unchecked _ at initial int_min min_assoc min_comm (min_idle initial) (λ call a v s p m. refl)
+plain_listed t class.Boolean op.Or at initial h = unchecked _ at initial int_max max_assoc max_comm (max_idle initial) (λ call a v s p m. refl)
+plain_listed t class.Boolean op.Max at initial h = unchecked _ at initial int_max max_assoc max_comm (max_idle initial) (λ call a v s p m. refl)
+plain_listed t class.Boolean op.Min at initial h = unchecked _ at initial int_min min_assoc min_comm (min_idle initial) (λ call a v s p m. refl)
+plain_listed t class.Boolean op.Sub at initial h = absurd h
+plain_listed t class.Boolean op.Div at initial h = absurd h
+plain_listed t class.Boolean op.Mod at initial h = absurd h
+plain_listed t class.Boolean op.Rem at initial h = absurd h
+plain_listed t class.Boolean op.Pow at initial h = absurd h
+plain_listed t (class.Integer Narrow) op.Add at initial h = adds_up t at (class.Integer Narrow) initial (λ a v. refl) (λ vs each. each) h
+plain_listed t (class.Integer Narrow) op.Mul at initial h = multiplies t at (class.Integer Narrow) initial (λ a v. refl) (λ vs each. each) h.0
+plain_listed t (class.Integer Narrow) op.Xor at initial h = unchecked _ at initial differs differs_assoc differs_comm (subst (λ z. differs z z ≡ z) (sym h) refl) (λ call a v s p m. refl)
+plain_listed t (class.Integer Narrow) op.And at initial h = unchecked _ at initial int_min min_assoc min_comm (min_idle initial) (λ call a v s p m. refl)
+plain_listed t (class.Integer Narrow) op.Or at initial h = unchecked _ at initial int_max max_assoc max_comm (max_idle initial) (λ call a v s p m. refl)
+plain_listed t (class.Integer Narrow) op.Max at initial h = unchecked _ at initial int_max max_assoc max_comm (max_idle initial) (λ call a v s p m. refl)
+plain_listed t (class.Integer Narrow) op.Min at initial h = unchecked _ at initial int_min min_assoc min_comm (min_idle initial) (λ call a v s p m. refl)
+plain_listed t (class.Integer Narrow) op.Sub at initial h = absurd h
+plain_listed t (class.Integer Narrow) op.Div at initial h = absurd h
+plain_listed t (class.Integer Narrow) op.Mod at initial h = absurd h
+plain_listed t (class.Integer Narrow) op.Rem at initial h = absurd h
+plain_listed t (class.Integer Narrow) op.Pow at initial h = absurd h
+plain_listed t (class.Integer Wide) op.Add at initial h = adds_up t at (class.Integer Wide) initial (λ a v. refl) (λ vs each. each) h
+plain_listed t (class.Integer Wide) op.Mul at initial h = multiplies t at (class.Integer Wide) initial (λ a v. refl) (λ vs each. each) h.0
+plain_listed t (class.Integer Wide) op.Xor at initial h = unchecked _ at initial differs differs_assoc differs_comm (subst (λ z. differs z z ≡ z) (sym h) refl) (λ call a v s p m. refl)
+plain_listed t (class.Integer Wide) op.And at initial h = unchecked _ at initial int_min min_assoc min_comm (min_idle initial) (λ call a v s p m. refl)
+plain_listed t (class.Integer Wide) op.Or at initial h = unchecked _ at initial int_max max_assoc max_comm (max_idle initial) (λ call a v s p m. refl)
+plain_listed t (class.Integer Wide) op.Max at initial h = unchecked _ at initial int_max max_assoc max_comm (max_idle initial) (λ call a v s p m. refl)
+plain_listed t (class.Integer Wide) op.Min at initial h = unchecked _ at initial int_min min_assoc min_comm (min_idle initial) (λ call a v s p m. refl)
+plain_listed t (class.Integer Wide) op.Sub at initial h = absurd h
+plain_listed t (class.Integer Wide) op.Div at initial h = absurd h
+plain_listed t (class.Integer Wide) op.Mod at initial h = absurd h
+plain_listed t (class.Integer Wide) op.Rem at initial h = absurd h
+plain_listed t (class.Integer Wide) op.Pow at initial h = absurd h
+plain_listed t class.Universal op.Add at initial h = adds_up t at class.Universal initial (λ a v. refl) (λ vs each. each) h
+plain_listed t class.Universal op.Mul at initial h = multiplies t at class.Universal initial (λ a v. refl) (λ vs each. each) h.0
+plain_listed t class.Universal op.Xor at initial h = unchecked _ at initial differs differs_assoc differs_comm (subst (λ z. differs z z ≡ z) (sym h) refl) (λ call a v s p m. refl)
+plain_listed t class.Universal op.And at initial h = unchecked _ at initial int_min min_assoc min_comm (min_idle initial) (λ call a v s p m. refl)
+plain_listed t class.Universal op.Or at initial h = unchecked _ at initial int_max max_assoc max_comm (max_idle initial) (λ call a v s p m. refl)
+plain_listed t class.Universal op.Max at initial h = unchecked _ at initial int_max max_assoc max_comm (max_idle initial) (λ call a v s p m. refl)
+plain_listed t class.Universal op.Min at initial h = unchecked _ at initial int_min min_assoc min_comm (min_idle initial) (λ call a v s p m. refl)
+plain_listed t class.Universal op.Sub at initial h = absurd h
+plain_listed t class.Universal op.Div at initial h = absurd h
+plain_listed t class.Universal op.Mod at initial h = absurd h
+plain_listed t class.Universal op.Rem at initial h = absurd h
+plain_listed t class.Universal op.Pow at initial h = absurd h
+
 pub listed : (by : Reducer) (at : ℕ) (initial : ℤ) → IsListed by initial → Listed by at initial
-listed (Operator t op.Add class) at initial h = adds_up t at class initial h
-listed (Operator t op.Mul class) at initial h = multiplies t at class initial h
-listed (Operator t op.Xor class) at initial h = record {
-  put = differs;
-  fits = λ z. true;
-  assoc = differs_assoc;
-  comm = differs_comm;
-  idle = subst (λ z. differs z z ≡ z) (sym h) refl;
-  step = λ call a v s p m. refl;
-  segments = λ values u before part after eq. refl;
-}
-listed (Operator t op.And class) at initial h = record { put = int_min; fits = λ z. true; assoc = min_assoc; comm = min_comm; idle = min_idle initial; step = λ call a v s p m. refl; segments = λ values u before part after eq. refl }
-listed (Operator t op.Or class) at initial h = record { put = int_max; fits = λ z. true; assoc = max_assoc; comm = max_comm; idle = max_idle initial; step = λ call a v s p m. refl; segments = λ values u before part after eq. refl }
-listed (Operator t op.Max class) at initial h = record { put = int_max; fits = λ z. true; assoc = max_assoc; comm = max_comm; idle = max_idle initial; step = λ call a v s p m. refl; segments = λ values u before part after eq. refl }
-listed (Operator t op.Min class) at initial h = record { put = int_min; fits = λ z. true; assoc = min_assoc; comm = min_comm; idle = min_idle initial; step = λ call a v s p m. refl; segments = λ values u before part after eq. refl }
-listed (Operator t op.Sub class) at initial h = absurd h
-listed (Operator t op.Div class) at initial h = absurd h
-listed (Operator t op.Mod class) at initial h = absurd h
-listed (Operator t op.Rem class) at initial h = absurd h
-listed (Operator t op.Pow class) at initial h = absurd h
+listed (Operator t o class) at initial h = plain_listed t class o at initial h
 listed (Function t sub x y) at initial h = absurd h
 
 -- parts put together

@@ -25,7 +25,7 @@ use Rattle.ada_base.specs.Image.{padded}
 use Rattle.behaviours.specs.Doings.{through, folded}
 use Rattle.behaviours.specs.Paths.{Leave, Exits, Returns, Raises, Entity, VariableOf, ConstantOf, Region, Everywhere, Here}
 use Rattle.behaviours.specs.Joins.{Now, Site}
-use Rattle.ada_meaning.specs.Values.{truth, bit, is_in, between, to_nat, count, base_of, unary, compares, is_chosen, handles_reason, without_zeros, layout, defaults, laid, zeros, image_of}
+use Rattle.ada_meaning.specs.Values.{truth, bit, is_modular, number_in, is_member, is_in, between, to_nat, count, base_of, unary, compares, is_chosen, handles_reason, without_zeros, layout, defaults, laid, zeros, image_of}
 use Rattle.ada_meaning.specs.Operations.{RangeCheck, IndexCheck, OverflowCheck, Cut, ByPlan, Sized, chunk_of, Operations, operate, reduce}
 
 -- an object and how many cells of it come before
@@ -264,10 +264,14 @@ module _ {ℓ} (ops : Operations {ℓ}) where
 
   -- operators
 
+  abbrev pub sign_checked : Sign → ℕ → Class → ℤ → Doing (Unit {0})
+  sign_checked sign.Minus at class v = checks OverflowCheck at (is_in_base (base_of class) v)
+  sign_checked sign.Abs at class v = checks OverflowCheck at (is_in_base (base_of class) v)
+  sign_checked sign.Not at class v = ret tt
+
+  -- a modular type has a result always
   abbrev pub unary_checked : Sign → ℕ → Class → ℤ → Doing (Unit {0})
-  unary_checked sign.Minus at class v = checks OverflowCheck at (is_in_base (base_of class) v)
-  unary_checked sign.Abs at class v = checks OverflowCheck at (is_in_base (base_of class) v)
-  unary_checked sign.Not at class v = ret tt
+  unary_checked s at class v = cond (is_modular class) (ret tt) (sign_checked s at class v)
 
   -- aggregates (4.3): cells over which the values of a run's components are laid, one after the other
 
@@ -364,8 +368,8 @@ module _ {ℓ} (ops : Operations {ℓ}) where
       eval (Group e) env = eval e env
       eval (Unary at s class e) env = do
         v ← eval e env
-        _ ← unary_checked s at class (unary s v)
-        ret (unary s v)
+        _ ← unary_checked s at class (unary s class v)
+        ret (unary s class v)
       eval (Binary at op class e f) env = do
         x ← eval e env
         y ← eval f env
@@ -379,12 +383,12 @@ module _ {ℓ} (ops : Operations {ℓ}) where
       eval (Relation class comparison e f) env = do
         x ← eval e env
         y ← eval f env
-        ret (bit (compares comparison x y))
+        ret (bit (compares comparison (number_in class x) (number_in class y)))
       eval (Membership class negated e low high) env = do
         x ← eval e env
         l ← eval low env
         h ← eval high env
-        ret (bit (cond negated (not (between l x h)) (between l x h)))
+        ret (bit (cond negated (not (is_member class l x h)) (is_member class l x h)))
       eval (If condition value otherwise) env = do
         c ← eval condition env
         cond (truth c) (eval value env) (eval otherwise env)

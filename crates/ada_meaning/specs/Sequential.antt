@@ -2,6 +2,9 @@
 -- chunk parameter come one after the other, a reduction is one fold.
 use Rattle.std.specs.Prelude.{◌≡◌, ℕ, ℤ, pos, ◌+ℤ◌, ◌*ℤ◌, List, [], ◌∷◌, ◌++◌, Option, Some, None, false, ◌||◌, IsTrue}
 use Rattle.ada_base.specs.declared.operation.Base.{Base}
+use Rattle.ada_base.specs.declared.operation.Base.TheVariants.{Modulo}
+use Rattle.typed_tree.specs.declared.scalars.Class.{Class}
+use Rattle.typed_tree.specs.declared.scalars.Class.TheVariants as class
 use Rattle.ada_base.specs.declared.operation.Op.TheVariants as op
 use Rattle.ada_base.specs.Operation.{is_in_base}
 use Rattle.typed_tree.specs.declared.expressions.Reducer.{Reducer}
@@ -10,7 +13,7 @@ use Rattle.behaviours.specs.Doings.{through}
 use Rattle.behaviours.specs.Paths.{Gives, Spent, Stopped, joined}
 use Rattle.behaviours.specs.Joins.{Site, Share, deal}
 use Rattle.behaviours.specs.Behaviours.{is_left}
-use Rattle.ada_meaning.specs.Values.{base_of}
+use Rattle.ada_meaning.specs.Values.{binary_digits, base_of}
 use Rattle.ada_meaning.specs.Operations.{Cut, ByPlan, Sized, Operations, reduce}
 use Rattle.ada_meaning.specs.Planned
 use Rattle.ada_meaning.specs.Planned.{Noted, Result, Planned, doings, within, ◌>>=◌, ret, checks}
@@ -74,15 +77,20 @@ operations limit = record {
 
 -- reductions whose result doesn't turn on how the values are cut
 
--- "+" from 0, "*" from 1, "xor" from False; "and", "or", Max and Min from any value
+-- a value of a modular type
+abbrev pub IsOfType : Class → ℤ → Type 0
+IsOfType (class.Integer (Modulo k)) z = IsTrue (is_in_base (Modulo (binary_digits k)) z)
+IsOfType c z = Unit {0}
+
+-- "+" from 0, "*" from 1, "xor" from False or 0; "and", "or", Max and Min from any value of the type
 abbrev pub IsListed : Reducer → ℤ → Type 0
 IsListed (Operator at op.Add class) initial = initial ≡ pos 0
-IsListed (Operator at op.Mul class) initial = initial ≡ pos 1
+IsListed (Operator at op.Mul class) initial = (initial ≡ pos 1) × IsOfType class initial
 IsListed (Operator at op.Xor class) initial = initial ≡ pos 0
-IsListed (Operator at op.And class) initial = Unit {0}
-IsListed (Operator at op.Or class) initial = Unit {0}
-IsListed (Operator at op.Max class) initial = Unit {0}
-IsListed (Operator at op.Min class) initial = Unit {0}
+IsListed (Operator at op.And class) initial = IsOfType class initial
+IsListed (Operator at op.Or class) initial = IsOfType class initial
+IsListed (Operator at op.Max class) initial = IsOfType class initial
+IsListed (Operator at op.Min class) initial = IsOfType class initial
 IsListed _ initial = ⊥
 
 abbrev pub total : List ℤ → ℤ
@@ -97,7 +105,9 @@ product (v ∷ vs) = v *ℤ product vs
 abbrev pub EachSegment : (List ℤ → ℤ) → Base → List ℤ → Type 0
 EachSegment f base values = (before part after : List ℤ) → values ≡ before ++ (part ++ after) → IsTrue (is_in_base base (f part))
 
+-- on a modular type there is no overflow
 abbrev pub HasNoPartialOverflow : Reducer → List ℤ → Type 0
+HasNoPartialOverflow (Operator at o (class.Integer (Modulo k))) values = Unit {0}
 HasNoPartialOverflow (Operator at op.Add class) values = EachSegment total (base_of class) values
 HasNoPartialOverflow (Operator at op.Mul class) values = EachSegment product (base_of class) values
 HasNoPartialOverflow _ values = Unit {0}

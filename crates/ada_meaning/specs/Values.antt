@@ -1,13 +1,13 @@
 -- Values, and what is computed from them alone.
-use Rattle.std.specs.Prelude.{ℕ, zero, suc, ◌*◌, ℤ, pos, negsuc, ◌+ℤ◌, ◌-ℤ◌, neg_ℤ, nat_abs, int_le, int_lt, nat_eq, List, [], ◌∷◌, ◌++◌, map, length, replicate, slice_get, Option, Some, None, Bool, true, false, not, ◌&&◌, ◌||◌}
+use Rattle.std.specs.Prelude.{ℕ, zero, suc, ◌*◌, ◌-◌, ℤ, pos, negsuc, ◌+ℤ◌, ◌-ℤ◌, neg_ℤ, nat_abs, int_le, int_lt, nat_eq, max, min, List, [], ◌∷◌, ◌++◌, map, length, replicate, slice_get, Option, Some, None, is_some, Bool, true, false, not, ◌&&◌, ◌||◌}
 use Rattle.ada_base.specs.declared.operation.Base.{Base}
-use Rattle.ada_base.specs.declared.operation.Base.TheVariants.{Narrow, Wide}
+use Rattle.ada_base.specs.declared.operation.Base.TheVariants.{Narrow, Wide, Modulo}
 use Rattle.ada_base.specs.declared.operation.Op.{Op}
 use Rattle.ada_base.specs.declared.operation.Op.TheVariants as op
 use Rattle.ada_base.specs.declared.reason.Reason.{Reason}
 use Rattle.ada_base.specs.declared.reason.Reason.TheVariants as reason
 use Rattle.std.specs.Int.{int_min, int_max}
-use Rattle.ada_base.specs.Operation.{result_of}
+use Rattle.ada_base.specs.Operation.{turned, number, modulus, reduced, unbounded, within, result_of}
 use Rattle.ada_base.specs.Image.{image, truth_image}
 use Rattle.typed_tree.specs.declared.scalars.Class.{Class}
 use Rattle.typed_tree.specs.declared.scalars.Class.TheVariants as class
@@ -36,8 +36,30 @@ bit false = pos 0
 abbrev pub between : ℤ → ℤ → ℤ → Bool
 between low z high = int_le low z && int_le z high
 
+-- how many binary digits the numbers of a modular type have: 1 to 64, and any other number counts as the nearest of these
+abbrev pub binary_digits : ℕ → ℕ
+binary_digits k = max 1 (min k 64)
+
+abbrev pub modular_digits : Class → Option ℕ
+modular_digits (class.Integer (Modulo k)) = Some (binary_digits k)
+modular_digits c = None
+
+abbrev pub is_modular : Class → Bool
+is_modular c = is_some (modular_digits c)
+
+-- the number that a value of a class is; a cell of a modular type may keep another one
+abbrev pub number_by : Option ℕ → ℤ → ℤ
+number_by None z = z
+number_by (Some k) z = turned z
+
+abbrev pub number_in : Class → ℤ → ℤ
+number_in c z = number_by (modular_digits c) z
+
+abbrev pub is_member : Class → ℤ → ℤ → ℤ → Bool
+is_member class low z high = between (number_in class low) (number_in class z) (number_in class high)
+
 abbrev pub is_in : Scalar → ℤ → Bool
-is_in s z = between s.low z s.high
+is_in s z = is_member s.class s.low z s.high
 
 -- a number that isn't negative, else 0
 abbrev pub to_nat : ℤ → ℕ
@@ -53,7 +75,9 @@ count low high = to_nat (high +ℤ pos 1 -ℤ low)
 -- an expression that waits for its type is none of a program that names give; it counts as of the widest
 abbrev pub base_of : Class → Base
 base_of class.Boolean = Narrow
-base_of (class.Integer base) = base
+base_of (class.Integer Narrow) = Narrow
+base_of (class.Integer Wide) = Wide
+base_of (class.Integer (Modulo k)) = Modulo (binary_digits k)
 base_of class.Universal = Wide
 
 abbrev pub value_or_zero : Option ℤ → ℤ
@@ -80,24 +104,44 @@ abbrev pub differ : Bool → Bool → Bool
 differ true b = not b
 differ false b = b
 
--- the result of an operator (4.5); None is a check that fails. What can't overflow has its result among all integers, and
--- xor is that of truth values
+-- the result of an operator (4.5); None is a check that fails. But for modular types what can't overflow has its result
+-- among all integers, and xor is that of truth values
+abbrev pub plain_result : Op → Class → ℤ → ℤ → Option ℤ
+plain_result op.And class x y = Some (int_min x y)
+plain_result op.Or class x y = Some (int_max x y)
+plain_result op.Xor class x y = Some (bit (differ (truth x) (truth y)))
+plain_result op.Max class x y = Some (int_max x y)
+plain_result op.Min class x y = Some (int_min x y)
+plain_result op class x y = within (base_of class) (unbounded op x y)
+
+abbrev pub result_by : Option ℕ → Op → Class → ℤ → ℤ → Option ℤ
+result_by None op class x y = plain_result op class x y
+result_by (Some k) op class x y = result_of op (Modulo k) x y
+
 abbrev pub result : Op → Class → ℤ → ℤ → Option ℤ
-result op.And class x y = Some (int_min x y)
-result op.Or class x y = Some (int_max x y)
-result op.Xor class x y = Some (bit (differ (truth x) (truth y)))
-result op.Max class x y = Some (int_max x y)
-result op.Min class x y = Some (int_min x y)
-result op class x y = result_of op (base_of class) x y
+result op class x y = result_by (modular_digits class) op class x y
 
 abbrev pub is_zero : ℤ → Bool
 is_zero z = not (truth z)
 
--- the result of a unary operator among all integers (4.5.4, 4.5.6); the negation of a Boolean is the other one
-abbrev pub unary : Sign → ℤ → ℤ
-unary sign.Minus z = neg_ℤ z
-unary sign.Abs z = pos (nat_abs z)
-unary sign.Not z = pos 1 -ℤ z
+-- the result of a unary operator on numbers of a modular type (4.5.4, 4.5.6)
+abbrev pub modular_unary : ℕ → Sign → ℤ → ℤ
+modular_unary k sign.Minus z = reduced k (neg_ℤ z)
+modular_unary k sign.Abs z = z
+modular_unary k sign.Not z = reduced k (pos (modulus k - 1) -ℤ z)
+
+-- the result of a unary operator, else among all integers; the negation of a Boolean is the other one
+abbrev pub plain_unary : Sign → ℤ → ℤ
+plain_unary sign.Minus z = neg_ℤ z
+plain_unary sign.Abs z = pos (nat_abs z)
+plain_unary sign.Not z = bit (is_zero z)
+
+abbrev pub unary_by : Option ℕ → Sign → ℤ → ℤ
+unary_by None s z = plain_unary s z
+unary_by (Some k) s z = turned (modular_unary k s (turned z))
+
+abbrev pub unary : Sign → Class → ℤ → ℤ
+unary s class z = unary_by (modular_digits class) s z
 
 abbrev pub is_equal : ℤ → ℤ → Bool
 is_equal a b = int_le a b && int_le b a
@@ -189,5 +233,5 @@ zeros n = replicate n (pos 0)
 
 abbrev pub image_of : Class → ℤ → List ℕ
 image_of class.Boolean z = truth_image (truth z)
-image_of (class.Integer base) z = image z
+image_of (class.Integer base) z = image (number base z)
 image_of class.Universal z = image z

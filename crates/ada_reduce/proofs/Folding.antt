@@ -4,14 +4,11 @@ use Rattle.std.specs.Prelude.{if◌then◌else◌, ◌-ℤ◌}
 use Rattle.std.specs.Int.{int_min, int_max}
 use Rattle.std.proofs.Math.Seq.{drop-cons}
 use Rattle.ada_base.specs.declared.operation.Base.{Base}
-use Rattle.ada_base.specs.declared.operation.Base.TheVariants.{Narrow, Wide}
+use Rattle.ada_base.specs.declared.operation.Base.TheVariants.{Narrow, Wide, Modulo}
 use Rattle.ada_base.specs.declared.operation.Op.{Op}
 use Rattle.ada_base.specs.declared.operation.Op.TheVariants as op
-use Rattle.ada_base.specs.Operation.{is_in_base, within, unbounded, result_of, IsBit, IsOperand, CanApply}
+use Rattle.ada_base.specs.Operation.{is_in_base, within, unbounded, result_of, IsBit, IsOperand}
 use Rattle.ada_reduce.specs.Folds.{where_some, fold_of, IsTaken, AreTaken}
-
-pub can_apply : (o : Op) (base : Base) (a b : ℤ) → IsTaken o base a → IsTaken o base b → CanApply o base a b
-can_apply o base a b s t = record { left_in_base = s.in_base; right_in_base = t.in_base; operands = record { left = s.operand; right = t.operand } }
 
 some_is : {A : Type 0} (z w : A) → ◌≡◌ {A = Option A} (Some z) (Some w) → z ≡ w
 some_is z w e = cc
@@ -37,12 +34,6 @@ within_is base z w e = (in_if base (is_in_base base z) z w refl e).0
 pub within_some : (base : Base) (z : ℤ) → is_in_base base z ≡ true → within base (Some z) ≡ Some z
 within_some base z h = ap (λ c. if c then Some z else None) h
 
-pub bit_in : (base : Base) (z : ℤ) → IsBit z → is_in_base base z ≡ true
-bit_in Narrow z (inl e) = ap (is_in_base Narrow) e
-bit_in Narrow z (inr e) = ap (is_in_base Narrow) e
-bit_in Wide z (inl e) = ap (is_in_base Wide) e
-bit_in Wide z (inr e) = ap (is_in_base Wide) e
-
 pub bits_to : (P : ℤ → ℤ → Type 0) → P (pos 0) (pos 0) → P (pos 0) (pos 1) → P (pos 1) (pos 0) → P (pos 1) (pos 1) → (a b : ℤ) → IsBit a → IsBit b → P a b
 bits_to P p q r s a b (inl x) (inl y) = subst (λ z. P z b) (sym x) (subst (λ z. P (pos 0) z) (sym y) p)
 bits_to P p q r s a b (inl x) (inr y) = subst (λ z. P z b) (sym x) (subst (λ z. P (pos 0) z) (sym y) q)
@@ -53,7 +44,7 @@ bit_of : (o : Op) (base : Base) (f : ℤ → ℤ → ℤ) → IsBit (f (pos 0) (
     → (a b w : ℤ) → IsBit a → IsBit b → within base (Some (f a b)) ≡ Some w → IsBit w
 bit_of o base f p q r s a b w x y e = subst IsBit (sym (within_is base (f a b) w e)) (bits_to (λ a b. IsBit (f a b)) p q r s a b x y)
 
-operand_kept : (o : Op) (base : Base) (a b w : ℤ) → IsOperand o a → IsOperand o b → result_of o base a b ≡ Some w → IsOperand o w
+operand_kept : (o : Op) (base : Base) (a b w : ℤ) → IsOperand o a → IsOperand o b → within base (unbounded o a b) ≡ Some w → IsOperand o w
 operand_kept op.And base a b w x y e = bit_of op.And base int_min (inl refl) (inl refl) (inl refl) (inr refl) a b w x y e
 operand_kept op.Or base a b w x y e = bit_of op.Or base int_max (inl refl) (inr refl) (inr refl) (inr refl) a b w x y e
 operand_kept op.Xor base a b w x y e = bit_of op.Xor base (λ a b. int_max a b -ℤ int_min a b) (inl refl) (inr refl) (inr refl) (inl refl) a b w x y e
@@ -69,7 +60,9 @@ operand_kept op.Min base a b w x y e = tt
 
 -- a result is taken again
 pub taken_on : (o : Op) (base : Base) (a b w : ℤ) → IsTaken o base a → IsTaken o base b → result_of o base a b ≡ Some w → IsTaken o base w
-taken_on o base a b w s t e = record { in_base = within_in base (unbounded o a b) w e; operand = operand_kept o base a b w s.operand t.operand e }
+taken_on o Narrow a b w s t e = record { in_base = within_in Narrow (unbounded o a b) w e; operand = operand_kept o Narrow a b w s.operand t.operand e }
+taken_on o Wide a b w s t e = record { in_base = within_in Wide (unbounded o a b) w e; operand = operand_kept o Wide a b w s.operand t.operand e }
+taken_on o (Modulo k) a b w s t e = record { in_base = tt; operand = tt }
 
 pub taken_at : (o : Op) (base : Base) (vs : List ℤ) (i : ℕ) (d : ℤ) → AreTaken o base vs → i < length vs → IsTaken o base (get_or vs i d)
 taken_at o base [] i d t lt = absurd (omega (arith, lt))

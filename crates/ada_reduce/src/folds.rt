@@ -1,8 +1,20 @@
 ghost use Rattle.std.specs.Prelude.{◌≡◌};
+ghost use Rattle.ada_base.specs.Operation.{result_of};
 ghost use Rattle.ada_reduce.specs.Folds.{AreTaken, IsTaken, combined, fold_of};
 ghost use Rattle.ada_reduce.specs.Laws.{ReassociationLaw};
 
-use ada_base::{Base, Op, apply};
+use ada_base::{Base, Op, apply, modular};
+
+fn step(op: Op, base: Base, a: i64, b: i64) -> Option<i64>
+    requires { IsTaken op base a × IsTaken op base b }
+    ensures { result ≡ result_of op base a b }
+{
+    match base {
+        Base::Modulo(k) => modular(op, k, a, b),
+        Base::Narrow => apply(op, Base::Narrow, a, b),
+        Base::Wide => apply(op, Base::Wide, a, b),
+    }
+}
 
 /// The values folded by an operator onto the first number, from the left (4.5.10). None exactly where some step raises
 /// Constraint_Error. It takes no memory.
@@ -13,7 +25,7 @@ pub fn fold(op: Op, base: Base, start: i64, values: &[i64]) -> Option<i64>
 {
     let mut so_far = start;
     for value in values {
-        so_far = apply(op, base, so_far, *value)?;
+        so_far = step(op, base, so_far, *value)?;
     }
     Some(so_far)
 }

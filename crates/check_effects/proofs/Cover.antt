@@ -26,17 +26,17 @@ use Rattle.typed_tree.specs.declared.expressions.Root.{Root}
 use Rattle.typed_tree.specs.declared.expressions.Run.{Run}
 use Rattle.typed_tree.specs.declared.expressions.Reducer.{Reducer}
 use Rattle.typed_tree.specs.declared.expressions.Reducer.TheVariants.{Operator, Function}
-use Rattle.ada_meaning.specs.Values.{truth, bit, is_in, between, to_nat, count, base_of, unary, is_zero, divides, overflows, result, value_or_zero, defaults, image_of, handles_reason, is_chosen, without_zeros, layout, laid, zeros}
+use Rattle.ada_meaning.specs.Values.{is_modular, truth, bit, is_in, between, to_nat, count, base_of, unary, is_zero, divides, overflows, result, value_or_zero, defaults, image_of, handles_reason, is_chosen, without_zeros, layout, laid, zeros}
 use Rattle.ada_meaning.specs.Operations.{CheckKind, RangeCheck, IndexCheck, OverflowCheck, ZeroCheck, ByPlan, Sized, chunk_of, Operations, operate, reduce}
 use Rattle.ada_meaning.specs.Meaning
 use Rattle.ada_meaning.specs.Meaning.{ObjectPart, Env, Course, Chunking, Back, Passed, Returned, outset, with_target, with_handled, inside, variable_root, constant_root, array_root, iterated_env, cut_of, value_cut_of, arms_of, exits, returns, raises, value_of, reason_of, has_handlers, sub_at, moved, object_layout, most_nested, most_threads, most_iterations, most_calls}
 use Rattle.typed_tree.specs.Syntax.{Expr, Static, Variable, Constant, Parameter, Target, Group, Unary, Binary, AndThen, OrElse, Relation, Membership, If, Call, Convert, Reduction, Optional, Absent, Present, Selections, Whole, Field, Index, Actuals, NoActual, In, InOut, Out, CompositeInOut, CompositeOut, Value, Number, Cells, Composite, WholeVariable, WholeConstant, WholeTarget, CompositeIf, Aggregate, Associations, NoAssociation, Association, Iteration, Range, Components, Chunk, NoChunk, Count, Each, Pieces, NoPiece, Text, Image, Padded, Decls, NoDecl, DeclareDefault, DeclareVariable, DeclareConstant, Mentions, Stmt, Null, Assign, CallProcedure, Exit, Return, ReturnValue, Raise, Reraise, IfThen, Case, Loop, For, ParallelFor, Parallel, Block, Put, Get, Stmts, End, Then, Alternatives, NoAlternative, Alternative, Arms, NoArm, Arm, Handlers, NoHandler, Handler, Body, Sub, Program}
-use Rattle.check_effects.specs.Effects.{Roles, unknown, hide, is_one, selector, steps_of, root_name, name, forget, Construct, LoopOf, BlockOf, ReductionOf, Item, Holds, chunk_hidden, course_hidden, chunk_parameter, judging, iterated_hidden, InReducer, InExpr, InOptional, InSelections, InActuals, InValue, InComposite, InAssociations, InCourse, InFilter, InChunk, InPieces, InDecls, InStmt, InAll, InAlternatives, InArm, InHandlers, InBody, InThread, IsDeclared, InSub, InCallee, Selector, Any, a_distance, a_parameter, is_distance, opposite, shifted, by_distance, role}
+use Rattle.check_effects.specs.Effects.{Roles, unknown, hide, is_one, selector, steps_of, root_name, name, forget, Construct, LoopOf, BlockOf, ReductionOf, Item, Holds, chunk_hidden, course_hidden, chunk_parameter, judging, iterated_hidden, InReducer, InExpr, InOptional, InSelections, InActuals, InValue, InComposite, InAssociations, InCourse, InFilter, InChunk, InPieces, InDecls, InStmt, InAll, InAlternatives, InArm, InHandlers, InBody, InThread, IsDeclared, InSub, InCallee, Selector, Any, a_distance, a_parameter, is_distance, opposite, shifted, added, role}
 use Rattle.check_effects.specs.Conflicts.{Fits, Leads, Distinct, LoopsDiffer, Compared, InProgram}
 use Rattle.behaviours.specs.Behaviours
 use Rattle.ada_meaning.specs.Runs
 use Rattle.ada_meaning.specs.Programs.{this}
-use Rattle.check_effects.proofs.Distances.{there}
+use Rattle.check_effects.proofs.Distances.{sum_is, difference_is, there}
 use Rattle.check_effects.proofs.Good.{none_some, some_same, Allowed, MayTouch, Can, Good, Placed, Roomy, Grown, with_object, called, ret_good, leaves_good, spent_good, checks_good, emits_good, look_good, turn_good, recalls_good, takes_good, reads_good, writes_good, choose_good, bind_good, handles_good, through_good, onto_good, elaborates_good, apart_good}
 use Rattle.check_effects.proofs.Teams.{sum, team_good}
 use Rattle.check_effects.proofs.Scenes.{Tie, Suits, leads_append, suits_unknown, suits_forget, suits_inside, suits_handled, suits_target, suits_hide, suits_iterated, suits_item, suits_loop, suits_chunk, suits_root, of_ret, of_leaves, of_bind, of_checks, of_apart, of_elaborates, one_of, Into, part, Exact, exact}
@@ -155,10 +155,13 @@ module _ (program : Program) (fine : Construct → Type 0) where
     most : (s : Scene) (v : ℤ) → Fine s (Meaning.most_of ops v)
     most s v = seq s (unless s (int_lt (pos 0) v) reason.ProgramError) (λ _ _. done s (min (to_nat v) most_threads))
 
+    sign_check : (s : Scene) (g : Sign) (at : ℕ) (class : Class) (v : ℤ) → Fine s (Meaning.sign_checked ops g at class v)
+    sign_check s sign.Minus at class v = check s OverflowCheck at (is_in_base (base_of class) v)
+    sign_check s sign.Abs at class v = check s OverflowCheck at (is_in_base (base_of class) v)
+    sign_check s sign.Not at class v = done s tt
+
     unary_check : (s : Scene) (g : Sign) (at : ℕ) (class : Class) (v : ℤ) → Fine s (Meaning.unary_checked ops g at class v)
-    unary_check s sign.Minus at class v = check s OverflowCheck at (is_in_base (base_of class) v)
-    unary_check s sign.Abs at class v = check s OverflowCheck at (is_in_base (base_of class) v)
-    unary_check s sign.Not at class v = done s tt
+    unary_check s g at class v = choose s (is_modular class) (done s tt) (sign_check s g at class v)
 
     one_run : (s : Scene) (k n first stride : ℕ) (so_far : List ℤ) {f : ℕ → Behaviour Instance (List ℤ)} → ((k : ℕ) → Fine s (f k)) → Fine s (Meaning.run_values ops k n first stride f so_far)
     one_run s k zero first stride so_far r = done s so_far
@@ -257,11 +260,11 @@ module _ (program : Program) (fine : Construct → Type 0) where
           go (Some m) f g = ap neg_ℤ (distance_value env e x c m f) ∙ some_same g
 
       -- an addition or a subtraction that raises nothing gives the sum or the difference
-      sum_value : (at : ℕ) (class : Class) (x y v : ℤ) → Can (operate (Behaviours.doings Instance) Runs.checks op.Add at class x y) v → v ≡ x +ℤ y
-      sum_value at class x y v c = let a = of_bind c in let b = of_bind a.2 in of_ret b.2 ∙ there (base_of class) (x +ℤ y) (of_checks OverflowCheck at (is_some (result op.Add class x y)) b.0 b.1)
+      sum_value : (at : ℕ) (class : Class) (x y v : ℤ) → is_modular class ≡ false → Can (operate (Behaviours.doings Instance) Runs.checks op.Add at class x y) v → v ≡ x +ℤ y
+      sum_value at class x y v e c = let a = of_bind c in let b = of_bind a.2 in of_ret b.2 ∙ ap value_or_zero (sum_is class x y e) ∙ there (base_of class) (x +ℤ y) (sym (ap is_some (sum_is class x y e)) ∙ of_checks OverflowCheck at (is_some (result op.Add class x y)) b.0 b.1)
 
-      difference_value : (at : ℕ) (class : Class) (x y v : ℤ) → Can (operate (Behaviours.doings Instance) Runs.checks op.Sub at class x y) v → v ≡ x -ℤ y
-      difference_value at class x y v c = let a = of_bind c in let b = of_bind a.2 in of_ret b.2 ∙ there (base_of class) (x -ℤ y) (of_checks OverflowCheck at (is_some (result op.Sub class x y)) b.0 b.1)
+      difference_value : (at : ℕ) (class : Class) (x y v : ℤ) → is_modular class ≡ false → Can (operate (Behaviours.doings Instance) Runs.checks op.Sub at class x y) v → v ≡ x -ℤ y
+      difference_value at class x y v e c = let a = of_bind c in let b = of_bind a.2 in of_ret b.2 ∙ ap value_or_zero (difference_is class x y e) ∙ there (base_of class) (x -ℤ y) (sym (ap is_some (difference_is class x y e)) ∙ of_checks OverflowCheck at (is_some (result op.Sub class x y)) b.0 b.1)
 
       shift_fits : (now : Now) (r : Roles) (env : Env) → Suits now r env → (p : Option ℕ) (d : Option ℤ) (v : ℤ) → ((k : ℕ) (n : ℤ) → p ≡ Some k → d ≡ Some n → v ≡ env.parameter k +ℤ n) → Fits now (shifted Any (role r) p d) v
       shift_fits now r env h None d v f = tt
@@ -277,7 +280,7 @@ module _ (program : Program) (fine : Construct → Type 0) where
       index_fits now r env h (Target at scalar) v c = tt
       index_fits now r env h (Group e) v c = tt
       index_fits now r env h (Unary at g class e) v c = tt
-      index_fits now r env h (Binary at o class e f) v c = distant o (of_bind (of_bind c).2).2
+      index_fits now r env h (Binary at o class e f) v c = by_class (is_modular class) refl
         where
           x : ℤ
           x = (of_bind c).0
@@ -295,12 +298,16 @@ module _ (program : Program) (fine : Construct → Type 0) where
           either true s t g h = g
           either false s t g h = h
 
-          distant : (o : Op) → Can (operate (Behaviours.doings Instance) Runs.checks o at class x y) v → Fits now (by_distance Any (role r) o e f) v
-          distant op.Add d = either (is_some (a_parameter e)) _ _
-              (shift_fits now r env h (a_parameter e) (a_distance f) v (λ k n p q. sum_value at class x y v d ∙ ap₂ ◌+ℤ◌ (first k p) (distance_value env f y (of_bind (of_bind c).2).1 n q)))
-              (shift_fits now r env h (a_parameter f) (a_distance e) v (λ k n p q. sum_value at class x y v d ∙ +ℤ_comm x y ∙ ap₂ ◌+ℤ◌ (second k p) (distance_value env e x (of_bind c).1 n q)))
-          distant op.Sub d = shift_fits now r env h (a_parameter e) (opposite (a_distance f)) v (λ k n p q. difference_value at class x y v d ∙ ap₂ ◌+ℤ◌ (first k p) (opposite_value env f y (of_bind (of_bind c).2).1 n q))
-          distant o d = tt
+          distant : (o : Op) → is_modular class ≡ false → Can (operate (Behaviours.doings Instance) Runs.checks o at class x y) v → Fits now (added Any (role r) o e f) v
+          distant op.Add m d = either (is_some (a_parameter e)) _ _
+              (shift_fits now r env h (a_parameter e) (a_distance f) v (λ k n p q. sum_value at class x y v m d ∙ ap₂ ◌+ℤ◌ (first k p) (distance_value env f y (of_bind (of_bind c).2).1 n q)))
+              (shift_fits now r env h (a_parameter f) (a_distance e) v (λ k n p q. sum_value at class x y v m d ∙ +ℤ_comm x y ∙ ap₂ ◌+ℤ◌ (second k p) (distance_value env e x (of_bind c).1 n q)))
+          distant op.Sub m d = shift_fits now r env h (a_parameter e) (opposite (a_distance f)) v (λ k n p q. difference_value at class x y v m d ∙ ap₂ ◌+ℤ◌ (first k p) (opposite_value env f y (of_bind (of_bind c).2).1 n q))
+          distant o m d = tt
+
+          by_class : (b : Bool) → is_modular class ≡ b → Fits now (cond b Any (added Any (role r) o e f)) v
+          by_class true m = tt
+          by_class false m = distant o m (of_bind (of_bind c).2).2
       index_fits now r env h (AndThen e f) v c = tt
       index_fits now r env h (OrElse e f) v c = tt
       index_fits now r env h (Relation class comparison e f) v c = tt
@@ -559,7 +566,7 @@ module _ (program : Program) (fine : Construct → Type 0) where
         eval_good (Parameter at x) s k = done s (s.env.parameter x)
         eval_good (Target at scalar) s k = reads_good program s.asks s.allowed admits (VariableOf s.env.target.object) s.env.target.offset scalar (touched_one program fine k at false s.roles.target refl s.env.target s.suits.target)
         eval_good (Group e) s k = eval_good e s k
-        eval_good (Unary at g class e) s k = seq s (eval_good e s k) (λ v _. seq s (unary_check s g at class (unary g v)) (λ _ _. done s (unary g v)))
+        eval_good (Unary at g class e) s k = seq s (eval_good e s k) (λ v _. seq s (unary_check s g at class (unary g class v)) (λ _ _. done s (unary g class v)))
         eval_good (Binary at op class e f) s k = seq s (eval_good e s (part program fine (λ i h. inl h) k)) (λ x _. seq s (eval_good f s (part program fine (λ i h. inr h) k)) (λ y _. operates s op at class x y))
         eval_good (AndThen e f) s k = seq s (eval_good e s (part program fine (λ i h. inl h) k)) (λ x _. choose s (truth x) (eval_good f s (part program fine (λ i h. inr h) k)) (done s (bit false)))
         eval_good (OrElse e f) s k = seq s (eval_good e s (part program fine (λ i h. inl h) k)) (λ x _. choose s (truth x) (done s (bit true)) (eval_good f s (part program fine (λ i h. inr h) k)))

@@ -10,7 +10,8 @@ use Rattle.ada_base.specs.declared.operation.Op.{Op}
 use Rattle.ada_base.specs.declared.operation.Op.TheVariants as op
 use Rattle.typed_tree.specs.Syntax.{Expr, Static, Variable, Constant, Parameter, Target, Group, Unary, Binary, AndThen, OrElse, Relation, Membership, If, Call, Convert, Reduction, Exprs, NoExpr, AlsoExpr, Optional, Absent, Present, Selections, Whole, Field, Index, Actuals, NoActual, In, InOut, Out, CompositeInOut, CompositeOut, Value, Number, Cells, Composite, WholeVariable, WholeConstant, WholeTarget, CompositeIf, Aggregate, Associations, NoAssociation, Association, Iteration, Range, Components, Chunk, NoChunk, Count, Each, Pieces, NoPiece, Text, Image, Padded, Decls, NoDecl, DeclareDefault, DeclareVariable, DeclareConstant, Mentions, Stmt, Null, Assign, CallProcedure, Exit, Return, ReturnValue, Raise, Reraise, IfThen, Case, Loop, For, ParallelFor, Parallel, Block, Put, Get, Stmts, End, Then, Alternatives, NoAlternative, Alternative, Arms, NoArm, Arm, Handlers, NoHandler, Handler, Body, Sub, Program}
 use Rattle.ada_meaning.specs.Meaning.{sub_at}
-use Rattle.check_effects.specs.Effects.{Selector, At, Fixed, LoopIndex, ChunkIndex, Any, Step, FieldStep, IndexStep, ItemStep, Named, Access, Roles, unknown, other, hide, with_item, is_one, role, a_distance, a_parameter, opposite, shifted, by_distance, selector, steps_of, name, forgotten, forgotten_steps, forget, Construct, LoopOf, BlockOf, ReductionOf, Item, Touches, Calls, Blocks, Holds, chunk_hidden, course_hidden, judging, iterated_hidden, InReducer, InExpr, InExprs, InOptional, InSelections, InActuals, InValue, InComposite, InAssociations, InCourse, InFilter, InChunk, InPieces, InDecls, InStmt, InAll, InAlternatives, InArm, InHandlers, InBody, InThread, InCallee}
+use Rattle.ada_meaning.specs.Values.{is_modular}
+use Rattle.check_effects.specs.Effects.{Selector, At, Fixed, LoopIndex, ChunkIndex, Any, Step, FieldStep, IndexStep, ItemStep, Named, Access, Roles, unknown, other, hide, with_item, is_one, role, a_distance, a_parameter, opposite, shifted, added, selector, steps_of, name, forgotten, forgotten_steps, forget, Construct, LoopOf, BlockOf, ReductionOf, Item, Touches, Calls, Blocks, Holds, chunk_hidden, course_hidden, judging, iterated_hidden, InReducer, InExpr, InExprs, InOptional, InSelections, InActuals, InValue, InComposite, InAssociations, InCourse, InFilter, InChunk, InPieces, InDecls, InStmt, InAll, InAlternatives, InArm, InHandlers, InBody, InThread, InCallee}
 use Rattle.check_effects.specs.Conflicts.{InProgram, IsThreadEffect, path, item_selector}
 use Rattle.check_effects.specs.Covered.{Items, items_in, items_of, goes_through_array, has_items}
 use Rattle.check_effects.proofs.Coordinates.{HasLoop, loop_somewhere, no_loop}
@@ -79,7 +80,7 @@ module _ (r : Roles) (none : r.loop ≡ None) where
   shifted_not (Some k) None = tt
   shifted_not (Some k) (Some d) = role_not k d
 
-  distance_not : (o : Op) (e f : Expr) → NotLoop (by_distance Any (role r) o e f)
+  distance_not : (o : Op) (e f : Expr) → NotLoop (added Any (role r) o e f)
   distance_not op.Add e f = go (is_some (a_parameter e)) _ _ (shifted_not (a_parameter e) (a_distance f)) (shifted_not (a_parameter f) (a_distance e))
     where
       go : (b : Bool) (s t : Selector) → NotLoop s → NotLoop t → NotLoop (cond b s t)
@@ -90,7 +91,11 @@ module _ (r : Roles) (none : r.loop ≡ None) where
 
   selector_not : (e : Expr) → NotLoop (selector r e)
   selector_not (Parameter at k) = role_not k _
-  selector_not (Binary at o class e f) = distance_not o e f
+  selector_not (Binary at o class e f) = go (is_modular class)
+    where
+      go : (b : Bool) → NotLoop (cond b Any (added Any (role r) o e f))
+      go true = tt
+      go false = distance_not o e f
   selector_not e = tt
 
   plain_steps : (g : Selections) → Plain (steps_of r g)

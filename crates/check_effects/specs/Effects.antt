@@ -3,6 +3,8 @@
 use Rattle.std.specs.Prelude.{◌≡◌, ℕ, zero, suc, ℤ, pos, neg_ℤ, int_le, nat_eq, List, [], ◌∷◌, ◌++◌, Option, Some, None, is_some, ◌⊎◌, Bool, true, false, ◌&&◌, cond}
 use Rattle.ada_base.specs.declared.operation.Op.{Op}
 use Rattle.ada_base.specs.declared.operation.Op.TheVariants as op
+use Rattle.typed_tree.specs.declared.scalars.Class.{Class}
+use Rattle.ada_meaning.specs.Values.{is_modular}
 use Rattle.typed_tree.specs.declared.expressions.Root.{Root}
 use Rattle.typed_tree.specs.declared.expressions.Root.TheVariants as root
 use Rattle.typed_tree.specs.declared.expressions.Iterated.{Iterated}
@@ -100,15 +102,19 @@ module _ {S : Type 0} (any : S) (by : ℕ → ℤ → S) where
   shifted (Some k) None = any
   shifted (Some k) (Some n) = by k n
 
-  abbrev pub by_distance : Op → Expr → Expr → S
-  by_distance op.Add e f = cond (is_some (a_parameter e)) (shifted (a_parameter e) (a_distance f)) (shifted (a_parameter f) (a_distance e))
-  by_distance op.Sub e f = shifted (a_parameter e) (opposite (a_distance f))
-  by_distance o e f = any
+  abbrev pub added : Op → Expr → Expr → S
+  added op.Add e f = cond (is_some (a_parameter e)) (shifted (a_parameter e) (a_distance f)) (shifted (a_parameter f) (a_distance e))
+  added op.Sub e f = shifted (a_parameter e) (opposite (a_distance f))
+  added o e f = any
+
+  -- numbers of a modular type lie on a circle
+  abbrev pub by_distance : Op → Class → Expr → Expr → S
+  by_distance o class e f = cond (is_modular class) any (added o e f)
 
 abbrev pub selector : Roles → Expr → Selector
 selector r (Static at value literal mentions) = Fixed value
 selector r (Parameter at k) = role r k (pos 0)
-selector r (Binary at o class e f) = by_distance Any (role r) o e f
+selector r (Binary at o class e f) = by_distance Any (role r) o class e f
 selector r e = Any
 
 abbrev pub steps_of : Roles → Selections → List Step

@@ -4,6 +4,8 @@ use Rattle.std.proofs.Math.ListN.{replicate}
 use Rattle.std.proofs.lemmas.List.{map-append}
 use Rattle.ada_base.specs.declared.operation.Op.{Op}
 use Rattle.ada_base.specs.declared.operation.Op.TheVariants as op
+use Rattle.typed_tree.specs.declared.scalars.Class.{Class}
+use Rattle.ada_meaning.specs.Values.{is_modular}
 use Rattle.typed_tree.specs.declared.expressions.Iterated.{Iterated}
 use Rattle.typed_tree.specs.declared.expressions.Root.{Root}
 use Rattle.typed_tree.specs.declared.expressions.Root.TheVariants as root
@@ -92,10 +94,13 @@ module _ {S T : Type 0} (f : S → T) (g : S → T) (any : S) (by : ℕ → ℤ 
   each_cond true s t h k = h
   each_cond false s t h k = k
 
-  each_by_distance : (o : Op) (d e : Expr) → f (law.by_distance any by o d e) ≡ g (law.by_distance any by o d e)
-  each_by_distance op.Add d e = each_cond (is_some (law.a_parameter d)) _ _ (each_shifted (law.a_parameter d) (law.a_distance e)) (each_shifted (law.a_parameter e) (law.a_distance d))
-  each_by_distance op.Sub d e = each_shifted (law.a_parameter d) (law.opposite (law.a_distance e))
-  each_by_distance o d e = none
+  each_added : (o : Op) (d e : Expr) → f (law.added any by o d e) ≡ g (law.added any by o d e)
+  each_added op.Add d e = each_cond (is_some (law.a_parameter d)) _ _ (each_shifted (law.a_parameter d) (law.a_distance e)) (each_shifted (law.a_parameter e) (law.a_distance d))
+  each_added op.Sub d e = each_shifted (law.a_parameter d) (law.opposite (law.a_distance e))
+  each_added o d e = none
+
+  each_by_distance : (o : Op) (c : Class) (d e : Expr) → f (law.by_distance any by o c d e) ≡ g (law.by_distance any by o c d e)
+  each_by_distance o c d e = each_cond (is_modular c) _ _ none (each_added o d e)
 
 module _ {S T : Type 0} (f : S → T) (any : S) (by : ℕ → ℤ → S) (by' : ℕ → ℤ → T) (same : (k : ℕ) (n : ℤ) → f (by k n) ≡ by' k n) where
   map_shifted : (p : Option ℕ) (d : Option ℤ) → f (law.shifted any by p d) ≡ law.shifted (f any) by' p d
@@ -107,10 +112,13 @@ module _ {S T : Type 0} (f : S → T) (any : S) (by : ℕ → ℤ → S) (by' : 
   map_cond true s t s' t' h k = h
   map_cond false s t s' t' h k = k
 
-  map_by_distance : (o : Op) (d e : Expr) → f (law.by_distance any by o d e) ≡ law.by_distance (f any) by' o d e
-  map_by_distance op.Add d e = map_cond (is_some (law.a_parameter d)) _ _ _ _ (map_shifted (law.a_parameter d) (law.a_distance e)) (map_shifted (law.a_parameter e) (law.a_distance d))
-  map_by_distance op.Sub d e = map_shifted (law.a_parameter d) (law.opposite (law.a_distance e))
-  map_by_distance o d e = refl
+  map_added : (o : Op) (d e : Expr) → f (law.added any by o d e) ≡ law.added (f any) by' o d e
+  map_added op.Add d e = map_cond (is_some (law.a_parameter d)) _ _ _ _ (map_shifted (law.a_parameter d) (law.a_distance e)) (map_shifted (law.a_parameter e) (law.a_distance d))
+  map_added op.Sub d e = map_shifted (law.a_parameter d) (law.opposite (law.a_distance e))
+  map_added o d e = refl
+
+  map_by_distance : (o : Op) (c : Class) (d e : Expr) → f (law.by_distance any by o c d e) ≡ law.by_distance (f any) by' o c d e
+  map_by_distance o c d e = map_cond (is_modular c) _ _ _ _ refl (map_added o d e)
 
 -- ---- names
 
@@ -122,7 +130,7 @@ module _ (p : Surroundings) (r : Roles) (s : Suits p r) where
   same_selector : (e : Expr) → plain (selector p e) ≡ law.selector r e
   same_selector (Static at value literal mentions) = refl
   same_selector (Parameter at k) = same_role k (pos 0)
-  same_selector (Binary at o class e f) = map_by_distance plain selector-of.Any (role p) (law.role r) same_role o e f
+  same_selector (Binary at o class e f) = map_by_distance plain selector-of.Any (role p) (law.role r) same_role o class e f
   same_selector e = refl
 
   same_selections : (x : Selections) (found : List Selector) → map plain (selectors_with p x found) ≡ map plain found ++ path (law.steps_of r x)
@@ -219,7 +227,7 @@ module _ (p : Surroundings) (a : Around p) where
   free_selector : (e : Expr) → law.forgotten (plain (selector p e)) ≡ plain (selector p e)
   free_selector (Static at value literal mentions) = refl
   free_selector (Parameter at k) = free_role k (pos 0)
-  free_selector (Binary at o class e f) = each_by_distance (λ s. law.forgotten (plain s)) plain selector-of.Any (role p) refl free_role o e f
+  free_selector (Binary at o class e f) = each_by_distance (λ s. law.forgotten (plain s)) plain selector-of.Any (role p) refl free_role o class e f
   free_selector e = refl
 
   free_selections : (x : Selections) (found : List Selector) → map law.forgotten (map plain found) ≡ map plain found → map law.forgotten (map plain (selectors_with p x found)) ≡ map plain (selectors_with p x found)

@@ -71,7 +71,7 @@ role env k distance = cond (is_one env.chunk_parameter k) (selector-of.Chunk dis
 abbrev pub selector : Surroundings → Expr → Selector
 selector env (Static at value literal mentions) = selector-of.Fixed value
 selector env (Parameter at k) = role env k (pos 0)
-selector env (Binary at op class e f) = by_distance selector-of.Any (role env) op e f
+selector env (Binary at op class e f) = by_distance selector-of.Any (role env) op class e f
 selector env e = selector-of.Any
 
 -- the selectors of a path with those that a name goes on by

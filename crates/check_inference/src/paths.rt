@@ -3,7 +3,8 @@
 ghost use Rattle.std.specs.Prelude.{◌≡◌, ◌++◌, ◌∷◌, map, replicate, IfOk, OnOk};
 ghost use Rattle.typed_tree.specs.Decoded.{as_selection, chunk_at, expr_at, part_at, selections_at};
 ghost use Rattle.typed_tree.specs.Syntax.{Selections};
-ghost use Rattle.check_effects.specs.Effects.{a_distance, a_parameter, by_distance, is_distance, opposite, shifted};
+ghost use Rattle.ada_meaning.specs.Values.{is_modular};
+ghost use Rattle.check_effects.specs.Effects.{a_distance, a_parameter, added, by_distance, is_distance, opposite, shifted};
 ghost use Rattle.check_clashes.specs.declared.effects.Selector.TheVariants as selector_of;
 ghost use Rattle.check_inference.specs.Paths as spec;
 ghost use Rattle.check_inference.specs.Paths.{bound_of, name_of, place_of};
@@ -11,10 +12,10 @@ ghost use Rattle.check_inference.specs.Words.{path_name};
 
 use crate::environment::{Environment, Item, Named, hide, role, root_named};
 use crate::source::Source;
-use ada_base::{Items, Op};
+use ada_base::{Base, Items, Op};
 use check_clashes::effects::{Path, Selector};
 use std::alloc::AllocError;
-use typed_tree::{Chunk, Expr, Root, Selection};
+use typed_tree::{Chunk, Class, Expr, Root, Selection};
 
 /// The parameter that an expression is.
 fn parameter(source: Source<'_>, id: u32) -> Option<u32>
@@ -74,9 +75,32 @@ fn shifted(env: Environment<'_>, parameter: Option<u32>, distance: Option<i64>) 
     }
 }
 
-/// What an operation of two operands is as an index.
-fn by_distance(source: Source<'_>, env: Environment<'_>, op: Op, left: u32, right: u32) -> Selector
-    ensures { result ≡ by_distance selector_of.Any (spec.role (place_of env.entry)) op (expr_at source.entry.typed.now.nodes left) (expr_at source.entry.typed.now.nodes right) }
+fn is_modular(class: Class) -> bool
+    ensures { result ≡ is_modular class }
+{
+    matches!(class, Class::Integer(Base::Modulo(_)))
+}
+
+/// What an operation of two operands is as an index. Numbers of a modular type lie on a circle.
+fn by_distance(
+    source: Source<'_>,
+    env: Environment<'_>,
+    op: Op,
+    class: Class,
+    left: u32,
+    right: u32,
+) -> Selector
+    ensures { result ≡ by_distance selector_of.Any (spec.role (place_of env.entry)) op class (expr_at source.entry.typed.now.nodes left) (expr_at source.entry.typed.now.nodes right) }
+{
+    if is_modular(class) {
+        Selector::Any
+    } else {
+        added(source, env, op, left, right)
+    }
+}
+
+fn added(source: Source<'_>, env: Environment<'_>, op: Op, left: u32, right: u32) -> Selector
+    ensures { result ≡ added selector_of.Any (spec.role (place_of env.entry)) op (expr_at source.entry.typed.now.nodes left) (expr_at source.entry.typed.now.nodes right) }
 {
     match op {
         Op::Add => {
@@ -101,10 +125,11 @@ fn index(source: Source<'_>, env: Environment<'_>, id: u32) -> Selector
         Expr::Parameter { parameter, .. } => role(env, parameter, 0),
         Expr::Binary {
             op,
+            class,
             left,
             right,
             ..
-        } => by_distance(source, env, op, left, right),
+        } => by_distance(source, env, op, class, left, right),
         _ => Selector::Any,
     }
 }
