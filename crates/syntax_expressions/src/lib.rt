@@ -18,7 +18,7 @@ mod ranges;
 mod squares;
 
 pub use aggregates::{choice, next_choice};
-pub use expressions::{expr, name};
+pub use expressions::{expr, name, simple};
 pub use iterations::{filter, iter, parallel};
 pub use levels::{below, chunk, opens};
 pub use parser::Parser;

@@ -4,11 +4,11 @@ use Rattle.syntax_readers.specs.Readers.{Reader, ◌>>=◌, ◌>>◌, pure, symb
 use Rattle.syntax_readers.specs.Loops.{grown}
 use Rattle.ada_base.specs.Kinds as kind
 use Rattle.syntax_tree.specs.Joining.{list_and}
-use Rattle.syntax_tree.specs.Syntax.{Expr, Range, Ids, Indic, Mark, RangeMark, Array, Comp, ObjectType, Indicated, Anonymous, Definition, RangeType, ArrayType, RecordType, Decl, ObjectDecl, NumberDecl, ExceptionDecl, TypeDecl, SubtypeDecl, Formal, Formals}
+use Rattle.syntax_tree.specs.Syntax.{Expr, Range, Ids, Indic, Mark, RangeMark, Array, Comp, ObjectType, Indicated, Anonymous, Definition, RangeType, ArrayType, RecordType, Decl, ObjectDecl, NumberDecl, ExceptionDecl, TypeDecl, SubtypeDecl, Formal, Formals, ModularType}
 use Rattle.syntax_tree.specs.declared.operators.Mode.{Mode}
 use Rattle.syntax_tree.specs.declared.operators.Mode.TheVariants as mode'
 use Rattle.syntax_grammar.specs.Brackets.{constraint, range}
-use Rattle.syntax_grammar.specs.Expressions.{expr}
+use Rattle.syntax_grammar.specs.Expressions.{expr, simple}
 use Rattle.syntax_grammar.specs.Levels.{levels}
 use Rattle.syntax_grammar.specs.Read.{Indexes}
 
@@ -83,11 +83,15 @@ module _ (n : ℕ) where
   record_type = symbol kind.record_word >> (comp >>= λ c. grown list_and [] (kind.identifier ∷ []) comp >>= λ cs.
       symbol kind.end_word >> (symbol kind.record_word >> pure (RecordType c cs)))
 
+  unfoldable pub modular_type : Reader Definition
+  modular_type = symbol kind.mod_word >> (simple (levels n) >>= λ m. pure (ModularType m))
+
   unfoldable pub definition : Reader Definition
   definition =
       by_next (kind.range_word ∷ []) (constraint (levels n) >>= λ b. pure (RangeType b.0 b.1))
+      (by_next (kind.mod_word ∷ []) modular_type
       (by_next (kind.array_word ∷ []) (array >>= λ a. pure (ArrayType a))
-      record_type)
+      record_type))
 
   unfoldable pub type_decl : Reader Decl
   type_decl = symbol kind.type_word >>= λ at. symbol kind.identifier >>= λ m. symbol kind.is_word >> (definition >>= λ d. symbol kind.semicolon >> pure (TypeDecl at m d))

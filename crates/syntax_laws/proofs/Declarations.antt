@@ -11,7 +11,7 @@ use Rattle.syntax_readers.proofs.Chains.{items, list_grows}
 use Rattle.syntax_readers.proofs.Forms.{from, to_left, to_right, without_before, without_after, at_second, either, form, keep, skip, lead, last}
 use Rattle.syntax_readers.proofs.Samples.{sample_free, sample_none, sample_both, sample_leaf, kind_is, first_free, begins_free, sample_of}
 use Rattle.ada_base.specs.Kinds as kind
-use Rattle.syntax_tree.specs.Syntax.{Expr, Simple, Whole, Ids, Indic, Mark, RangeMark, Array, Comp, ObjectType, Indicated, Anonymous, Definition, RangeType, ArrayType, RecordType, Decl, ObjectDecl, NumberDecl, ExceptionDecl, TypeDecl, SubtypeDecl}
+use Rattle.syntax_tree.specs.Syntax.{Expr, Simple, Whole, Ids, Indic, Mark, RangeMark, Array, Comp, ObjectType, Indicated, Anonymous, Definition, RangeType, ArrayType, RecordType, Decl, ObjectDecl, NumberDecl, ExceptionDecl, TypeDecl, SubtypeDecl, ModularType}
 use Rattle.syntax_tree.specs.Patterns.{Spelling, free, each_of, each_of_after, optional_of_after, ◌then◌}
 use Rattle.syntax_tree.specs.Productions as spell
 use Rattle.syntax_grammar.specs.Levels.{levels}
@@ -23,6 +23,7 @@ use Rattle.syntax_grammar.specs.Declarations.{decl_kinds}
 use Rattle.syntax_laws.proofs.Words.{Words, After, maybe_after, each_listed, each_after_listed}
 use Rattle.syntax_laws.proofs.Bares.{name_for, alone_identifier}
 use Rattle.syntax_laws.proofs.Openings.{Opening, round_sets, simple_sets, expr_sets}
+use Rattle.syntax_laws.proofs.Sums.{rule_simple}
 use Rattle.syntax_laws.proofs.Relations.{rule_expr}
 use Rattle.syntax_laws.proofs.Associations as association
 use Rattle.syntax_laws.proofs.Associations.{range_sets}
@@ -150,18 +151,29 @@ module _ (limit n depth : ℕ) (levelled : n + depth ≡ limit) where
       skip (one kind.end_word) (last (RecordType c cs) (one kind.record_word)) refl) refl) refl) refl)
       (λ x w l. l) (λ x w l. l) refl
 
-  split_definition : (x : Definition) (w : Word) → Words spell.definition depth x w
-      → Or (Image (λ (b : Simple × Simple). RangeType b.0 b.1) Constraint) (Or (Image ArrayType (Words spell.array depth)) RecordWords) x w
-  split_definition (RangeType low high) w l = inl ((low, high), refl, l)
-  split_definition (ArrayType a) w l = inr (inl (a, refl, l))
-  split_definition (RecordType c cs) w l = inr (inr ((c, (cs, tt)), refl, l))
+  simple : Rule limit simple_sets (Words spell.simple depth) (base.simple (levels n))
+  simple = rule_simple limit depth within (levels n) below
 
-  rule_definition : Rule limit (record { first = kind.range_word ∷ kind.array_word ∷ kind.record_word ∷ []; nullable = false; follow_last = indic_sets.follow_last }) (Words spell.definition depth) (reader.definition n)
+  abbrev ModularWords : Definition → Language
+  ModularWords = Image ModularType (λ m. Quoted depth kind.mod_word ⋅ Words spell.simple depth m)
+
+  rule_modular : Rule limit (record { first = kind.mod_word ∷ []; nullable = false; follow_last = simple_sets.follow_last }) ModularWords (reader.modular_type n)
+  unfolding reader.modular_type
+  rule_modular = is _ ModularWords (skip (one kind.mod_word) (to ModularType simple) refl) (λ x w l. l) (λ x w l. l) refl
+
+  split_definition : (x : Definition) (w : Word) → Words spell.definition depth x w
+      → Or (Image (λ (b : Simple × Simple). RangeType b.0 b.1) Constraint) (Or ModularWords (Or (Image ArrayType (Words spell.array depth)) RecordWords)) x w
+  split_definition (RangeType low high) w l = inl ((low, high), refl, l)
+  split_definition (ModularType m) w l = inr (inl (m, refl, l))
+  split_definition (ArrayType a) w l = inr (inr (inl (a, refl, l)))
+  split_definition (RecordType c cs) w l = inr (inr (inr ((c, (cs, tt)), refl, l)))
+
+  rule_definition : Rule limit (record { first = kind.range_word ∷ kind.mod_word ∷ kind.array_word ∷ kind.record_word ∷ []; nullable = false; follow_last = indic_sets.follow_last }) (Words spell.definition depth) (reader.definition n)
   unfolding reader.definition
   rule_definition =
       is _ (Words spell.definition depth)
-      (or (kind.range_word ∷ []) (to (λ (b : Simple × Simple). RangeType b.0 b.1) constraint) (or (kind.array_word ∷ []) (to ArrayType rule_array) rule_record.exact refl refl refl).exact refl refl refl)
-      (either (form (Words spell.definition depth) (λ b w l. l)) (either (form (Words spell.definition depth) (λ b w l. l)) (form (Words spell.definition depth) (λ b w l. l)))) split_definition refl
+      (or (kind.range_word ∷ []) (to (λ (b : Simple × Simple). RangeType b.0 b.1) constraint) (or (kind.mod_word ∷ []) rule_modular (or (kind.array_word ∷ []) (to ArrayType rule_array) rule_record.exact refl refl refl).exact refl refl refl).exact refl refl refl)
+      (either (form (Words spell.definition depth) (λ b w l. l)) (either (form (Words spell.definition depth) (λ b w l. l)) (either (form (Words spell.definition depth) (λ b w l. l)) (form (Words spell.definition depth) (λ b w l. l))))) split_definition refl
 
   abbrev TypeWords : Decl → Language
   TypeWords =

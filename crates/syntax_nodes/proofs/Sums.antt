@@ -62,6 +62,7 @@ same_node at (node.One (one.While _) a) = refl
 same_node at (node.One one.CallStmt a) = refl
 same_node at (node.One (one.Exit _ _) a) = refl
 same_node at (node.One (one.Return _) a) = refl
+same_node at (node.One one.ModularType a) = refl
 same_node at (node.One (one.Raise _) a) = refl
 same_node at (node.One (one.Bracketed _) a) = refl
 same_node at (node.Two (two.Compared _ _) b a) = refl

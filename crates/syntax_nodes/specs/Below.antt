@@ -181,6 +181,7 @@ ObjectTypeBelow k (object_type'.Anonymous n) = n ≤ k
 abbrev pub DefinitionBelow : ℕ → Definition → Type 0
 DefinitionBelow k (definition'.ArrayType n) = n ≤ k
 DefinitionBelow k (definition'.RangeType low high) = (low ≤ k) × (high ≤ k)
+DefinitionBelow k (definition'.ModularType n) = n < k
 DefinitionBelow k (definition'.RecordType first more) = (first < k) × (more < k)
 
 abbrev pub DeclBelow : ℕ → Decl → Type 0

@@ -67,6 +67,7 @@ value_one (one.Declare at) a = OfDeclare (record { at = at; decls = the_decls a 
 value_one (one.While at) a = OfScheme (syntax.While at (the_expr a))
 value_one one.CallStmt a = OfStmt (syntax.CallStmt (the_name a))
 value_one (one.Exit at from) a = OfStmt (syntax.Exit at from (maybe_expr a))
+value_one one.ModularType a = OfDefinition (syntax.ModularType (the_simple a))
 value_one (one.Return at) a = OfStmt (syntax.Return at (maybe_expr a))
 value_one (one.Raise at) a = OfStmt (syntax.Raise at (maybe_pack a))
 value_one (one.Bracketed bracket) a = OfBracketed (record { bracket = bracket; value = the_expr a })

@@ -200,6 +200,7 @@ of_object_type at (object_type'.Anonymous n) = syntax.Anonymous (the_array (at n
 abbrev pub of_definition : (ℕ → TreePart) → Definition → syntax.Definition
 of_definition at (definition'.ArrayType n) = syntax.ArrayType (the_array (at n))
 of_definition at (definition'.RangeType low high) = syntax.RangeType (the_simple (at low)) (the_simple (at high))
+of_definition at (definition'.ModularType n) = syntax.ModularType (the_simple (at n))
 of_definition at (definition'.RecordType first more) = syntax.RecordType (the_comp (at first)) (the_comps (at more))
 
 abbrev pub of_decl : (ℕ → TreePart) → Decl → syntax.Decl

@@ -59,6 +59,8 @@ pub enum Definition {
     ArrayType(u32),
     /// `"range" simple ".." simple` (3.5.4)
     RangeType { low: u32, high: u32 },
+    /// `"mod" simple` (3.5.4)
+    ModularType(u32),
     /// `"record" comp {comp} "end" "record"`
     RecordType { first: u32, more: u32 },
 }
@@ -190,6 +192,7 @@ impl Tree {
     {
         match self.node(number) {
             Node::Two(Two::RangeType, low, high) => Definition::RangeType { low, high },
+            Node::One(One::ModularType, modulus) => Definition::ModularType(modulus),
             Node::Two(Two::RecordType, first, more) => Definition::RecordType { first, more },
             Node::Three(Three::Array(_), _, _, _) => Definition::ArrayType(number),
             _ => Definition::RangeType {

@@ -67,6 +67,8 @@ pub enum One {
     Name(u32),
     /// `id "=>" expr`, of the expression.
     NamedArg(u32),
+    /// `"mod" simple` as a definition, of the sum.
+    ModularType,
     /// `"parallel" "(" simple ")"`, of the sum.
     Counted(u32),
     /// `"parallel" "(" id "in" range ")"`, of the range.

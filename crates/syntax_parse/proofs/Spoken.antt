@@ -1,6 +1,6 @@
 -- What a program spells can be told apart where a space stands between two tokens, rule by rule.
 use Rattle.std.proofs.Common.{◌≡◌, ℕ, map, length, [], ◌++◌, ◌∷◌, true, List, Option, Some, None, refl, sym, ap, ◌∙◌, subst}
-use Rattle.syntax_tree.specs.Syntax.{Expr, Single, Joined, Conjunct, conjunct, Conjuncts, NoConjunct, AlsoConjunct, Rel, Alone, Compared, Within, OfMark, Simple, Sum, Adding, adding, Addings, NoAdding, AlsoAdding, Term, Product, Multiplying, multiplying, Multiplyings, NoMultiplying, AlsoMultiplying, Factor, Operand, Power, Abs, Not, Primary, Number, Text, Target, Named, Group, If, Round, Square, OneValue, Reduction, Elsif, elsif, Elsifs, NoElsif, AlsoElsif, Exprs, NoExpr, AlsoExpr, OptionalExpr, AbsentExpr, PresentExpr, Name, name, NamePart, Field, Call, Attribute, RangeAttribute, NameParts, NoPart, AlsoPart, Arg, arg, Args, NoArg, AlsoArg, Range, Bounded, Whole, Constrained, Choice, Value, Span, Others, Choices, NoChoice, AlsoChoice, Many, Positions, PositionsOthers, FirstOthers, Associations, Assoc, Chosen, Each, Assocs, NoAssoc, AlsoAssoc, Parallel, Unchunked, Counted, Chunked, OptionalParallel, AbsentParallel, PresentParallel, Iter, InRange, OfName, Ids, Indic, Mark, RangeMark, Array, Comp, ObjectType, Indicated, Anonymous, Definition, RangeType, ArrayType, RecordType, Decl, ObjectDecl, NumberDecl, ExceptionDecl, TypeDecl, SubtypeDecl, Formal, Formals, Pack, Declare, Scheme, While, For, Handled, AnyOther, These, Stmt, Null, Assign, CallStmt, Exit, Return, Raise, IfStmt, Case, Loop, Block, ParallelBlock, Stmts, stmts, MoreStmts, NoStmt, AlsoStmt, OptionalStmts, AbsentStmts, PresentStmts, Arm, arm, Arms, NoArm, AlsoArm, Alt, alt, Alts, NoAlt, AlsoAlt, Branches, NoBranch, AlsoBranch, Body, body, Handler, handler, Handlers, NoHandler, AlsoHandler, Aspect, Sub, Procedure, Function, ExprFunction, Unit', DeclUnit, SubUnit, Policy, Clause, Main, Program}
+use Rattle.syntax_tree.specs.Syntax.{Expr, Single, Joined, Conjunct, conjunct, Conjuncts, NoConjunct, AlsoConjunct, Rel, Alone, Compared, Within, OfMark, Simple, Sum, Adding, adding, Addings, NoAdding, AlsoAdding, Term, Product, Multiplying, multiplying, Multiplyings, NoMultiplying, AlsoMultiplying, Factor, Operand, Power, Abs, Not, Primary, Number, Text, Target, Named, Group, If, Round, Square, OneValue, Reduction, Elsif, elsif, Elsifs, NoElsif, AlsoElsif, Exprs, NoExpr, AlsoExpr, OptionalExpr, AbsentExpr, PresentExpr, Name, name, NamePart, Field, Call, Attribute, RangeAttribute, NameParts, NoPart, AlsoPart, Arg, arg, Args, NoArg, AlsoArg, Range, Bounded, Whole, Constrained, Choice, Value, Span, Others, Choices, NoChoice, AlsoChoice, Many, Positions, PositionsOthers, FirstOthers, Associations, Assoc, Chosen, Each, Assocs, NoAssoc, AlsoAssoc, Parallel, Unchunked, Counted, Chunked, OptionalParallel, AbsentParallel, PresentParallel, Iter, InRange, OfName, Ids, Indic, Mark, RangeMark, Array, Comp, ObjectType, Indicated, Anonymous, Definition, RangeType, ArrayType, RecordType, Decl, ObjectDecl, NumberDecl, ExceptionDecl, TypeDecl, SubtypeDecl, Formal, Formals, Pack, Declare, Scheme, While, For, Handled, AnyOther, These, Stmt, Null, Assign, CallStmt, Exit, Return, Raise, IfStmt, Case, Loop, Block, ParallelBlock, Stmts, stmts, MoreStmts, NoStmt, AlsoStmt, OptionalStmts, AbsentStmts, PresentStmts, Arm, arm, Arms, NoArm, AlsoArm, Alt, alt, Alts, NoAlt, AlsoAlt, Branches, NoBranch, AlsoBranch, Body, body, Handler, handler, Handlers, NoHandler, AlsoHandler, Aspect, Sub, Procedure, Function, ExprFunction, Unit', DeclUnit, SubUnit, Policy, Clause, Main, Program, ModularType}
 use Rattle.ada_base.specs.Kinds as kind
 use Rattle.syntax_tree.specs.declared.operators.Logical.{Logical}
 use Rattle.syntax_tree.specs.declared.operators.Logical.TheVariants as logical
@@ -215,6 +215,7 @@ says-object_type (Anonymous a) = says-array a
 
 pub says-definition : (x : Definition) → Says (spelled.definition x)
 says-definition (RangeType low high) = and (plain kind.range_word refl) (and (says-simple low) (and (plain kind.dots refl) (says-simple high)))
+says-definition (ModularType m) = and (plain kind.mod_word refl) (says-simple m)
 says-definition (ArrayType a) = says-array a
 says-definition (RecordType first more) = and (plain kind.record_word refl) (and (says-comp first) (and (each more says-comp) (and (plain kind.end_word refl) (plain kind.record_word refl))))
 

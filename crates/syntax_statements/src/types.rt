@@ -9,10 +9,10 @@ ghost use Rattle.syntax_nodes.specs.Stack.{parts};
 use crate::chains::{Chain, list};
 use crate::names::ids;
 use ada_base::kinds::{
-    ARRAY, CLOSE_ROUND, COLON, COMMA, END, IDENTIFIER, IS, OF, OPEN_ROUND, RANGE, RECORD,
+    ARRAY, CLOSE_ROUND, COLON, COMMA, END, IDENTIFIER, IS, MOD, OF, OPEN_ROUND, RANGE, RECORD,
     SEMICOLON, SUBTYPE, TYPE,
 };
-use syntax_expressions::{Parser, below, constraint, opens, range};
+use syntax_expressions::{Parser, below, constraint, opens, range, simple};
 use syntax_nodes::{Leaf, One, Three, Two, leaf, one, three, two};
 use syntax_readers::Failure;
 
@@ -110,6 +110,16 @@ pub fn record_type(parser: &mut Parser<'_>, levels: u32) -> Result<(), Failure>
     two(&mut parser.out, Two::RecordType)
 }
 
+/// A modular type definition (3.5.4).
+#[tactic(auto, unfolding(syntax_grammar::specs::Declarations::modular_type))]
+fn modular_type(parser: &mut Parser<'_>, levels: u32) -> Result<(), Failure>
+    ensures { Reads the_definition IsPart (parts parser.old.out) (declarations.modular_type levels parser.old.tokens) result parser.new.tokens (parts parser.new.out) }
+{
+    parser.tokens.take(MOD)?;
+    simple(parser, levels)?;
+    one(&mut parser.out, One::ModularType)
+}
+
 /// A type definition (3.2.1).
 #[cycle(list)]
 #[tactic(auto, unfolding(syntax_grammar::specs::Declarations::definition))]
@@ -121,6 +131,7 @@ pub fn definition(parser: &mut Parser<'_>, levels: u32) -> Result<(), Failure>
             constraint(parser, levels)?;
             two(&mut parser.out, Two::RangeType)
         }
+        MOD => modular_type(parser, levels),
         ARRAY => array(parser, levels),
         _ => record_type(parser, levels),
     }

@@ -1,6 +1,6 @@
 -- The grammar (Annex P): what each part of a program spells, rule by rule.
 use Rattle.std.specs.Prelude.{ℕ}
-use Rattle.syntax_tree.specs.Syntax.{Expr, Single, Joined, Conjunct, conjunct, Conjuncts, NoConjunct, AlsoConjunct, Rel, Alone, Compared, Within, OfMark, Simple, Sum, Adding, adding, Addings, NoAdding, AlsoAdding, Term, Product, Multiplying, multiplying, Multiplyings, NoMultiplying, AlsoMultiplying, Factor, Operand, Power, Abs, Not, Primary, Number, Text, Target, Named, Group, If, Round, Square, OneValue, Reduction, Elsif, elsif, Elsifs, NoElsif, AlsoElsif, Exprs, NoExpr, AlsoExpr, OptionalExpr, AbsentExpr, PresentExpr, Name, name, NamePart, Field, Call, Attribute, RangeAttribute, NameParts, NoPart, AlsoPart, Arg, arg, Args, NoArg, AlsoArg, Range, Bounded, Whole, Constrained, Choice, Value, Span, Others, Choices, NoChoice, AlsoChoice, Many, Positions, PositionsOthers, FirstOthers, Associations, Assoc, Chosen, Each, Assocs, NoAssoc, AlsoAssoc, Parallel, Unchunked, Counted, Chunked, OptionalParallel, AbsentParallel, PresentParallel, Iter, InRange, OfName, Ids, Indic, Mark, RangeMark, Array, Comp, ObjectType, Indicated, Anonymous, Definition, RangeType, ArrayType, RecordType, Decl, ObjectDecl, NumberDecl, ExceptionDecl, TypeDecl, SubtypeDecl, Formal, Formals, Pack, Declare, Scheme, While, For, Handled, AnyOther, These, Stmt, Null, Assign, CallStmt, Exit, Return, Raise, IfStmt, Case, Loop, Block, ParallelBlock, Stmts, stmts, MoreStmts, NoStmt, AlsoStmt, OptionalStmts, AbsentStmts, PresentStmts, Arm, arm, Arms, NoArm, AlsoArm, Alt, alt, Alts, NoAlt, AlsoAlt, Branches, NoBranch, AlsoBranch, Body, body, Handler, handler, Handlers, NoHandler, AlsoHandler, Aspect, Sub, Procedure, Function, ExprFunction, Unit', DeclUnit, SubUnit, Policy, Clause, Main, Program}
+use Rattle.syntax_tree.specs.Syntax.{Expr, Single, Joined, Conjunct, conjunct, Conjuncts, NoConjunct, AlsoConjunct, Rel, Alone, Compared, Within, OfMark, Simple, Sum, Adding, adding, Addings, NoAdding, AlsoAdding, Term, Product, Multiplying, multiplying, Multiplyings, NoMultiplying, AlsoMultiplying, Factor, Operand, Power, Abs, Not, Primary, Number, Text, Target, Named, Group, If, Round, Square, OneValue, Reduction, Elsif, elsif, Elsifs, NoElsif, AlsoElsif, Exprs, NoExpr, AlsoExpr, OptionalExpr, AbsentExpr, PresentExpr, Name, name, NamePart, Field, Call, Attribute, RangeAttribute, NameParts, NoPart, AlsoPart, Arg, arg, Args, NoArg, AlsoArg, Range, Bounded, Whole, Constrained, Choice, Value, Span, Others, Choices, NoChoice, AlsoChoice, Many, Positions, PositionsOthers, FirstOthers, Associations, Assoc, Chosen, Each, Assocs, NoAssoc, AlsoAssoc, Parallel, Unchunked, Counted, Chunked, OptionalParallel, AbsentParallel, PresentParallel, Iter, InRange, OfName, Ids, Indic, Mark, RangeMark, Array, Comp, ObjectType, Indicated, Anonymous, Definition, RangeType, ArrayType, RecordType, Decl, ObjectDecl, NumberDecl, ExceptionDecl, TypeDecl, SubtypeDecl, Formal, Formals, Pack, Declare, Scheme, While, For, Handled, AnyOther, These, Stmt, Null, Assign, CallStmt, Exit, Return, Raise, IfStmt, Case, Loop, Block, ParallelBlock, Stmts, stmts, MoreStmts, NoStmt, AlsoStmt, OptionalStmts, AbsentStmts, PresentStmts, Arm, arm, Arms, NoArm, AlsoArm, Alt, alt, Alts, NoAlt, AlsoAlt, Branches, NoBranch, AlsoBranch, Body, body, Handler, handler, Handlers, NoHandler, AlsoHandler, Aspect, Sub, Procedure, Function, ExprFunction, Unit', DeclUnit, SubUnit, Policy, Clause, Main, Program, ModularType}
 use Rattle.ada_base.specs.Kinds as kind
 use Rattle.syntax_tree.specs.Patterns.{Spelling, held, free, ◌then◌, nothing, optional_of, optional_of_after, each_of, each_of_after, inside}
 use Rattle.syntax_tree.specs.declared.operators.Logical.{Logical}
@@ -254,6 +254,7 @@ object_type (Anonymous a) = array a
 
 abbrev pub definition : Definition → Spelling
 definition (RangeType low high) = free kind.range_word then simple low then free kind.dots then simple high
+definition (ModularType modulus) = free kind.mod_word then simple modulus
 definition (ArrayType a) = array a
 definition (RecordType first more) =
     free kind.record_word then comp first then each_of comp more then free kind.end_word then free kind.record_word

@@ -200,9 +200,10 @@ pub data ObjectType : Type 0 where
   Indicated : Indic → ObjectType
   Anonymous : Array → ObjectType
 
--- "range" simple ".." simple | array | "record" comp {comp} "end" "record"
+-- "range" simple ".." simple | "mod" simple | array | "record" comp {comp} "end" "record"
 pub data Definition : Type 0 where
   RangeType : (low high : Simple) → Definition
+  ModularType : (modulus : Simple) → Definition
   ArrayType : Array → Definition
   RecordType : (first : Comp) (more : List Comp) → Definition
 

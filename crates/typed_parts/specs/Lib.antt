@@ -1,4 +1,5 @@
 pub mod ClassChains
+pub mod DigitChains
 pub mod IndexChains
 pub mod Lists
 pub mod Looks

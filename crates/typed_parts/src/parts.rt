@@ -7,6 +7,7 @@ ghost use Rattle.typed_tree.specs.Latest.{pop, top};
 ghost use Rattle.typed_parts.specs.Stack.{parts, IsLatest};
 
 mod bodies;
+mod digits;
 mod expressions;
 mod finishing;
 mod indexes;

@@ -178,7 +178,7 @@ impl Parts {
     }
 
     /// The expression of a number.
-    fn expr(&self, id: u32) -> Expr
+    pub(super) fn expr(&self, id: u32) -> Expr
         ensures { (as_expr (part_at self.now.nodes id) ≡ of_expr (part_at self.now.nodes) result) × ExprBelow id result }
     {
         match self.node(id) {
