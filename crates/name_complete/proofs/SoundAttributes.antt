@@ -5,7 +5,7 @@ use Rattle.ada_base.specs.declared.operation.Op.TheVariants as op
 use Rattle.ada_base.specs.declared.operation.Op.{Op}
 use Rattle.typed_tree.specs.Decoded.{TypedPart, as_expr}
 use Rattle.name_rules.specs.Expressions.{Inside}
-use Rattle.name_rules.specs.Found.{Denoted, Found, denote}
+use Rattle.name_rules.specs.Found.{Denoted, Found, denote, scalar, static, value_denoted}
 use Rattle.name_rules.specs.Judging.{◌>>=◌, fault, given, read}
 use Rattle.name_rules.specs.Values as v
 use Rattle.name_rules.specs.Values.{asked, first_of, is_number}
@@ -28,8 +28,10 @@ use Rattle.typed_tree.specs.Syntax.{Expr as TypedExpr}
 use Rattle.name_rules.specs.Attributes as a
 use Rattle.name_rules.specs.Calls.{arg_names, operands}
 use Rattle.name_rules.specs.Names.{wrong_call}
+use Rattle.name_rules.specs.Operators.{limit_of}
+use Rattle.typed_tree.specs.Decoded as part
 use Rattle.name_rules.specs.TypedParts.{also_all}
-use Rattle.name_rules.specs.Types.{is_integer}
+use Rattle.name_rules.specs.Types.{is_integer, is_modular}
 use Rattle.name_rules.specs.Found.{parameter_found}
 use Rattle.name_rules.specs.declared.found.Attribute.TheVariants as attribute'
 use Rattle.name_rules.specs.declared.found.Attribute.{Attribute}
@@ -44,11 +46,18 @@ wrong G at = s-fault G (Is DenotedOf) at rule.WrongType
 
 pub s-attribute_found : (G : Type 0) (d : Denoted) (at : ℕ) (x : Option Attribute) → Sound G (Is DenotedOf) (a.attribute_found d at x)
 s-attribute_found G d at None = s-fault G (Is DenotedOf) at rule.Unknown
-s-attribute_found G d at (Some x) = s-some G DenotedOf _ (λ g. tt)
+s-attribute_found G d at (Some x) = s-if G (Is DenotedOf) (a.is_left_out (a.prefix_of d.known) x) _ _ (s-fault G (Is DenotedOf) at rule.Unknown) (s-some G DenotedOf _ (λ g. tt))
+
+bound-found : (first : ℕ) (k : Kind) (z : ℤ) → DenotedOf (value_denoted (a.bound_found first k z))
+bound-found first k z = go (is_modular k)
+  where
+    go : (b : Bool) → DenotedOf (value_denoted (if b then scalar first k None (limit_of first z) else static first k z part.Nothing))
+    go true = tt
+    go false = tt
 
 s-scalar_bound : (G : Type 0) (first : ℕ) (s : Scalar) (x : Attribute) → Sound G (Is DenotedOf) (a.scalar_bound first s x)
-s-scalar_bound G first s attribute'.First = s-some G DenotedOf _ (λ g. tt)
-s-scalar_bound G first s attribute'.Last = s-some G DenotedOf _ (λ g. tt)
+s-scalar_bound G first s attribute'.First = s-some G DenotedOf _ (λ g. bound-found first s.kind s.low)
+s-scalar_bound G first s attribute'.Last = s-some G DenotedOf _ (λ g. bound-found first s.kind s.high)
 s-scalar_bound G first s x = wrong G first
 
 s-dimension_bound : (G : Type 0) (first : ℕ) (ms : TypedPart) (x : Attribute) (d : Dimension) → Sound G (Is DenotedOf) (a.dimension_bound first ms x d)

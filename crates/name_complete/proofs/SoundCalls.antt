@@ -174,7 +174,7 @@ s-operands G names inside here done (syntax.AlsoArg (syntax.arg name e) as') l c
 
 s-converted : (G : Type 0) (first : ℕ) (s : Scalar) (f : Found) → Sound G (Is DenotedOf) (a.converted first s f)
 s-converted G first s f =
-    s-if G (Is DenotedOf) (is_number f.known) _ _ (s-bind G (Is Any) (Is DenotedOf) (v.settled_found f) _ (s-settled_found G f) (λ e. s-given _ Any DenotedOf e _ (λ g. g.1) (λ x. s-some _ DenotedOf (a.conversion_of first s x) (λ g. tt))))
+    s-if G (Is DenotedOf) (is_number f.known) _ _ (s-bind G (Is Any) (Is DenotedOf) (v.settled_found f) _ (s-settled_found G f) (λ e. s-given _ Any DenotedOf e _ (λ g. g.1) (λ x. s-some _ DenotedOf (a.conversion_of first (v.own_kind f.known) s x) (λ g. tt))))
     (wrong G (first_of f.known))
 
 s-one_operand : (G : Type 0) (bracket first : ℕ) (s : Scalar) (ns : List (Option ℕ)) (fs : List Found) → Sound G (Is DenotedOf) (a.one_operand bracket first s ns fs)

@@ -9,7 +9,7 @@ use Rattle.typed_tree.specs.Decoded as part
 use Rattle.typed_tree.specs.Decoded.{TypedPart}
 use Rattle.name_rules.specs.Declarations as d
 use Rattle.name_rules.specs.Declarations.{Building, Dimensions, Indicated, Initial, all_ids, indicated}
-use Rattle.name_rules.specs.Expressions.{Inside, expr, judged_alone}
+use Rattle.name_rules.specs.Expressions.{Inside, expr, judged_alone, simple}
 use Rattle.name_rules.specs.Found.{Found}
 use Rattle.name_rules.specs.Judging.{◌>>=◌, both, fault, given, joined, pure, read, unless}
 use Rattle.name_rules.specs.Operators.{both_mentions}
@@ -17,8 +17,8 @@ use Rattle.name_rules.specs.Ranges.{both_static, static_range, two_bounds}
 use Rattle.name_rules.specs.Scope.{as_scalar, declared, free, hidden_where, subtype_named}
 use Rattle.name_rules.specs.Symbols.{symbol}
 use Rattle.name_rules.specs.TypedParts.{also_all}
-use Rattle.name_rules.specs.Types.{array_cells, cells_in, in_base, lies_in, number_of, saturated, wanted_of, written_shape}
-use Rattle.name_rules.specs.Values.{first_of, stored}
+use Rattle.name_rules.specs.Types.{array_cells, cells_in, in_base, lies_in, number_of, saturated, wanted_of, written_shape, kept}
+use Rattle.name_rules.specs.Values.{first_of, stored, mentions_of}
 use Rattle.name_rules.specs.Limits.{most_dimensions}
 use Rattle.name_rules.specs.declared.log.Bound.TheVariants as bound
 use Rattle.name_rules.specs.declared.log.Dimension.{Dimension}
@@ -38,7 +38,7 @@ use Rattle.name_rules.specs.declared.types.Wanted.TheVariants as wanted
 use Rattle.name_complete.proofs.Counting.{s-cells_counted}
 use Rattle.name_complete.proofs.Explains.{Any, Is, Sound, grows-same, joint, mapped, s-bind, s-both, s-breaks, s-fault, s-given, s-if, s-never, s-pure, s-read, s-some, s-test, s-unless}
 use Rattle.name_complete.proofs.Facts.{Clear, FoundFor, LevelSound, NotBroken, clear-entry}
-use Rattle.name_complete.proofs.SoundExpressions.{plain-of, s-expr, s-judged_alone}
+use Rattle.name_complete.proofs.SoundExpressions.{plain-of, s-expr, s-judged_alone, s-simple}
 use Rattle.name_complete.proofs.SoundRanges.{s-both_static, s-static_range, s-two_bounds}
 use Rattle.name_complete.proofs.SoundScope.{s-as_scalar, s-free, s-subtype_named}
 use Rattle.name_complete.proofs.SoundValues.{s-static_integer, s-stored}
@@ -88,7 +88,7 @@ s-indic_range G s first last r =
     s-bind _ (λ v. lies_in s r.1 ≡ true) (Is Any) (unless (lies_in s r.1) last StaticRange) _ (s-unless _ (lies_in s r.1) last StaticRange) (λ v.
     s-bind _ (λ w. int_le r.0 r.1 ≡ true) (Is Any) (unless (int_le r.0 r.1) first StaticRange) _ (s-unless _ (int_le r.0 r.1) first StaticRange) (λ w.
     s-test _ (Is Any) (lies_in s r.0 && lies_in s r.1 && int_le r.0 r.1) _ (pure None)
-    (s-some _ Any (subtype.Scalar (record { kind = s.kind; low = r.0; high = r.1 })) (λ g. tt))
+    (s-some _ Any (subtype.Scalar (record { kind = s.kind; low = kept s.kind r.0; high = kept s.kind r.1 })) (λ g. tt))
     (s-pure _ (Is Any) None (λ g. all-three (lies_in s r.0) (lies_in s r.1) (int_le r.0 r.1) g.0.0.0.1 g.0.0.1 g.0.1 g.1)))))
 
 s-indic_bounds : (G : Type 0) (s : Scalar) (a z : Found) → Sound G (Is Any) (d.indic_bounds s a z)
@@ -219,11 +219,24 @@ pub is-any : {A : Type 0} (Q : A → Type 0) (x : Option A) → Is Q x → Is An
 is-any Q None h = h
 is-any Q (Some a) h = tt
 
+s-modular_by : (G : Type 0) (token first : ℕ) (k : Option ℕ) → Sound G (Is Any) (d.modular_by token first k)
+s-modular_by G token first None = s-fault G (Is Any) first StaticRange
+s-modular_by G token first (Some k) = s-some G Any _ (λ g. tt)
+
+s-modular_type : (G : Type 0) (token : ℕ) (f : Found) → Sound G (Is Any) (d.modular_type token f)
+s-modular_type G token f =
+    s-bind G (Is Any) (Is Any) (d.static_number f >>= λ m. given m (λ z. d.modular_by token (first_of f.known) (d.exponent_from 64 1 z))) _
+    (s-bind G (Is Any) (Is Any) (d.static_number f) _ (s-static_integer G f.known) (λ m. s-given _ Any Any m _ (λ g. g.1) (λ z. s-modular_by _ token (first_of f.known) (d.exponent_from 64 1 z)))) (λ t.
+    s-pure _ (Is Any) _ (λ g. mapped Any Any (indicated (mentions_of f)) t g.1 (λ x m. tt)))
+
 s-defined : (G : Type 0) (names : Names) (level : Inside) (here : Context) (token : ℕ) (x : Definition) → LevelSound level → (G → Clear here) → Sound G (Is Any) (d.defined names level here token x)
 unfolding d.defined
 s-defined G names level here token (syntax.RangeType low high) l c =
     s-bind G (λ r. Is (FoundFor wanted.Other) r.0 × Is (FoundFor wanted.Other) r.1) (Is Any) (two_bounds level here low high) (d.own_type_of token) (s-two_bounds G level here low high l c) (λ r.
     s-own_type_of _ token r (λ g. is-any (FoundFor wanted.Other) r.0 g.1.0) (λ g. is-any (FoundFor wanted.Other) r.1 g.1.1))
+s-defined G names level here token (syntax.ModularType m) l c =
+    s-bind G (Is (FoundFor wanted.Other)) (Is Any) (simple level here wanted.Other m) _ (s-simple G level here wanted.Other m l c (λ g. tt)) (λ x.
+    s-given _ Any Any x (d.modular_type token) (λ g. is-any (FoundFor wanted.Other) x g.1) (λ f. s-modular_type _ token f))
 s-defined G names level here token (syntax.ArrayType a) l c = s-array G names level here a l c
 s-defined G names level here token (syntax.RecordType x xs) l c = s-record_of G names level here (x ∷ xs) l c
 

@@ -11,8 +11,8 @@ use Rattle.typed_tree.specs.declared.expressions.Sign.{Sign}
 use Rattle.ada_base.specs.declared.operation.Comparison.{Comparison}
 use Rattle.name_rules.specs.Found.{Found, scalar}
 use Rattle.name_rules.specs.Operators as o
-use Rattle.name_rules.specs.Types.{class_of, in_base, same}
-use Rattle.name_rules.specs.Values.{asked, exact, first_of, fitting, is_integer_kind, is_kind, is_number, is_scalar, kind_of, kind_in, place_scalar, suits, value_of}
+use Rattle.name_rules.specs.Types.{class_of, in_base, same, is_modular}
+use Rattle.name_rules.specs.Values.{asked, exact, first_of, fitting, is_integer_kind, is_number, is_scalar, kind_of, kind_in, place_scalar, suits, value_of}
 use Rattle.name_rules.specs.declared.found.Found.TheVariants as known
 use Rattle.name_rules.specs.declared.found.Found.{Found as Known}
 use Rattle.name_rules.specs.declared.log.Rule.TheVariants.{StaticRange, WrongType}
@@ -194,9 +194,16 @@ s-plain G at x h = s-given G Any FoundOk x _ h (λ a. s-test _ (Is FoundOk) (is_
 s-negation : (G : Type 0) (at : ℕ) (a : Found) → Sound G (Is FoundOk) (o.negation at a)
 s-negation G at a = s-bind G (Is Any) (Is FoundOk) (asked kind.Boolean a) _ (s-asked G kind.Boolean a) (λ x. s-given _ Any FoundOk x _ (λ g. g.1) (λ n. s-some _ FoundOk (scalar at kind.Boolean None (typed.Unary at unary'.Not class.Boolean (as_expr n))) (λ g. tt)))
 
+s-complement : (G : Type 0) (at : ℕ) (a : Found) (k : Kind) → Sound G (Is FoundOk) (o.complement at a k)
+s-complement G at a k = s-bind G (Is Any) (Is FoundOk) (asked k a) _ (s-asked G k a) (λ x. s-given _ Any FoundOk x _ (λ g. g.1) (λ n. s-some _ FoundOk (scalar at k None (typed.Unary at unary'.Not (class_of k) (as_expr n))) (λ g. tt)))
+
+s-not_by : (G : Type 0) (at : ℕ) (a : Found) (k : Option Kind) → Sound G (Is FoundOk) (o.not_by at a k)
+s-not_by G at a None = s-fault G (Is FoundOk) at WrongType
+s-not_by G at a (Some k) = s-if G (Is FoundOk) (same k kind.Boolean) _ _ (s-negation G at a) (s-if G (Is FoundOk) (is_modular k) _ _ (s-complement G at a k) (s-fault G (Is FoundOk) at WrongType))
+
 pub s-not_of : (G : Type 0) (at : ℕ) (x : Option Found) → (G → Is Any x) → Sound G (Is FoundOk) (o.not_of at x)
 unfolding o.not_of
-s-not_of G at x h = s-given G Any FoundOk x _ h (λ a. s-if _ (Is FoundOk) (is_kind kind.Boolean (kind_of a.known)) _ _ (s-negation _ at a) (s-fault _ (Is FoundOk) at WrongType))
+s-not_of G at x h = s-given G Any FoundOk x _ h (λ a. s-not_by _ at a (kind_of a.known))
 
 -- ---- strings, logical operators, relations, membership
 
@@ -211,7 +218,8 @@ s-joined_text G at x y h k = s-both G Any Any (FoundFor wanted.Text) x y _ h k (
 pub s-logical : (G : Type 0) (p : Op) (at : ℕ) (x y : Option Found) → (G → Is Any x) → (G → Is Any y) → Sound G (Is FoundOk) (o.logical p at x y)
 unfolding o.logical
 s-logical G p at x y h k = s-both G Any Any FoundOk x y _ h k (λ a b.
-    s-if _ (Is FoundOk) (is_kind kind.Boolean (kind_of a.known) && is_kind kind.Boolean (kind_of b.known)) _ _ (s-operation_on _ p at kind.Boolean kind.Boolean a b) (s-fault _ (Is FoundOk) at WrongType))
+    let k = o.common_kind (kind_of a.known) (kind_of b.known) in
+    s-if _ (Is FoundOk) (o.is_logical_kind k && (suits k a.known && suits k b.known)) _ _ (s-operation_on _ p at k k a b) (s-fault _ (Is FoundOk) at WrongType))
 
 s-compared_at : (G : Type 0) (k : Kind) (c : Comparison) (a b : Found) → Sound G (Is FoundOk) (o.compared_at k c a b)
 unfolding o.compared_at

@@ -1,5 +1,5 @@
 -- What is judged without a fault is found: ranges and choices.
-use Rattle.std.proofs.Common.{◌≡◌, sym, ◌∙◌, ◌&&◌, ℕ, ℤ, Option, Some, None, Bool, true, false}
+use Rattle.std.proofs.Common.{◌≡◌, sym, ◌∙◌, ◌&&◌, ℕ, ℤ, Option, Some, None, Bool, true, false, ◌||◌}
 use Rattle.std.specs.Prelude.{not, int_le}
 use Rattle.syntax_tree.specs.FirstTokens as first_token
 use Rattle.syntax_tree.specs.Syntax as syntax
@@ -24,7 +24,7 @@ use Rattle.name_complete.proofs.Facts.{Clear, DenotedOf, FoundOk, LevelSound}
 use Rattle.syntax_tree.specs.Syntax.{Range, Simple}
 use Rattle.name_rules.specs.Ranges as r
 use Rattle.name_rules.specs.Operators.{both_mentions, common_kind}
-use Rattle.name_rules.specs.Types.{base_of, is_integer, lies_in}
+use Rattle.name_rules.specs.Types.{base_of, lies_in, is_modular, kept}
 use Rattle.name_complete.proofs.SoundExpressions.{s-simple}
 use Rattle.name_complete.proofs.SoundValues.{s-asked, s-static_of_kind, s-static_value}
 
@@ -50,7 +50,7 @@ s-bounds_of G k a z =
     s-pure _ (Is Any) (joined r.range_part x y) (λ g. joint Any Any Any r.range_part x y g.0.1 g.1 (λ a b i j. tt))))
 
 s-of_one_type : (G : Type 0) {A : Type 0} (a z : Known) (k : Kind) (f : Kind → Judging (Option A)) → Sound G (Is Any) (f k) → Sound G (Is Any) (r.of_one_type a z k f)
-s-of_one_type G a z k f m = s-if G (Is Any) (not (is_scalar a)) _ _ (no G (first_of a) rule.WrongType) (s-if G (Is Any) (not (v.suits k a)) _ _ (no G (first_of z) rule.WrongType) m)
+s-of_one_type G a z k f m = s-if G (Is Any) (not (is_scalar a)) _ _ (no G (first_of a) rule.WrongType) (s-if G (Is Any) (not (v.suits k a)) _ _ (no G (first_of z) rule.WrongType) (s-if G (Is Any) (is_modular k) _ _ (no G (first_of a) rule.WrongType) m))
 
 s-own_range : (G : Type 0) (first : ℕ) (a z : Found) (k : Kind) → Sound G (Is Any) (r.own_range first a z k)
 s-own_range G first a z k = s-bind G (Is Any) (Is Any) (r.bounds_of k a z) _ (s-bounds_of G k a z) (λ x. s-pure _ (Is Any) _ (λ g. mapped Any Any (r.bounded_by first (base_of k) None a z) x g.1 (λ y i. tt)))
@@ -63,11 +63,11 @@ s-own_bounds G first a z =
 
 s-checked_range : (G : Type 0) (first : ℕ) (s : Scalar) (a z : Found) → Sound G (Is Any) (r.checked_range first s a z)
 unfolding r.checked_range
-s-checked_range G first s a z = s-bind G (Is Any) (Is Any) (r.bounds_of s.kind a z) _ (s-bounds_of G s.kind a z) (λ x. s-pure _ (Is Any) _ (λ g. mapped Any Any (r.bounded_by first s (Some s) a z) x g.1 (λ y i. tt)))
+s-checked_range G first s a z = s-if G (Is Any) (is_modular s.kind) _ _ (no G first rule.WrongType) (s-bind G (Is Any) (Is Any) (r.bounds_of s.kind a z) _ (s-bounds_of G s.kind a z) (λ x. s-pure _ (Is Any) _ (λ g. mapped Any Any (r.bounded_by first s (Some s) a z) x g.1 (λ y i. tt))))
 
 s-named_range : (G : Type 0) (d : KnownDenoted) (x : TypedPart) → Sound G (Is Any) (r.named_range d x)
 s-named_range G (denoted.Range first d) x = ok G (r.whole_range first d.kind d.low d.high x)
-s-named_range G (denoted.Type first (subtype.Scalar s)) x = ok G (r.whole_range first s.kind s.low s.high part.Nothing)
+s-named_range G (denoted.Type first (subtype.Scalar s)) x = s-if G (Is Any) (is_modular s.kind) _ _ (no G first rule.WrongType) (ok G (r.whole_range first s.kind s.low s.high part.Nothing))
 s-named_range G d x = no G _ rule.WrongType
 
 s-scalar_type : (G : Type 0) (d : KnownDenoted) → Sound G (Is Any) (r.scalar_type d)
@@ -110,7 +110,7 @@ s-checked_span G first must_hold s a z x =
 
 s-static_by : (G : Type 0) (first : ℕ) (must_hold : Bool) (a z : Found) (k : Kind) → Sound G (Is Any) (r.static_by first must_hold a z k)
 s-static_by G first must_hold a z k =
-    s-if G (Is Any) (not (is_number a.known)) _ _ (no G (first_of a.known) rule.WrongType)
+    s-if G (Is Any) (not (is_number a.known) || is_modular k) _ _ (no G (first_of a.known) rule.WrongType)
     (s-if G (Is Any) (not (v.suits k a.known && v.suits k z.known)) _ _ (no G (first_of z.known) rule.WrongType)
     (s-bind G (Is Any) (Is Any) (r.both_static k a z) _ (s-both_static G k a z) (λ s. s-given _ Any Any s _ (λ g. g.1) (λ x. s-spanned _ first must_hold k a z x))))
 
@@ -119,7 +119,7 @@ unfolding r.static_bounds
 s-static_bounds G first must_hold want a z = s-static_by G first must_hold a z (r.preferred want a.known z.known)
 
 s-static_scalar : (G : Type 0) (first : ℕ) (s : Scalar) → Sound G (Is Any) (r.static_scalar first s)
-s-static_scalar G first s = s-if G (Is Any) (is_integer s.kind) _ _ (ok G _) (no G first rule.WrongType)
+s-static_scalar G first s = s-if G (Is Any) (r.is_index s.kind) _ _ (ok G _) (no G first rule.WrongType)
 
 s-static_name : (G : Type 0) (first : ℕ) (d : KnownDenoted) (x : TypedPart) → Sound G (Is Any) (r.static_name first d x)
 s-static_name G first (denoted.Range at d) x = ok G _
@@ -129,7 +129,7 @@ s-static_name G first d x = no G _ rule.WrongType
 s-static_checked : (G : Type 0) (first : ℕ) (must_hold : Bool) (t : Scalar) (a z : Found) → Sound G (Is Any) (r.static_checked first must_hold t a z)
 unfolding r.static_checked
 s-static_checked G first must_hold t a z =
-    s-if G (Is Any) (is_integer t.kind) _ _ (s-bind G (Is Any) (Is Any) (r.both_static t.kind a z) _ (s-both_static G t.kind a z) (λ s. s-given _ Any Any s _ (λ g. g.1) (λ x. s-checked_span _ first must_hold t a z x))) (no G first rule.WrongType)
+    s-if G (Is Any) (r.is_index t.kind) _ _ (s-bind G (Is Any) (Is Any) (r.both_static t.kind a z) _ (s-both_static G t.kind a z) (λ s. s-given _ Any Any s _ (λ g. g.1) (λ x. s-checked_span _ first must_hold t a z x))) (no G first rule.WrongType)
 
 pub s-static_range : (G : Type 0) (level : Inside) (here : Context) (must_hold : Bool) (want : Option Kind) (x : Range) → LevelSound level → (G → Clear here) → Sound G (Is Any) (r.static_range level here must_hold want x)
 unfolding r.static_range
@@ -147,13 +147,13 @@ s-static_range G level here must_hold want (syntax.Constrained n low high) l c =
 -- ---- choices
 
 s-one_value : (G : Type 0) (k : Kind) (f : Found) → Sound G (Is Any) (r.one_value k f)
-s-one_value G k f = s-bind G (Is Any) (Is Any) (v.static_of_kind k f) _ (s-static_of_kind G k f) (λ x. s-given _ Any Any x _ (λ g. g.1) (λ z. ok _ (record { known = record { at = first_of f.known; low = z; high = z }; part = v.mentions_of f })))
+s-one_value G k f = s-bind G (Is Any) (Is Any) (v.static_of_kind k f) _ (s-static_of_kind G k f) (λ x. s-given _ Any Any x _ (λ g. g.1) (λ z. ok _ (record { known = record { at = first_of f.known; low = kept k z; high = kept k z }; part = v.mentions_of f })))
 
 s-two_values : (G : Type 0) (k : Kind) (a z : Found) → Sound G (Is Any) (r.two_values k a z)
 s-two_values G k a z =
     s-bind G (Is Any) (Is Any) (v.static_of_kind k a) _ (s-static_of_kind G k a) (λ u.
     s-bind _ (Is Any) (Is Any) (v.static_of_kind k z) _ (s-static_of_kind _ k z) (λ w.
-    s-both _ Any Any Any u w _ (λ g. g.0.1) (λ g. g.1) (λ x y. ok _ (record { known = record { at = first_of a.known; low = x; high = y }; part = both_mentions a z }))))
+    s-both _ Any Any Any u w _ (λ g. g.0.1) (λ g. g.1) (λ x y. ok _ (record { known = record { at = first_of a.known; low = kept k x; high = kept k y }; part = both_mentions a z }))))
 
 s-values_of : (G : Type 0) (k : Option Kind) (x : Option Found) → (G → Is Any k) → (G → Is FoundOk x) → Sound G (Is Any) (r.values_of k x)
 s-values_of G None x h i = s-pure G (Is Any) None h

@@ -17,7 +17,6 @@ use Rattle.name_rules.specs.declared.log.Rule.TheVariants as rule
 use Rattle.name_rules.specs.declared.scope.Context.{Context}
 use Rattle.name_rules.specs.declared.scope.Names.{Names}
 use Rattle.name_rules.specs.declared.types.Kind.{Kind}
-use Rattle.name_rules.specs.declared.types.Kind.TheVariants as kind
 use Rattle.name_rules.specs.declared.types.Scalar.{Scalar}
 use Rattle.name_rules.specs.declared.types.Subtype.TheVariants as subtype
 use Rattle.name_rules.specs.declared.types.Subtype.{Subtype}
@@ -100,7 +99,7 @@ s-numeric G go c i at o x y None (Some k) e f h m = s-of_kind G go c i at o k x 
 
 s-by_operator : (G : Type 0) (go : Going) (c i : TypedPart) (at : ℕ) (o : Op) (x y : Found) → Sound G (Is FoundOk) (d.by_operator go c i at o x y)
 s-by_operator G go c i at o x y =
-    s-if G (Is FoundOk) (d.is_logical o) _ _ (s-of_kind G go c i at o kind.Boolean x y)
+    s-if G (Is FoundOk) (d.is_logical o) _ _ (s-of_kind G go c i at o (d.logical_kind (kind_of x.known) (kind_of y.known)) x y)
     (s-test G (Is FoundOk) (is_number x.known && is_number y.known) _ _
     (s-numeric _ go c i at o x y (kind_of x.known) (kind_of y.known) refl refl (λ g. first-true (is_number x.known) (is_number y.known) g.1) (λ g. second-true (is_number x.known) (is_number y.known) g.1))
     (s-fault _ (Is FoundOk) at rule.ReduceRule))

@@ -1,5 +1,5 @@
 -- What is judged without a fault is there: statements.
-use Rattle.std.proofs.Common.{◌≡◌, refl, ℕ, zero, suc, ◌-◌, List, [], ◌∷◌, length, Option, Some, None, Bool, true, false, option_map, nat_le, not, ◌==◌}
+use Rattle.std.proofs.Common.{◌≡◌, refl, ℕ, zero, suc, ◌-◌, List, [], ◌∷◌, length, Option, Some, None, Bool, true, false, option_map, nat_le, not, ◌==◌, ◌&&◌}
 use Rattle.ada_base.specs.declared.reason.Reason.{Reason}
 use Rattle.syntax_tree.specs.FirstTokens as first_token
 use Rattle.syntax_tree.specs.Syntax as syntax
@@ -24,7 +24,7 @@ use Rattle.name_rules.specs.Statements.{Around, Selector, around, stmt}
 use Rattle.name_rules.specs.Symbols.{symbol}
 use Rattle.name_rules.specs.TypedParts.{selections_of}
 use Rattle.name_rules.specs.Types.{wanted_of}
-use Rattle.name_rules.specs.Values.{first_of, is_scalar, settled_found, stored}
+use Rattle.name_rules.specs.Values.{first_of, is_scalar, settled_found, stored, is_modular_kind, kind_of}
 use Rattle.name_rules.specs.declared.found.Denoted.TheVariants as denoted
 use Rattle.name_rules.specs.declared.found.Denoted.{Denoted as KnownDenoted}
 use Rattle.name_rules.specs.declared.found.Found.TheVariants as known
@@ -232,7 +232,7 @@ s-alts G a here kind y made (syntax.AlsoAlt x xs) f c h =
 s-selector : (G : Type 0) (f : Found) → Sound G (Is Any) (s.selector f)
 s-selector G f =
     let made = s.selector_of (s.selecting f.known) in
-    s-if G (Is Any) (is_scalar f.known) (settled_found f >>= λ e. pure (option_map made e)) (fault (first_of f.known) WrongType)
+    s-if G (Is Any) (is_scalar f.known && not (is_modular_kind (kind_of f.known))) (settled_found f >>= λ e. pure (option_map made e)) (fault (first_of f.known) WrongType)
     (s-bind G (Is Any) (Is Any) (settled_found f) _ (s-settled_found G f) (λ e. s-pure _ (Is Any) (option_map made e) (λ g. mapped Any Any made e g.1 (λ x k. tt))))
     (s-fault G (Is Any) (first_of f.known) WrongType)
 

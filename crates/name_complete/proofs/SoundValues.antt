@@ -1,5 +1,5 @@
 -- What is judged without a fault is found: values.
-use Rattle.std.proofs.Common.{◌≡◌, ℕ, ℤ, Option, Some, None, Bool, true, ◌==◌}
+use Rattle.std.proofs.Common.{◌≡◌, ℕ, ℤ, Option, Some, None, Bool, true, ◌==◌, ◌&&◌, not, false}
 use Rattle.typed_tree.specs.Decoded.{TypedPart, as_expr}
 use Rattle.typed_tree.specs.Decoded as part
 use Rattle.typed_tree.specs.Syntax.{Expr, Selections}
@@ -18,6 +18,7 @@ use Rattle.name_rules.specs.declared.types.Kind.{Kind}
 use Rattle.name_rules.specs.declared.types.Subtype.TheVariants as subtype
 use Rattle.name_rules.specs.declared.types.Subtype.{Subtype}
 use Rattle.name_complete.proofs.Explains.{Any, Is, Sound, ok, no, s-bind, s-given, s-if, s-pure, s-unless}
+use Rattle.name_rules.specs.declared.types.Scalar.{Scalar}
 
 pub s-valued : (G : Type 0) (k : Kind) (first : ℕ) (z : ℤ) (b : Bool) (ms : TypedPart) → Sound G (Is Any) (v.valued k first z b ms)
 unfolding v.valued
@@ -33,16 +34,20 @@ s-settled_by G k e (Some at) = no G at StaticRange
 
 s-settled : (G : Type 0) (k : Kind) (l : Limits) (e : Expr) → Sound G (Is Any) (v.settled k l e)
 unfolding v.settled
-s-settled G k l e = s-settled_by G k e (v.beyond k l)
+s-settled G k l e = s-settled_by G k e (v.beyond k l e)
+
+s-object_value : (G : Type 0) (k : Kind) (p : ObjectName) (ss : Selections) (s : Scalar) (z : Option ℤ) → Sound G (Is Any) (v.object_value k p ss s z)
+s-object_value G k p ss s (Some z) = s-valued G k p.first z false part.Nothing
+s-object_value G k p ss s None = ok G _
 
 s-place_asked : (G : Type 0) (k : Kind) (p : ObjectName) (ss : Selections) (s : Subtype) → Sound G (Is Any) (v.place_asked k p ss s)
-s-place_asked G k p ss (subtype.Scalar s) = s-if G (Is Any) (same s.kind k) _ _ (ok G _) (no G p.first WrongType)
+s-place_asked G k p ss (subtype.Scalar s) = s-if G (Is Any) (same s.kind k) _ _ (s-object_value G k p ss s p.value) (no G p.first WrongType)
 s-place_asked G k p ss (subtype.Composite n) = no G p.first WrongType
 
 s-asked_form : (G : Type 0) (k : Kind) (f : Known) (x : TypedPart) → Sound G (Is Any) (v.asked_form k f x)
 s-asked_form G k (known.Universal first z alone) x = s-if G (Is Any) (is_integer k) _ _ (s-valued G k first z alone x) (no G first WrongType)
 s-asked_form G k (known.Open first l) x = s-if G (Is Any) (is_integer k) _ _ (s-settled G k l (as_expr x)) (no G first WrongType)
-s-asked_form G k (known.Static first j z) x = s-if G (Is Any) (same j k) _ _ (ok G _) (no G first WrongType)
+s-asked_form G k (known.Static first j z) x = s-if G (Is Any) (same j k) _ _ (s-valued G k first z false x) (no G first WrongType)
 s-asked_form G k (known.Object p) x = s-place_asked G k p (selections_of x) p.subtype
 s-asked_form G k (known.Scalar first j n) x = s-if G (Is Any) (same j k) _ _ (ok G _) (no G first WrongType)
 s-asked_form G k (known.Composite first n) x = no G first WrongType
@@ -59,7 +64,7 @@ s-settled_found G f = s-asked G (v.own_kind f.known) f
 
 pub s-any_integer : (G : Type 0) (f : Found) → Sound G (Is Any) (v.any_integer f)
 unfolding v.any_integer
-s-any_integer G f = s-if G (Is Any) (v.is_number f.known) _ _ (s-settled_found G f) (no G (v.first_of f.known) WrongType)
+s-any_integer G f = s-if G (Is Any) (v.is_number f.known && not (v.is_word_kind (v.kind_of f.known))) _ _ (s-settled_found G f) (no G (v.first_of f.known) WrongType)
 
 pub s-any_scalar : (G : Type 0) (f : Found) → Sound G (Is Any) (v.any_scalar f)
 unfolding v.any_scalar

@@ -4,8 +4,9 @@ ghost use Rattle.std.specs.Prelude.{◌≡◌, ◌∷◌, [], IfOk, None, OnOk, 
 ghost use Rattle.typed_tree.specs.Decoded.{as_expr};
 ghost use Rattle.typed_tree.specs.Latest.{pop, second, top};
 ghost use Rattle.name_rules.specs.Attributes as spec;
-ghost use Rattle.name_rules.specs.Found.{parameter_found};
+ghost use Rattle.name_rules.specs.Found.{parameter_found, value_denoted};
 ghost use Rattle.name_rules.specs.Judges.{found};
+ghost use Rattle.name_rules.specs.Judging.{some};
 ghost use Rattle.name_values.specs.Judged.{JudgesOn, JudgesOne};
 ghost use Rattle.name_rules.specs.Types as types;
 ghost use Rattle.name_expressions.specs.Attributes.{bound_of, one_made, other_alone};
@@ -25,7 +26,7 @@ use name_values::putting::static_of_kind;
 use name_values::symbols::{
     FIRST, IMAGE, LAST, LENGTH, MAX, MIN, PARALLEL_REDUCE, PRED, REDUCE, SUCC,
 };
-use name_values::types::class_of;
+use name_values::types::{class_of, is_modular};
 use name_values::values::{asked, first_of, is_number, mentions, own_kind};
 use std::alloc::AllocError;
 use typed_parts::Parts;
@@ -71,6 +72,26 @@ fn prefix_of(denoted: Denoted) -> Prefix
     }
 }
 
+fn is_step(attribute: Attribute) -> bool
+    ensures { result ≡ spec.is_step attribute }
+{
+    match attribute {
+        Attribute::Succ => true,
+        Attribute::Pred => true,
+        _ => false,
+    }
+}
+
+/// Whether the language leaves an attribute of a prefix out: Succ and Pred of a modular type.
+fn is_left_out(prefix: Prefix, attribute: Attribute) -> bool
+    ensures { result ≡ spec.is_left_out prefix attribute }
+{
+    match prefix {
+        Prefix::Type(Subtype::Scalar(scalar)) => is_modular(scalar.kind) && is_step(attribute),
+        _ => false,
+    }
+}
+
 /// An attribute of a name, whose part stays: Unknown at the attribute's identifier where the language has none so.
 pub fn attribute_found(
     judge: &mut Judge,
@@ -82,13 +103,44 @@ pub fn attribute_found(
 {
     match attribute {
         None => wrong_name(judge, at, Rule::Unknown),
-        Some(attribute) => Ok(Some(Denoted::Attribute {
-            first: denoted_first(denoted),
-            prefix: prefix_of(denoted),
-            at,
-            attribute,
-        })),
+        Some(attribute) => {
+            let prefix = prefix_of(denoted);
+            if is_left_out(prefix, attribute) {
+                return wrong_name(judge, at, Rule::Unknown);
+            }
+            Ok(Some(Denoted::Attribute {
+                first: denoted_first(denoted),
+                prefix,
+                at,
+                attribute,
+            }))
+        }
     }
+}
+
+/// A bound of a scalar subtype, in place of the latest part: that of a modular type isn't static.
+fn bound_found(
+    judge: &mut Judge,
+    first: u32,
+    kind: Kind,
+    value: i64,
+) -> Result<Option<Denoted>, AllocError>
+    ensures { JudgesOn (pop (parts judge.old.out)) (some (value_denoted (spec.bound_found first kind value))) judge.old result judge.new }
+{
+    attempt!(cleared(&mut judge.out));
+    if is_modular(kind) {
+        attempt!(judge.out.static_value(first, value, false));
+        return Ok(Some(Denoted::Value(Found::Scalar {
+            first,
+            kind,
+            nominal: None,
+        })));
+    }
+    Ok(Some(Denoted::Value(Found::Static {
+        first,
+        kind,
+        value: i128::from(value),
+    })))
 }
 
 /// `First` and `Last` of a scalar subtype, in place of the latest part: another attribute is WrongType.
@@ -100,24 +152,9 @@ pub fn scalar_bound(
 ) -> Result<Option<Denoted>, AllocError>
     ensures { JudgesOn (pop (parts judge.old.out)) (spec.scalar_bound first scalar attribute) judge.old result judge.new }
 {
-    let kind = scalar.kind;
     match attribute {
-        Attribute::First => {
-            attempt!(cleared(&mut judge.out));
-            Ok(Some(Denoted::Value(Found::Static {
-                first,
-                kind,
-                value: scalar.low,
-            })))
-        }
-        Attribute::Last => {
-            attempt!(cleared(&mut judge.out));
-            Ok(Some(Denoted::Value(Found::Static {
-                first,
-                kind,
-                value: scalar.high,
-            })))
-        }
+        Attribute::First => bound_found(judge, first, scalar.kind, scalar.low),
+        Attribute::Last => bound_found(judge, first, scalar.kind, scalar.high),
         _ => wrong_name(judge, first, Rule::WrongType),
     }
 }
@@ -144,12 +181,12 @@ fn dimension_bound(
         Attribute::First => Ok(Some(Denoted::Value(Found::Static {
             first,
             kind,
-            value: dimension.low,
+            value: i128::from(dimension.low),
         }))),
         Attribute::Last => Ok(Some(Denoted::Value(Found::Static {
             first,
             kind,
-            value: dimension.high,
+            value: i128::from(dimension.high),
         }))),
         Attribute::Length => Ok(Some(Denoted::Value(Found::Universal {
             first,

@@ -1,12 +1,13 @@
 //! Ranges (3.5): their bounds are a pair of parts.
 #![tactic(auto, unfolding(crate::specs::Opened::ranges))]
 
-ghost use Rattle.std.specs.Prelude.{◌≡◌};
+ghost use Rattle.std.specs.Prelude.{◌≡◌, false};
 ghost use Rattle.name_rules.specs.Judges.{Says, found};
 ghost use Rattle.name_values.specs.Judged.{GivesTwo, Judges, JudgesOn, JudgesTwo};
 ghost use Rattle.name_expressions.specs.Scenes.{node_at, said_at};
 ghost use Rattle.name_rules.specs.Judging.{fault, some};
 ghost use Rattle.name_rules.specs.Ranges as spec;
+ghost use Rattle.name_rules.specs.Types as types;
 ghost use Rattle.syntax_nodes.specs.Parts.{the_range};
 ghost use Rattle.typed_tree.specs.Latest.{pop, top};
 ghost use Rattle.typed_parts.specs.Stack.{parts};
@@ -22,7 +23,7 @@ use name_values::judge::{Giving, Judge};
 use name_values::logs::{breaks, cleared, none_of_two};
 use name_values::names::denoted_first;
 use name_values::relations::common_kind;
-use name_values::types::{base_of, lies_in};
+use name_values::types::{base_of, is_modular, lies_in};
 use name_values::values::{
     asked, asked_before, first_of, is_scalar, kind_of, literal, suits, value_of,
 };
@@ -51,9 +52,11 @@ pub fn bounds_of(judge: &mut Judge, kind: Kind, low: Found, high: Found) -> Givi
     Ok(true)
 }
 
-/// The subtype of a parameter that goes through a range: static bounds that aren't an empty range, or the subtype
-/// around.
-pub fn narrowed(scalar: Scalar, low: Option<i128>, high: Option<i128>) -> Scalar
+/// The subtype of a parameter that goes through a range, which is of no modular type: static bounds that aren't an empty
+/// range, or the subtype around.
+#[tactic(auto, using(crate::proofs::Plain::plain_kept))]
+fn narrowed(scalar: Scalar, low: Option<i128>, high: Option<i128>) -> Scalar
+    requires { types.is_modular scalar.kind ≡ false }
     ensures { result ≡ spec.narrowed scalar low high }
 {
     match low {
@@ -94,6 +97,10 @@ pub fn own_bounds(
         judge.out.leave_out();
         return no_range(judge, first_of(high), Rule::WrongType);
     }
+    if is_modular(kind) {
+        judge.out.leave_out();
+        return no_range(judge, first_of(low), Rule::WrongType);
+    }
     if !attempt!(bounds_of(judge, kind, low, high)) {
         return Ok(None);
     }
@@ -114,6 +121,10 @@ pub fn checked_range(
 ) -> Result<Option<Bounded>, AllocError>
     ensures { JudgesTwo (spec.checked_range first scalar) (found low) (found high) judge.old result judge.new }
 {
+    if is_modular(scalar.kind) {
+        judge.out.leave_out();
+        return no_range(judge, first, Rule::WrongType);
+    }
     if !attempt!(bounds_of(judge, scalar.kind, low, high)) {
         return Ok(None);
     }
@@ -157,6 +168,9 @@ fn named_range(judge: &mut Judge, denoted: Denoted) -> Result<Option<Bounded>, A
             first,
             subtype: Subtype::Scalar(scalar),
         } => {
+            if is_modular(scalar.kind) {
+                return no_range(judge, first, Rule::WrongType);
+            }
             attempt!(cleared(&mut judge.out));
             whole_range(judge, first, scalar)
         }
@@ -182,6 +196,7 @@ pub fn scalar_type(log: &mut Log, denoted: Denoted) -> Result<Option<Scalar>, Al
 
 /// A range (3.5).
 #[cycle(levels)]
+#[tactic(auto, unfolding(name_rules::specs::Ranges::range, name_rules::specs::Ranges::two_bounds))]
 pub fn range(judge: &mut Judge, scene: Scene<'_>, id: u32) -> Result<Option<Bounded>, AllocError>
     ensures { Judges (said_at scene.entry spec.range (the_range (node_at scene.entry id))) judge.old result judge.new }
 {

@@ -12,7 +12,7 @@ use Rattle.typed_tree.specs.declared.program.SiteKind.{SiteKind}
 use Rattle.name_rules.specs.Declarations as d
 use Rattle.name_rules.specs.Declarations.{Indicated, Initial, all_ids}
 use Rattle.name_rules.specs.Expressions.{Inside, expr}
-use Rattle.name_rules.specs.Found.{Bounded, Denoted}
+use Rattle.name_rules.specs.Found.{Denoted}
 use Rattle.name_rules.specs.Iterations as i
 use Rattle.name_rules.specs.Iterations.{Chunked, Entered, Walked, filtered, range_made, with_filter}
 use Rattle.name_rules.specs.Judging.{◌>>=◌, breaks, given, pure}
@@ -20,8 +20,7 @@ use Rattle.name_rules.specs.Names.{is_array}
 use Rattle.name_rules.specs.Parts.{array_shape, new_parameter, new_site}
 use Rattle.name_rules.specs.Programs as p
 use Rattle.name_rules.specs.Ranges.{range}
-use Rattle.name_rules.specs.Scope.{declared, free, hidden_where, with_entry}
-use Rattle.name_rules.specs.Symbols.{symbol}
+use Rattle.name_rules.specs.Scope.{declared, free, hidden_where}
 use Rattle.name_rules.specs.TypedParts.{selections_of}
 use Rattle.name_rules.specs.declared.found.Denoted.{Denoted as KnownDenoted}
 use Rattle.name_rules.specs.declared.found.Denoted.TheVariants as denoted

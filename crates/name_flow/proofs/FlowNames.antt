@@ -1,6 +1,6 @@
 -- What a name denotes that is done is a call, output or input: a statement without statements in it.
-use Rattle.std.proofs.Common.{ℕ, ℤ, List, [], ◌∷◌, length, Option, Some, None, Bool, true, false, if◌then◌else◌, option_map, ◌&&◌, ◌==◌, ◌-◌, ◌+◌, pos, int_le, nat_le, slice_get}
-use Rattle.std.specs.Prelude.{is_some, not, unsigned_abs, ◌||◌}
+use Rattle.std.proofs.Common.{ℕ, ℤ, List, [], ◌∷◌, length, Option, Some, None, Bool, true, false, if◌then◌else◌, option_map, ◌&&◌, ◌==◌, ◌+◌, pos, int_le, nat_le, slice_get}
+use Rattle.std.specs.Prelude.{not, ◌||◌}
 use Rattle.ada_base.specs.declared.operation.Op.TheVariants as op
 use Rattle.ada_base.specs.declared.operation.Op.{Op}
 use Rattle.ada_base.specs.declared.reason.Reason.TheVariants as reason
@@ -10,13 +10,12 @@ use Rattle.typed_tree.specs.Decoded as part
 use Rattle.typed_tree.specs.Decoded.{TypedPart, as_expr, as_stmt}
 use Rattle.typed_tree.specs.Syntax as typed
 use Rattle.typed_tree.specs.Syntax.{Selections, Stmt, Expr as TypedExpr}
-use Rattle.typed_tree.specs.declared.program.SiteKind.TheVariants as site
 use Rattle.name_rules.specs.Attributes as a
 use Rattle.name_rules.specs.Attributes.{image_text, extreme, step}
 use Rattle.name_rules.specs.Calls as c
 use Rattle.name_rules.specs.Expressions.{Inside, expr}
 use Rattle.name_rules.specs.Found.{Denoted, Found, denote, parameter_found, value_denoted}
-use Rattle.name_rules.specs.Judging.{Judging, ◌>>=◌, both, breaks, clean, fault, given, joined, pure, read, some, where_clean}
+use Rattle.name_rules.specs.Judging.{Judging, ◌>>=◌, clean, fault, given, joined, pure, read, some, where_clean}
 use Rattle.name_rules.specs.Names as n
 use Rattle.name_rules.specs.Names.{denoted_first}
 use Rattle.name_rules.specs.Output as o
@@ -338,13 +337,13 @@ t-settled_attribute d h = t-settled_form d.known d.part h
 
 t-attribute_found : (d : Denoted) (at : ℕ) (b : Option Attribute) → Telling (a.attribute_found d at b)
 t-attribute_found d at None = t-fault DoneOf at Unknown
-t-attribute_found d at (Some b) = t-some DoneOf _ tt
+t-attribute_found d at (Some b) = t-if (Maybe DoneOf) (a.is_left_out (a.prefix_of d.known) b) (fault at Unknown) _ (t-fault DoneOf at Unknown) (t-some DoneOf _ tt)
 
 -- ---- calls and conversions
 
 t-converted : (first : ℕ) (t : Scalar) (f : Found) → Telling (c.converted first t f)
 t-converted first t f =
-    t-if (Maybe DoneOf) (is_number f.known) _ (fault (first_of f.known) WrongType) (t-bind (Maybe DoneOf) (settled_found f) _ (λ e. t-given-any DoneOf e _ (λ x. t-some DoneOf (c.conversion_of first t x) tt))) (t-fault DoneOf (first_of f.known) WrongType)
+    t-if (Maybe DoneOf) (is_number f.known) _ (fault (first_of f.known) WrongType) (t-bind (Maybe DoneOf) (settled_found f) _ (λ e. t-given-any DoneOf e _ (λ x. t-some DoneOf (c.conversion_of first (own_kind f.known) t x) tt))) (t-fault DoneOf (first_of f.known) WrongType)
 
 t-one_operand : (bracket first : ℕ) (t : Scalar) (ns : List (Option ℕ)) (fs : List Found) → Telling (c.one_operand bracket first t ns fs)
 t-one_operand bracket first t (Some name ∷ ns) fs = t-fault DoneOf name WrongType

@@ -1,13 +1,12 @@
 -- What is found of subprograms and programs: their exits stay in their bodies, and their statements stand in order.
-use Rattle.std.proofs.Common.{◌≡◌, refl, sym, ap, subst, ◌∙◌, ℕ, zero, suc, ◌-◌, List, [], ◌∷◌, ◌++◌, length, drop, map, Option, Some, None, Bool, true, false, option_map}
-use Rattle.std.specs.Prelude.{not}
+use Rattle.std.proofs.Common.{◌≡◌, refl, sym, subst, ◌∙◌, ℕ, zero, suc, ◌-◌, List, [], ◌∷◌, ◌++◌, length, map, Option, Some, None, Bool, true, false, option_map}
 use Rattle.ada_meaning.specs.Meaning.{sub_at}
 use Rattle.syntax_tree.specs.Parsed.{depth_limit}
 use Rattle.syntax_tree.specs.Syntax as syntax
 use Rattle.syntax_tree.specs.Syntax.{Aspect, Body, Decl, Expr, Formal, Formals, Main, Program, Sub, Unit'}
 use Rattle.syntax_tree.specs.declared.operators.Mode.{Mode as FormalMode}
 use Rattle.syntax_tree.specs.declared.operators.Mode.TheVariants as mode'
-use Rattle.typed_tree.specs.Decoded.{TypedPart, as_body}
+use Rattle.typed_tree.specs.Decoded.{TypedPart}
 use Rattle.typed_tree.specs.Syntax as typed
 use Rattle.typed_tree.specs.Syntax.{Sub as TypedSub}
 use Rattle.typed_tree.specs.declared.program.Mode.{Mode}
@@ -42,7 +41,7 @@ use Rattle.name_laws.proofs.Makes.{Any, Maybe, joint, mapped}
 use Rattle.typed_scopes.specs.Outs.{OutAll, OutHandlers, StaysIn}
 use Rattle.name_flow.specs.Law.{FlowLaw}
 use Rattle.name_flow.specs.Order.{AllIn, AreIn, IsOrdered, OrderedAll, OrderedHandlers, OrderedSub}
-use Rattle.name_flow.proofs.Finds.{And, Clean, Finds, any, c-any, c-bind, c-fact, c-none, c-pure, c-some, not-none, staying, staying-profiles}
+use Rattle.name_flow.proofs.Finds.{And, Clean, Finds, any, c-any, c-bind, c-fact, c-pure, not-none, staying, staying-profiles}
 use Rattle.name_flow.proofs.FlowDeclarations.{Same, clauses-loops, one-declaration-loops}
 use Rattle.name_flow.proofs.FlowNames.{Tells, t-bind, t-given-any, t-none}
 use Rattle.name_flow.proofs.FlowStatements.{AllMay, BodyIn, IsScalar, Near, Sight, around-finds, c-body, c-declarations, near-same, scalar-stored}

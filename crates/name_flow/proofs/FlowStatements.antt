@@ -1,5 +1,5 @@
 -- What is found of statements: their exits stay in loops around them, and they stand in order.
-use Rattle.std.proofs.Common.{◌≡◌, refl, sym, subst, ◌∙◌, ℕ, zero, suc, ◌+◌, ◌-◌, ◌≤◌, ◌⊎◌, inl, inr, List, [], ◌∷◌, ◌++◌, length, reverse, slice_get, Option, Some, None, Bool, true, false, true≢false, if◌then◌else◌, option_map, ◌&&◌, ◌==◌, cond, nat_le, arith, leb-true}
+use Rattle.std.proofs.Common.{◌≡◌, refl, sym, subst, ◌∙◌, ℕ, zero, suc, ◌+◌, ◌-◌, ◌⊎◌, inl, inr, List, [], ◌∷◌, ◌++◌, length, reverse, slice_get, Option, Some, None, Bool, true, false, true≢false, if◌then◌else◌, option_map, ◌&&◌, ◌==◌, cond, nat_le, arith, leb-true}
 use Rattle.std.proofs.lemmas.List.{reverse-append}
 use Rattle.std.specs.List.{find}
 use Rattle.std.specs.Prelude.{int_le, not, ℤ}
@@ -14,16 +14,16 @@ use Rattle.typed_tree.specs.Latest.{onto, turned}
 use Rattle.typed_tree.specs.Syntax as typed
 use Rattle.typed_tree.specs.Syntax.{Alternatives, Handlers as TypedHandlers, Handled as TypedHandled, Selections}
 use Rattle.typed_tree.specs.declared.program.SiteKind.TheVariants as site
-use Rattle.name_rules.specs.Cases.{Choosing, Covering, Naming, also_covered, also_mentioned, as_faulty, case_choice, case_choices, covered_by, handled_by, maybe_covered, named_reasons, overlaps, with_others, with_span}
+use Rattle.name_rules.specs.Cases.{Choosing, Covering, Naming, also_covered, also_mentioned, case_choice, case_choices, covered_by, handled_by, maybe_covered, named_reasons, overlaps, with_others, with_span}
 use Rattle.name_rules.specs.Declarations.{declarations}
 use Rattle.name_rules.specs.Expressions.{Inside, condition, expr, judged_alone}
 use Rattle.name_rules.specs.Found.{Denoted, Found}
-use Rattle.name_rules.specs.Iterations.{Entered, chunk_count, entered}
-use Rattle.name_rules.specs.Judging.{Judging, both, clean, fault, given, joined, pure, some, unless, ◌>>=◌}
+use Rattle.name_rules.specs.Iterations.{entered}
+use Rattle.name_rules.specs.Judging.{Judging, fault, given, joined, pure, some, unless, ◌>>=◌}
 use Rattle.name_rules.specs.Limits.{most_arms}
 use Rattle.name_rules.specs.Names.{denoted_first, exception}
 use Rattle.name_rules.specs.Parts.{new_site, valued_by}
-use Rattle.name_rules.specs.Primaries.{inside, level_above}
+use Rattle.name_rules.specs.Primaries.{inside}
 use Rattle.name_rules.specs.Ranges.{Chosen, chosen_span, chosen_value}
 use Rattle.name_rules.specs.Statements as s
 use Rattle.name_rules.specs.Statements.{Around as Judges, around, stmt}
@@ -37,7 +37,7 @@ use Rattle.name_rules.specs.declared.found.Found.TheVariants as known
 use Rattle.name_rules.specs.declared.found.ObjectName.{ObjectName}
 use Rattle.name_rules.specs.declared.log.Bound.TheVariants as bound
 use Rattle.name_rules.specs.declared.log.Log.{Log}
-use Rattle.name_rules.specs.declared.log.Rule.TheVariants.{ChunkRule, Limit, NotVisible, StaticRange, WrongType}
+use Rattle.name_rules.specs.declared.log.Rule.TheVariants.{Limit, NotVisible, StaticRange, WrongType}
 use Rattle.name_rules.specs.declared.scope.Context.{Context}
 use Rattle.name_rules.specs.declared.scope.LoopName.{LoopName}
 use Rattle.name_rules.specs.declared.scope.Names.{Names}
@@ -51,10 +51,8 @@ use Rattle.name_rules.specs.declared.types.Wanted.TheVariants as wanted
 use Rattle.name_laws.proofs.KeepsCases.{k-case_choice, k-case_choices, k-handled_by, k-named_reasons}
 use Rattle.name_laws.proofs.KeepsDeclarations.{k-declarations}
 use Rattle.name_laws.proofs.KeepsExpressions.{k-condition, k-expr}
-use Rattle.name_laws.proofs.KeepsIterations.{k-chunk_count, k-entered}
-use Rattle.name_laws.proofs.KeepsNames.{k-exception}
+use Rattle.name_laws.proofs.KeepsIterations.{k-entered}
 use Rattle.name_laws.proofs.KeepsParts.{k-new_site}
-use Rattle.name_laws.proofs.KeepsRanges.{k-chosen_span, k-chosen_value}
 use Rattle.name_laws.proofs.KeepsStatements as k
 use Rattle.name_laws.proofs.Makes.{Any, Each, Maybe, each-turned, joint, mapped}
 use Rattle.name_laws.proofs.Walk.{Keeps, k-given}
@@ -62,9 +60,9 @@ use Rattle.name_laws.proofs.Walked.{KeepsAround, KeepsInside}
 use Rattle.typed_scopes.specs.Outs.{OutAll, OutArms, OutCases, OutHandlers, OutStmt}
 use Rattle.typed_scopes.specs.Scopes.{IsLast, IsLastHandler}
 use Rattle.name_flow.specs.Order.{IsNumber, OrderedAll, OrderedArms, OrderedCases, OrderedHandlers, OrderedStmt}
-use Rattle.name_flow.proofs.Finds.{And, Clean, Finds, any, c-any, c-bind, c-both, c-fact, c-fault, c-given, c-if, c-none, c-pure, c-some, c-unless, not-none, staying}
+use Rattle.name_flow.proofs.Finds.{And, Clean, Finds, any, c-any, c-bind, c-both, c-fact, c-fault, c-given, c-pure, c-some, c-unless, not-none, staying}
 use Rattle.name_flow.proofs.FlowNames.{DoneIn, DoneOf, IsPlain, Tells, t-bind, t-fault, t-given, t-given-any, t-if, t-name, t-none, t-pure, t-some, t-then, t-valued_by, t-where_clean}
-use Rattle.name_flow.proofs.FlowDeclarations.{EnteredIn, GoesForward, Same, declarations-loops, entered-in}
+use Rattle.name_flow.proofs.FlowDeclarations.{GoesForward, Same, declarations-loops, entered-in}
 
 -- ---- the loops around a text
 

@@ -11,7 +11,7 @@ use Rattle.typed_objects.specs.Objects.{block_objects, decl_objects, formal_obje
 use Rattle.typed_tree.specs.Syntax as typed
 use Rattle.typed_tree.specs.Syntax.{Decls, Sub as TypedSub}
 use Rattle.typed_tree.specs.declared.program.Mode.{Mode}
-use Rattle.name_rules.specs.Declarations.{all_ids, begun_names, declaration, declarations, new_object}
+use Rattle.name_rules.specs.Declarations.{all_ids, begun_names, declarations, new_object}
 use Rattle.name_rules.specs.Judging.{joined}
 use Rattle.name_rules.specs.Primaries.{inside}
 use Rattle.name_rules.specs.Programs as p

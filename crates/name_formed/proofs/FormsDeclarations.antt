@@ -13,7 +13,7 @@ use Rattle.typed_tree.specs.Syntax.{Decls, Program}
 use Rattle.typed_tree.specs.declared.program.Object.{Object}
 use Rattle.name_rules.specs.Declarations as d
 use Rattle.name_rules.specs.Declarations.{Building, Dimensions, Indicated, Initial, all_ids, indicated}
-use Rattle.name_rules.specs.Expressions.{Inside, expr}
+use Rattle.name_rules.specs.Expressions.{Inside, expr, simple}
 use Rattle.name_rules.specs.Found.{Found}
 use Rattle.name_rules.specs.Judging.{fault, given, joined, pure, read, some, ◌>>=◌}
 use Rattle.name_rules.specs.Ranges.{two_bounds}
@@ -41,7 +41,7 @@ use Rattle.name_rules.specs.declared.types.Wanted.TheVariants as wanted
 use Rattle.name_laws.proofs.CellsSound.{NumberIn, number_in, number_kept}
 use Rattle.name_laws.proofs.Fitting.{Fits, fits_constant, is_number}
 use Rattle.name_laws.proofs.KeepsDeclarations as k
-use Rattle.name_laws.proofs.KeepsExpressions.{k-expr}
+use Rattle.name_laws.proofs.KeepsExpressions.{k-expr, k-simple}
 use Rattle.name_laws.proofs.KeepsRanges.{k-two_bounds}
 use Rattle.name_laws.proofs.KeepsScope.{k-free}
 use Rattle.name_laws.proofs.KeepsTypes.{k-number_of, k-written_shape}
@@ -52,7 +52,7 @@ use Rattle.name_formed.proofs.FormsBack.{And, Back, Leads, Near, b-any, b-bind, 
 use Rattle.name_formed.proofs.FormsFound.{AreOf, Around, Each, LevelForms, TargetOf, WhatOf, each-all, each-turned}
 use Rattle.name_formed.proofs.FormsIterations.{with-entry}
 use Rattle.name_formed.proofs.FormsShapes.{Facts, object-at, object-small}
-use Rattle.name_formed.proofs.FormsTypes.{f-dimensions_from, f-indic, f-initial, f-number, f-range_type}
+use Rattle.name_formed.proofs.FormsTypes.{f-dimensions_from, f-indic, f-initial, f-number, f-range_type, f-modulus}
 
 -- what is judged in brackets
 pub record LevelBoth (level : Inside) : Type 0 where
@@ -228,6 +228,11 @@ module _ (P : Program) (L : Log) (F : Facts P L) where
       let x = two_bounds level here low high >>= d.own_type_of token in
       b-lift P L F V G (Maybe (IndicatedIn V)) x (k-bind leading.walk (two_bounds level here low high) (d.own_type_of token) (k-two_bounds leading.walk level here low high l.keeps) (λ y. k.k-own_type_of leading.walk token y))
       (λ log m g. f-range_type (now P L F log m) V level here token low high (l.forms (now P L F log m)) (r g log m))
+  b-defined V G names level here token (syntax.ModularType m) l r =
+      let x = simple level here wanted.Other m >>= λ y. given y (d.modular_type token) in
+      b-lift P L F V G (Maybe (IndicatedIn V)) x
+      (k-bind leading.walk (simple level here wanted.Other m) (λ y. given y (d.modular_type token)) (k-simple leading.walk level here wanted.Other m l.keeps) (λ y. k-given leading.walk y (d.modular_type token) (λ f. k.k-modular_type leading.walk token f)))
+      (λ log n g. f-modulus (now P L F log n) V level here token m (l.forms (now P L F log n)) (r g log n))
   b-defined V G names level here token (syntax.ArrayType a) l r = b-array V G names level here a l r
   b-defined V G names level here token (syntax.RecordType c cs) l r = b-record_of V G names level here (c ∷ cs) l r
 

@@ -11,10 +11,10 @@ use Rattle.typed_tree.specs.declared.scalars.Class.TheVariants as class
 use Rattle.ada_base.specs.declared.operation.Comparison.{Comparison}
 use Rattle.name_rules.specs.Found.{Found, scalar, static, text_found, universal}
 use Rattle.name_rules.specs.Judging.{fault, pure, some}
-use Rattle.name_rules.specs.Operators.{binary, both_mentions, by_kinds, common_kind, compared, compared_at, compared_by, first_kind, joined_text, joined_texts, leaf, limit_of, logical, member, member_of, membership, negation, not_of, of_subtype, open_binary, open_form, open_of, open_plain, open_power, open_two, open_unary, operand_blamed, operation, operation_by, operation_on, plain, plain_by, plain_open, plain_typed, power, power_to, signed, static_of, static_operation, static_power, static_unary, static_universal, typed_operation, unary, unary_by, unary_open, unary_typed, universal_by, universal_operation, universal_power, universal_to, within_bounds}
+use Rattle.name_rules.specs.Operators.{binary, both_mentions, by_kinds, common_kind, compared, compared_at, compared_by, first_kind, joined_text, joined_texts, leaf, limit_of, logical, member, member_of, membership, negation, not_of, of_subtype, open_binary, open_form, open_of, open_plain, open_power, open_two, open_unary, operand_blamed, operation, operation_by, operation_on, plain, plain_by, plain_open, plain_typed, power, power_to, signed, static_of, static_operation, static_power, static_unary, static_universal, typed_operation, unary, unary_by, unary_open, unary_typed, universal_by, universal_operation, universal_power, universal_to, within_bounds, complement, not_by, is_logical_kind, logical_by}
 use Rattle.name_rules.specs.TypedParts.{also_all}
-use Rattle.name_rules.specs.Types.{class_of, in_base, same}
-use Rattle.name_rules.specs.Values.{asked, exact, first_of, fitting, is_kind, is_number, is_scalar, kind_of, mentions_of, suits, value_of}
+use Rattle.name_rules.specs.Types.{class_of, in_base, same, is_modular}
+use Rattle.name_rules.specs.Values.{asked, exact, first_of, fitting, is_number, is_scalar, kind_of, mentions_of, suits, value_of}
 use Rattle.name_rules.specs.declared.found.Found.TheVariants as known
 use Rattle.name_rules.specs.declared.found.Found.{Found as Known}
 use Rattle.name_rules.specs.declared.found.Limits.{Limits}
@@ -200,10 +200,20 @@ module _ (W : World) (V : Sight) where
       f-bind W V (Maybe (ExprOf W V)) (Maybe (FoundOf W V)) (asked kind.Boolean a) _ (f-asked W V kind.Boolean a g) (λ x q.
       f-given W V (ExprOf W V) (FoundOf W V) x _ q (λ e r. f-some W V (FoundOf W V) (scalar at kind.Boolean None (typed.Unary at unary'.Not class.Boolean (as_expr e))) (tt, r)))
 
+  f-complement : (at : ℕ) (a : Found) (k : Kind) → FoundOf W V a → Forms W V (Maybe (FoundOf W V)) (complement at a k)
+  f-complement at a k g =
+      f-bind W V (Maybe (ExprOf W V)) (Maybe (FoundOf W V)) (asked k a) _ (f-asked W V k a g) (λ x q.
+      f-given W V (ExprOf W V) (FoundOf W V) x _ q (λ e r. f-some W V (FoundOf W V) (scalar at k None (typed.Unary at unary'.Not (class_of k) (as_expr e))) (is-settled k, r)))
+
+  f-not_by : (at : ℕ) (a : Found) (k : Option Kind) → FoundOf W V a → Forms W V (Maybe (FoundOf W V)) (not_by at a k)
+  f-not_by at a None g = f-fault W V (FoundOf W V) at WrongType
+  f-not_by at a (Some k) g =
+      f-if W V (Maybe (FoundOf W V)) (same k kind.Boolean) (negation at a) _ (f-negation at a g)
+      (f-if W V (Maybe (FoundOf W V)) (is_modular k) (complement at a k) (fault at WrongType) (f-complement at a k g) (f-fault W V (FoundOf W V) at WrongType))
+
   pub f-not_of : (at : ℕ) (x : Option Found) → Maybe (FoundOf W V) x → Forms W V (Maybe (FoundOf W V)) (not_of at x)
   unfolding not_of
-  f-not_of at x g = f-given W V (FoundOf W V) (FoundOf W V) x _ g (λ a p.
-      f-if W V (Maybe (FoundOf W V)) (is_kind kind.Boolean (kind_of a.known)) (negation at a) (fault at WrongType) (f-negation at a p) (f-fault W V (FoundOf W V) at WrongType))
+  f-not_of at x g = f-given W V (FoundOf W V) (FoundOf W V) x _ g (λ a p. f-not_by at a (kind_of a.known) p)
 
   -- ---- strings, logical operators, relations, membership
 
@@ -215,11 +225,14 @@ module _ (W : World) (V : Sight) where
   unfolding joined_text
   f-joined_text at x y g h = f-both W V (FoundOf W V) (FoundOf W V) (FoundOf W V) x y _ g h (λ a b p q. f-joined_texts at a.known a.part b.known b.part p q)
 
+  f-logical_by : (o : Op) (at : ℕ) (a b : Found) (k : Kind) → FoundOf W V a → FoundOf W V b → Forms W V (Maybe (FoundOf W V)) (logical_by o at a b k)
+  f-logical_by o at a b k p q =
+      f-if W V (Maybe (FoundOf W V)) (is_logical_kind k && (suits k a.known && suits k b.known)) (operation_on o at k k a b) (fault at WrongType)
+      (f-operation_on o at k k a b p q) (f-fault W V (FoundOf W V) at WrongType)
+
   pub f-logical : (o : Op) (at : ℕ) (x y : Option Found) → Maybe (FoundOf W V) x → Maybe (FoundOf W V) y → Forms W V (Maybe (FoundOf W V)) (logical o at x y)
   unfolding logical
-  f-logical o at x y g h = f-both W V (FoundOf W V) (FoundOf W V) (FoundOf W V) x y _ g h (λ a b p q.
-      f-if W V (Maybe (FoundOf W V)) (is_kind kind.Boolean (kind_of a.known) && is_kind kind.Boolean (kind_of b.known)) (operation_on o at kind.Boolean kind.Boolean a b) (fault at WrongType)
-      (f-operation_on o at kind.Boolean kind.Boolean a b p q) (f-fault W V (FoundOf W V) at WrongType))
+  f-logical o at x y g h = f-both W V (FoundOf W V) (FoundOf W V) (FoundOf W V) x y _ g h (λ a b p q. f-logical_by o at a b (common_kind (kind_of a.known) (kind_of b.known)) p q)
 
   f-compared_at : (k : Kind) (c : Comparison) (a b : Found) → FoundOf W V a → FoundOf W V b → Forms W V (Maybe (FoundOf W V)) (compared_at k c a b)
   unfolding compared_at

@@ -1,6 +1,6 @@
 -- What is found is formed: ranges and choices.
 use Rattle.std.proofs.Common.{ℕ, ℤ, Option, Some, None, Bool, option_map, int_le, ◌&&◌}
-use Rattle.std.specs.Prelude.{not}
+use Rattle.std.specs.Prelude.{not, ◌||◌}
 use Rattle.ada_meaning.specs.Formed.{FormedExpr}
 use Rattle.syntax_tree.specs.FirstTokens as first_token
 use Rattle.syntax_tree.specs.Syntax as syntax
@@ -12,9 +12,9 @@ use Rattle.name_rules.specs.Found.{Bounded, Denoted, Found}
 use Rattle.name_rules.specs.Judging.{fault, given, joined, pure, some}
 use Rattle.name_rules.specs.Names.{denoted_first}
 use Rattle.name_rules.specs.Operators.{both_mentions, common_kind}
-use Rattle.name_rules.specs.Ranges.{Chosen, Static, both_static, bounded_by, bounds_of, checked_range, checked_span, chosen_span, chosen_value, dimension, inside_subtype, named_range, of_static, one_value, own_bounds, own_range, preferred, range, range_part, range_values, scalar_type, spanned, static_bounds, static_checked, static_name, static_range, static_scalar, two_bounds, two_values, values_of, whole_range}
+use Rattle.name_rules.specs.Ranges.{Chosen, Static, both_static, bounded_by, bounds_of, checked_range, checked_span, chosen_span, chosen_value, dimension, inside_subtype, named_range, of_static, one_value, own_bounds, own_range, preferred, range, range_part, range_values, scalar_type, spanned, static_bounds, static_checked, static_name, static_range, static_scalar, two_bounds, two_values, values_of, whole_range, is_index}
 use Rattle.name_rules.specs.TypedParts.{high_of, low_of}
-use Rattle.name_rules.specs.Types.{base_of, is_integer, lies_in}
+use Rattle.name_rules.specs.Types.{base_of, lies_in, is_modular, kept}
 use Rattle.name_rules.specs.Values.{asked, first_of, is_number, is_scalar, kind_of, mentions_of, static_of_kind, static_value, suits, value_of}
 use Rattle.name_rules.specs.declared.found.Denoted.TheVariants as denoted
 use Rattle.name_rules.specs.declared.found.Denoted.{Denoted as KnownDenoted}
@@ -65,19 +65,23 @@ module _ (W : World) (V : Sight) where
   f-own_bounds first a z g h =
       let k = common_kind (kind_of a.known) (kind_of z.known) in
       f-if W V (Maybe BoundedOf) (not (is_scalar a.known)) (fault (first_of a.known) WrongType) _ (f-fault W V BoundedOf (first_of a.known) WrongType)
-      (f-if W V (Maybe BoundedOf) (not (suits k a.known)) (fault (first_of z.known) WrongType) (own_range first a z k) (f-fault W V BoundedOf (first_of z.known) WrongType) (f-own_range first a z k g h))
+      (f-if W V (Maybe BoundedOf) (not (suits k a.known)) (fault (first_of z.known) WrongType) _ (f-fault W V BoundedOf (first_of z.known) WrongType)
+      (f-if W V (Maybe BoundedOf) (is_modular k) (fault (first_of a.known) WrongType) (own_range first a z k) (f-fault W V BoundedOf (first_of a.known) WrongType) (f-own_range first a z k g h)))
 
   f-checked_range : (first : ℕ) (s : Scalar) (a z : Found) → FoundOf W V a → FoundOf W V z → Forms W V (Maybe BoundedOf) (checked_range first s a z)
   unfolding checked_range
   f-checked_range first s a z g h =
-      f-bind W V (Maybe RangeOf) (Maybe BoundedOf) (bounds_of s.kind a z) _ (f-bounds_of s.kind a z g h) (λ x q. f-pure W V (Maybe BoundedOf) (option_map (bounded_by first s (Some s) a z) x) (mapped RangeOf BoundedOf (bounded_by first s (Some s) a z) x q (λ y t. t)))
+      f-if W V (Maybe BoundedOf) (is_modular s.kind) (fault first WrongType) _ (f-fault W V BoundedOf first WrongType)
+      (f-bind W V (Maybe RangeOf) (Maybe BoundedOf) (bounds_of s.kind a z) _ (f-bounds_of s.kind a z g h) (λ x q. f-pure W V (Maybe BoundedOf) (option_map (bounded_by first s (Some s) a z) x) (mapped RangeOf BoundedOf (bounded_by first s (Some s) a z) x q (λ y t. t))))
 
   whole-range : (first : ℕ) (k : Kind) (low high : ℤ) (ms : TypedPart) → MentionsOf W V ms → BoundedOf (whole_range first k low high ms)
   whole-range first k low high ms h = (exprs-formed W V ms h, exprs-formed W V part.Nothing tt)
 
   f-named_range : (k : KnownDenoted) (x : TypedPart) → DenotesOf W V k x → Forms W V (Maybe BoundedOf) (named_range k x)
   f-named_range (denoted.Range first d) x h = f-some W V BoundedOf (whole_range first d.kind d.low d.high x) (whole-range first d.kind d.low d.high x h)
-  f-named_range (denoted.Type first (subtype.Scalar s)) x h = f-some W V BoundedOf (whole_range first s.kind s.low s.high part.Nothing) (whole-range first s.kind s.low s.high part.Nothing tt)
+  f-named_range (denoted.Type first (subtype.Scalar s)) x h =
+      f-if W V (Maybe BoundedOf) (is_modular s.kind) (fault first WrongType) (some (whole_range first s.kind s.low s.high part.Nothing)) (f-fault W V BoundedOf first WrongType)
+      (f-some W V BoundedOf (whole_range first s.kind s.low s.high part.Nothing) (whole-range first s.kind s.low s.high part.Nothing tt))
   f-named_range k x h = f-fault W V BoundedOf (denoted_first k) WrongType
 
   f-scalar_type_of : (k : KnownDenoted) → Forms W V (Maybe Any) (scalar_type k)
@@ -132,7 +136,7 @@ module _ (W : World) (V : Sight) where
   unfolding static_bounds
   f-static_bounds first must want a z g h =
       let k = preferred want a.known z.known in
-      f-if W V (Maybe StaticOf) (not (is_number a.known)) (fault (first_of a.known) WrongType) _ (f-fault W V StaticOf (first_of a.known) WrongType)
+      f-if W V (Maybe StaticOf) (not (is_number a.known) || is_modular k) (fault (first_of a.known) WrongType) _ (f-fault W V StaticOf (first_of a.known) WrongType)
       (f-if W V (Maybe StaticOf) (not (suits k a.known && suits k z.known)) (fault (first_of z.known) WrongType) _ (f-fault W V StaticOf (first_of z.known) WrongType)
       (f-bind W V (Maybe (λ r. MentionsOf W V (both_mentions a z))) (Maybe StaticOf) (both_static k a z) _ (f-both_static k a z g h) (λ v q.
       f-given W V (λ r. MentionsOf W V (both_mentions a z)) StaticOf v (spanned first must k a z) q (λ r p. f-spanned first must k a z r p))))
@@ -140,7 +144,7 @@ module _ (W : World) (V : Sight) where
   f-static_checked : (first : ℕ) (must : Bool) (t : Scalar) (a z : Found) → FoundOf W V a → FoundOf W V z → Forms W V (Maybe StaticOf) (static_checked first must t a z)
   unfolding static_checked
   f-static_checked first must t a z g h =
-      f-if W V (Maybe StaticOf) (is_integer t.kind) _ (fault first WrongType)
+      f-if W V (Maybe StaticOf) (is_index t.kind) _ (fault first WrongType)
       (f-bind W V (Maybe (λ r. MentionsOf W V (both_mentions a z))) (Maybe StaticOf) (both_static t.kind a z) _ (f-both_static t.kind a z g h) (λ v q.
       f-given W V (λ r. MentionsOf W V (both_mentions a z)) StaticOf v (checked_span first must t a z) q (λ r p. f-checked_span first must t a z r p)))
       (f-fault W V StaticOf first WrongType)
@@ -148,7 +152,7 @@ module _ (W : World) (V : Sight) where
   f-static_scalar : (first : ℕ) (s : Scalar) → Forms W V (Maybe StaticOf) (static_scalar first s)
   f-static_scalar first s =
       let x : Static = record { known = record { kind = s.kind; low = s.low; high = s.high }; part = part.Nothing } in
-      f-if W V (Maybe StaticOf) (is_integer s.kind) (some x) (fault first WrongType) (f-some W V StaticOf x tt) (f-fault W V StaticOf first WrongType)
+      f-if W V (Maybe StaticOf) (is_index s.kind) (some x) (fault first WrongType) (f-some W V StaticOf x tt) (f-fault W V StaticOf first WrongType)
 
   f-static_name : (first : ℕ) (k : KnownDenoted) (x : TypedPart) → DenotesOf W V k x → Forms W V (Maybe StaticOf) (static_name first k x)
   f-static_name first (denoted.Range at e) x h = f-some W V StaticOf (record { known = e; part = x }) h
@@ -176,13 +180,13 @@ module _ (W : World) (V : Sight) where
   f-one_value : (k : Kind) (f : Found) → FoundOf W V f → Forms W V (Maybe ChosenOf) (one_value k f)
   f-one_value k f h =
       f-bind W V (Maybe (StaticValue W V f)) (Maybe ChosenOf) (static_of_kind k f) _ (f-static_of_kind W V k f h) (λ v q.
-      f-given W V (StaticValue W V f) ChosenOf v _ q (λ z e. f-some W V ChosenOf (record { known = record { at = first_of f.known; low = z; high = z }; part = mentions_of f }) (static-mentions W V f.known f.part z h e)))
+      f-given W V (StaticValue W V f) ChosenOf v _ q (λ z e. f-some W V ChosenOf (record { known = record { at = first_of f.known; low = kept k z; high = kept k z }; part = mentions_of f }) (static-mentions W V f.known f.part z h e)))
 
   f-two_values : (k : Kind) (a z : Found) → FoundOf W V a → FoundOf W V z → Forms W V (Maybe ChosenOf) (two_values k a z)
   f-two_values k a z g h =
       f-bind W V (Maybe (StaticValue W V a)) (Maybe ChosenOf) (static_of_kind k a) _ (f-static_of_kind W V k a g) (λ u p.
       f-bind W V (Maybe (StaticValue W V z)) (Maybe ChosenOf) (static_of_kind k z) _ (f-static_of_kind W V k z h) (λ v q.
-      f-both W V (StaticValue W V a) (StaticValue W V z) ChosenOf u v _ p q (λ i j c d. f-some W V ChosenOf (record { known = record { at = first_of a.known; low = i; high = j }; part = both_mentions a z }) (both-mentions W V a z i j g h c d))))
+      f-both W V (StaticValue W V a) (StaticValue W V z) ChosenOf u v _ p q (λ i j c d. f-some W V ChosenOf (record { known = record { at = first_of a.known; low = kept k i; high = kept k j }; part = both_mentions a z }) (both-mentions W V a z i j g h c d))))
 
   f-values_of : (k : Option Kind) (x : Option Found) → Finding W V x → Forms W V (Maybe ChosenOf) (values_of k x)
   f-values_of None x h = f-none W V ChosenOf

@@ -16,7 +16,7 @@ use Rattle.name_rules.specs.Expressions.{Inside, judged_alone}
 use Rattle.name_rules.specs.Found.{Found, scalar}
 use Rattle.name_rules.specs.Judging.{fault, joined, read}
 use Rattle.name_rules.specs.Operators.{open_of}
-use Rattle.name_rules.specs.Reducers.{attribute_reducer, by_function, by_operator, by_subtypes, extreme_name, extreme_of, folded_by, function_given, function_of, is_logical, name_reducer, no_reducer, numeric, of_kind, open_reduction, operator_named, operator_reducer, operators, reduced, reducer_by, reducer_of, reduction}
+use Rattle.name_rules.specs.Reducers.{attribute_reducer, by_function, by_operator, by_subtypes, extreme_name, extreme_of, folded_by, function_given, function_of, is_logical, name_reducer, no_reducer, numeric, of_kind, open_reduction, operator_named, operator_reducer, operators, reduced, reducer_by, reducer_of, reduction, logical_kind}
 use Rattle.name_rules.specs.Scope.{stands_for}
 use Rattle.name_rules.specs.Shapes.{primary_of_expr}
 use Rattle.name_rules.specs.Symbols.{text}
@@ -33,7 +33,6 @@ use Rattle.name_rules.specs.declared.log.Taken.{Taken}
 use Rattle.name_rules.specs.declared.scope.Context.{Context}
 use Rattle.name_rules.specs.declared.scope.Names.{Names}
 use Rattle.name_rules.specs.declared.types.Kind.{Kind}
-use Rattle.name_rules.specs.declared.types.Kind.TheVariants as kind
 use Rattle.name_rules.specs.declared.types.Scalar.{Scalar}
 use Rattle.name_rules.specs.declared.types.Subtype.{Subtype}
 use Rattle.name_rules.specs.declared.types.Subtype.TheVariants as subtype
@@ -126,7 +125,7 @@ module _ (W : World) (V : Sight) (w : Known) where
 
   f-by_operator : (g : Going) (c i : TypedPart) (at : ℕ) (o : Op) (x v : Found) → ChunkOf W V c → IterationOf W V Inner i → FoundOf W Inner x → FoundOf W V v → Forms W V (Maybe (FoundOf W V)) (by_operator g c i at o x v)
   f-by_operator g c i at o x v p q s t =
-      f-if W V (Maybe (FoundOf W V)) (is_logical o) (of_kind g c i at o kind.Boolean x v) _ (f-of_kind g c i at o kind.Boolean x v p q s t)
+      f-if W V (Maybe (FoundOf W V)) (is_logical o) (of_kind g c i at o (logical_kind (kind_of x.known) (kind_of v.known)) x v) _ (f-of_kind g c i at o (logical_kind (kind_of x.known) (kind_of v.known)) x v p q s t)
       (f-if W V (Maybe (FoundOf W V)) (is_number x.known && is_number v.known) (numeric g c i at o x v (kind_of x.known) (kind_of v.known)) (fault at ReduceRule) (f-numeric g c i at o x v (kind_of x.known) (kind_of v.known) p q s t) (f-fault W V (FoundOf W V) at ReduceRule))
 
   f-by_subtypes : (g : Going) (c i : TypedPart) (at n : ℕ) (result : Kind) (a b : Subtype) (x v : Found) → n < V.known.declared → ChunkOf W V c → IterationOf W V Inner i → FoundOf W Inner x → FoundOf W V v → Forms W V (Maybe (FoundOf W V)) (by_subtypes g c i at n result a b x v)

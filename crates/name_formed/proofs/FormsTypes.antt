@@ -8,15 +8,15 @@ use Rattle.typed_tree.specs.Decoded as part
 use Rattle.typed_tree.specs.Decoded.{as_value}
 use Rattle.name_rules.specs.Declarations as d
 use Rattle.name_rules.specs.Declarations.{Dimensions, Indicated, Initial, indicated}
-use Rattle.name_rules.specs.Expressions.{Inside, expr, judged_alone}
+use Rattle.name_rules.specs.Expressions.{Inside, expr, judged_alone, simple}
 use Rattle.name_rules.specs.Found.{Found}
 use Rattle.name_rules.specs.Judging.{both, given, joined, pure, some, unless, ◌>>=◌}
 use Rattle.name_rules.specs.Operators.{both_mentions}
 use Rattle.name_rules.specs.Ranges.{Static, both_static, static_range, two_bounds}
 use Rattle.name_rules.specs.Scope.{as_scalar, subtype_named}
 use Rattle.name_rules.specs.TypedParts.{also_all}
-use Rattle.name_rules.specs.Types.{in_base, lies_in, wanted_of}
-use Rattle.name_rules.specs.Values.{first_of, stored}
+use Rattle.name_rules.specs.Types.{in_base, lies_in, wanted_of, kept, base_of}
+use Rattle.name_rules.specs.Values.{first_of, stored, mentions_of}
 use Rattle.name_rules.specs.declared.log.Rule.TheVariants.{StaticRange}
 use Rattle.name_rules.specs.declared.scope.Context.{Context}
 use Rattle.name_rules.specs.declared.scope.Names.{Names}
@@ -25,8 +25,8 @@ use Rattle.name_rules.specs.declared.types.Scalar.{Scalar}
 use Rattle.name_rules.specs.declared.types.Subtype.{Subtype}
 use Rattle.name_rules.specs.declared.types.Subtype.TheVariants as subtype
 use Rattle.name_rules.specs.declared.types.Wanted.TheVariants as wanted
-use Rattle.name_formed.proofs.Forms.{Any, Forms, Maybe, Sight, World, f-bind, f-both, f-given, f-if, f-none, f-pure, f-some, f-unless, joint, mapped}
-use Rattle.name_formed.proofs.FormsExpressions.{f-expr, f-judged_alone}
+use Rattle.name_formed.proofs.Forms.{Any, Forms, Maybe, Sight, World, f-bind, f-both, f-given, f-if, f-none, f-pure, f-some, f-unless, joint, mapped, f-fault}
+use Rattle.name_formed.proofs.FormsExpressions.{f-expr, f-judged_alone, f-simple}
 use Rattle.name_formed.proofs.FormsFound.{Around, ExprOf, Finding, FoundOf, LevelForms, MentionsOf, ValueOf, each-all}
 use Rattle.name_formed.proofs.FormsRanges.{AreFinding, StaticOf, f-both_static, f-static_range, f-two_bounds}
 use Rattle.name_formed.proofs.FormsScope.{f-as_scalar, f-subtype_named}
@@ -43,8 +43,8 @@ module _ (W : World) (V : Sight) where
       f-bind W V Any (Maybe Any) (unless (lies_in s r.0) first StaticRange) _ (f-unless W V (lies_in s r.0) first StaticRange) (λ u p.
       f-bind W V Any (Maybe Any) (unless (lies_in s r.1) last StaticRange) _ (f-unless W V (lies_in s r.1) last StaticRange) (λ v q.
       f-bind W V Any (Maybe Any) (unless (int_le r.0 r.1) first StaticRange) _ (f-unless W V (int_le r.0 r.1) first StaticRange) (λ w t.
-      f-if W V (Maybe Any) (lies_in s r.0 && lies_in s r.1 && int_le r.0 r.1) (some (subtype.Scalar (record { kind = s.kind; low = r.0; high = r.1 }))) (pure None)
-      (f-some W V Any (subtype.Scalar (record { kind = s.kind; low = r.0; high = r.1 })) tt) (f-none W V Any))))
+      f-if W V (Maybe Any) (lies_in s r.0 && lies_in s r.1 && int_le r.0 r.1) (some (subtype.Scalar (record { kind = s.kind; low = kept s.kind r.0; high = kept s.kind r.1 }))) (pure None)
+      (f-some W V Any (subtype.Scalar (record { kind = s.kind; low = kept s.kind r.0; high = kept s.kind r.1 })) tt) (f-none W V Any))))
 
   f-indic_bounds : (s : Scalar) (a z : Found) → FoundOf W V a → FoundOf W V z → Forms W V (Maybe IndicatedOf) (d.indic_bounds s a z)
   f-indic_bounds s a z g h =
@@ -118,6 +118,23 @@ module _ (W : World) (V : Sight) where
   pub f-range_type : (level : Inside) (here : Context) (token : ℕ) (low high : Simple) → LevelForms W level → Around W V here → Forms W V (Maybe IndicatedOf) (two_bounds level here low high >>= d.own_type_of token)
   f-range_type level here token low high l r =
       f-bind W V (AreFinding W V) (Maybe IndicatedOf) (two_bounds level here low high) (d.own_type_of token) (f-two_bounds W V level here low high l r) (λ x q. f-own_type_of token x q.0 q.1)
+
+  -- ---- modular types
+
+  f-modular_by : (f : Found) (token first : ℕ) (k : Option ℕ) → MentionsOf W V (mentions_of f) → Forms W V (Maybe (λ t. MentionsOf W V (mentions_of f))) (d.modular_by token first k)
+  f-modular_by f token first None h = f-fault W V (λ t. MentionsOf W V (mentions_of f)) first StaticRange
+  f-modular_by f token first (Some k) h = f-some W V (λ t. MentionsOf W V (mentions_of f)) (subtype.Scalar (base_of (kind.Modular token k))) h
+
+  f-modular_type : (token : ℕ) (f : Found) → FoundOf W V f → Forms W V (Maybe IndicatedOf) (d.modular_type token f)
+  f-modular_type token f h =
+      f-bind W V (Maybe (λ z. MentionsOf W V (mentions_of f))) (Maybe IndicatedOf) (d.static_number f) _ (f-static_number (Some f) h) (λ m p.
+      f-bind W V (Maybe (λ t. MentionsOf W V (mentions_of f))) (Maybe IndicatedOf) (given m (λ z. d.modular_by token (first_of f.known) (d.exponent_from 64 1 z))) _
+      (f-given W V (λ z. MentionsOf W V (mentions_of f)) (λ t. MentionsOf W V (mentions_of f)) m (λ z. d.modular_by token (first_of f.known) (d.exponent_from 64 1 z)) p (λ z q. f-modular_by f token (first_of f.known) (d.exponent_from 64 1 z) q)) (λ t q.
+      f-pure W V (Maybe IndicatedOf) (option_map (indicated (mentions_of f)) t) (mapped (λ t. MentionsOf W V (mentions_of f)) IndicatedOf (indicated (mentions_of f)) t q (λ x r. r))))
+
+  pub f-modulus : (level : Inside) (here : Context) (token : ℕ) (m : Simple) → LevelForms W level → Around W V here → Forms W V (Maybe IndicatedOf) (simple level here wanted.Other m >>= λ x. given x (d.modular_type token))
+  f-modulus level here token m l r =
+      f-bind W V (Finding W V) (Maybe IndicatedOf) (simple level here wanted.Other m) _ (f-simple W V level here wanted.Other m l r) (λ x q. f-given W V (FoundOf W V) IndicatedOf x (d.modular_type token) q (λ f p. f-modular_type token f p))
 
   -- ---- initial values, and named numbers
 

@@ -16,8 +16,8 @@ use Rattle.typed_tree.specs.declared.scalars.Class.TheVariants as class
 use Rattle.name_rules.specs.Found.{Found}
 use Rattle.name_rules.specs.Judging.{fault, some, unless}
 use Rattle.name_rules.specs.TypedParts.{exprs_of, selections_of}
-use Rattle.name_rules.specs.Types.{check_at, class_of, in_base, is_integer, same}
-use Rattle.name_rules.specs.Values.{any_integer, any_scalar, asked, asked_form, beyond, composite_asked, composite_form, first_of, fitting, is_number, is_scalar, literal, mentions_of, object_expr, object_value, own_kind, place_asked, settled, settled_by, settled_found, static_integer, static_of_kind, static_value, stored, value_of, valued, whole_object, whole_of}
+use Rattle.name_rules.specs.Types.{check_at, class_of, in_base, is_integer, same, kept}
+use Rattle.name_rules.specs.Values.{any_integer, any_scalar, asked, asked_form, beyond, composite_asked, composite_form, first_of, fitting, is_number, is_scalar, literal, mentions_of, object_expr, object_value, own_kind, place_asked, settled, settled_by, settled_found, static_integer, static_of_kind, static_value, stored, value_of, valued, whole_object, whole_of, is_word_kind, kind_of}
 use Rattle.name_rules.specs.declared.found.Found.TheVariants as known
 use Rattle.name_rules.specs.declared.found.Found.{Found as Known}
 use Rattle.name_rules.specs.declared.found.Limits.{Limits}
@@ -30,6 +30,7 @@ use Rattle.name_rules.specs.declared.types.Subtype.{Subtype}
 use Rattle.name_rules.specs.declared.types.Subtype.TheVariants as subtype
 use Rattle.name_formed.proofs.Forms.{Any, Forms, Maybe, Sight, World, f-bind, f-fault, f-given, f-if, f-pure, f-some, f-test, f-unless, shape_of}
 use Rattle.name_formed.proofs.FormsFound.{Each, ExprOf, FoundOf, IsPiece, KnownOf, MentionsOf, OpenOf, PathOf, PlaceOf, RootOf, ValueOf, WideOf, each-turned}
+use Rattle.std.specs.Prelude.{◌&&◌, not}
 
 -- ---- classes
 
@@ -37,6 +38,7 @@ pub is-settled : (k : Kind) → IsSettled (class_of k)
 is-settled kind.Boolean = tt
 is-settled kind.Integer = tt
 is-settled (kind.Own n) = tt
+is-settled (kind.Modular n k) = tt
 
 class-same : (c d : Class) → IsSettled d → class_or c d ≡ d
 class-same c class.Boolean h = refl
@@ -183,7 +185,7 @@ module _ (W : World) (V : Sight) where
 
   f-valued : (k : Kind) (first : ℕ) (z : ℤ) (alone : Bool) (x : TypedPart) → MentionsOf W V x → Forms W V (Maybe (ExprOf W V)) (valued k first z alone x)
   unfolding valued
-  f-valued k first z alone x h = f-if W V (Maybe (ExprOf W V)) (in_base k z) (some (literal first z alone x)) (fault first StaticRange) (f-some W V (ExprOf W V) (literal first z alone x) (literal-formed first z alone x h)) (f-fault W V (ExprOf W V) first StaticRange)
+  f-valued k first z alone x h = f-if W V (Maybe (ExprOf W V)) (in_base k z) (some (literal first (kept k z) alone x)) (fault first StaticRange) (f-some W V (ExprOf W V) (literal first (kept k z) alone x) (literal-formed first (kept k z) alone x h)) (f-fault W V (ExprOf W V) first StaticRange)
 
   pub f-fitting : (k : Kind) (first : ℕ) (z : ℤ) → Forms W V Any (fitting k first z)
   unfolding fitting
@@ -195,12 +197,11 @@ module _ (W : World) (V : Sight) where
 
   f-settled : (k : Kind) (l : Limits) (e : TypedExpr) → OpenOf W V e → Forms W V (Maybe (ExprOf W V)) (settled k l e)
   unfolding settled
-  f-settled k l e h = f-settled_by k e (beyond k l) h
+  f-settled k l e h = f-settled_by k e (beyond k l e) h
 
-  object-formed : (p : ObjectName) (x : TypedPart) (s : Scalar) (v : Option ℤ) → p.subtype ≡ subtype.Scalar s → p.value ≡ v → PlaceOf W V p x → ExprOf W V (object_value p (selections_of x) s v)
-  unfolding turned
-  object-formed p x s (Some z) e v h = tt
-  object-formed p x s None e v h = by p.variable refl
+  f-object_value : (k : Kind) (p : ObjectName) (x : TypedPart) (s : Scalar) (v : Option ℤ) → p.subtype ≡ subtype.Scalar s → PlaceOf W V p x → Forms W V (Maybe (ExprOf W V)) (object_value k p (selections_of x) s v)
+  f-object_value k p x s (Some z) e h = f-valued k p.first z false part.Nothing tt
+  f-object_value k p x s None e h = f-some W V (ExprOf W V) (part.AnExpr (object_expr p (selections_of x) s p.variable)) (by p.variable refl)
     where
       single : size (shape_of W.program p.subtype) ≡ 1
       single = ap (λ t. size (shape_of W.program t)) e
@@ -214,8 +215,8 @@ module _ (W : World) (V : Sight) where
 
   f-place_asked : (k : Kind) (p : ObjectName) (x : TypedPart) (s : Subtype) → p.subtype ≡ s → PlaceOf W V p x → Forms W V (Maybe (ExprOf W V)) (place_asked k p (selections_of x) s)
   f-place_asked k p x (subtype.Scalar s) e h =
-      f-if W V (Maybe (ExprOf W V)) (same s.kind k) (some (object_value p (selections_of x) s p.value)) (fault p.first WrongType)
-      (f-some W V (ExprOf W V) (object_value p (selections_of x) s p.value) (object-formed p x s p.value e refl h))
+      f-if W V (Maybe (ExprOf W V)) (same s.kind k) (object_value k p (selections_of x) s p.value) (fault p.first WrongType)
+      (f-object_value k p x s p.value e h)
       (f-fault W V (ExprOf W V) p.first WrongType)
   f-place_asked k p x (subtype.Composite n) e h = f-fault W V (ExprOf W V) p.first WrongType
 
@@ -223,8 +224,8 @@ module _ (W : World) (V : Sight) where
   f-asked_form k (known.Universal first z alone) x h = f-if W V (Maybe (ExprOf W V)) (is_integer k) (valued k first z alone x) (fault first WrongType) (f-valued k first z alone x h) (f-fault W V (ExprOf W V) first WrongType)
   f-asked_form k (known.Open first l) x h = f-if W V (Maybe (ExprOf W V)) (is_integer k) (settled k l (as_expr x)) (fault first WrongType) (f-settled k l (as_expr x) h) (f-fault W V (ExprOf W V) first WrongType)
   f-asked_form k (known.Static first j z) x h =
-      f-if W V (Maybe (ExprOf W V)) (same j k) (some (literal first z false x)) (fault first WrongType)
-      (f-some W V (ExprOf W V) (literal first z false x) (literal-formed first z false x h)) (f-fault W V (ExprOf W V) first WrongType)
+      f-if W V (Maybe (ExprOf W V)) (same j k) (valued k first z false x) (fault first WrongType)
+      (f-valued k first z false x h) (f-fault W V (ExprOf W V) first WrongType)
   f-asked_form k (known.Object p) x h = f-place_asked k p x p.subtype refl h
   f-asked_form k (known.Scalar first j n) x h = f-if W V (Maybe (ExprOf W V)) (same j k) (some x) (fault first WrongType) (f-some W V (ExprOf W V) x h) (f-fault W V (ExprOf W V) first WrongType)
   f-asked_form k f x h = f-fault W V (ExprOf W V) (first_of f) WrongType
@@ -239,7 +240,7 @@ module _ (W : World) (V : Sight) where
 
   pub f-any_integer : (f : Found) → FoundOf W V f → Forms W V (Maybe (ExprOf W V)) (any_integer f)
   unfolding any_integer
-  f-any_integer f h = f-if W V (Maybe (ExprOf W V)) (is_number f.known) (settled_found f) (fault (first_of f.known) WrongType) (f-settled_found f h) (f-fault W V (ExprOf W V) (first_of f.known) WrongType)
+  f-any_integer f h = f-if W V (Maybe (ExprOf W V)) (is_number f.known && not (is_word_kind (kind_of f.known))) (settled_found f) (fault (first_of f.known) WrongType) (f-settled_found f h) (f-fault W V (ExprOf W V) (first_of f.known) WrongType)
 
   pub f-any_scalar : (f : Found) → FoundOf W V f → Forms W V (Maybe (ExprOf W V)) (any_scalar f)
   unfolding any_scalar

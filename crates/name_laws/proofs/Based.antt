@@ -1,12 +1,13 @@
 -- What lies between the bounds of a subtype lies in its base range, and arrays keep bounds of base ranges.
-use Rattle.std.proofs.Common.{◌≡◌, ℕ, ◌+◌, ℤ, pos, negsuc, int_le, List, [], ◌∷◌, ◌++◌, Option, Some, None, Bool, true, false, true≢false, refl, sym, ap, ◌∙◌, ◌⊎◌, inl, inr, arith, ◌&&◌, le-leb, leb-true, nat_le, nat_lt, slice_get, subst, ◌==◌}
+use Rattle.std.proofs.Common.{◌≡◌, ℕ, ◌+◌, ◌-◌, ℤ, pos, negsuc, int_le, List, [], ◌∷◌, ◌++◌, Option, Some, None, Bool, true, false, true≢false, refl, sym, ap, ◌∙◌, ◌⊎◌, inl, inr, arith, ◌&&◌, le-leb, leb-true, nat_le, nat_lt, slice_get, subst, ◌==◌}
 use Rattle.std.specs.Prelude.{not, ◌||◌}
 use Rattle.std.proofs.lemmas.Bool.{and_parts}
-use Rattle.ada_base.specs.Operation.{greatest_of, least_of}
+use Rattle.ada_base.specs.Operation.{greatest_of, least_of, modulus}
+use Rattle.ada_base.proofs.Turning.{turned_twice}
 use Rattle.ada_base.specs.declared.operation.Base.TheVariants.{Narrow, Wide}
 use Rattle.name_rules.specs.Declarations.{Initial, cells_counted, constant_value}
 use Rattle.name_rules.specs.Judging.{unless}
-use Rattle.name_rules.specs.Types.{in_base, lies_in, saturated, written_shape}
+use Rattle.name_rules.specs.Types.{in_base, is_modular, kept, lies_in, saturated, written_shape}
 use Rattle.name_rules.specs.Limits.{most_cells, most_objects}
 use Rattle.name_rules.specs.declared.log.Bound.TheVariants as bound
 use Rattle.name_rules.specs.declared.log.Dimension.{Dimension}
@@ -23,7 +24,7 @@ use Rattle.name_rules.specs.declared.types.Subtype.TheVariants as subtype
 use Rattle.name_laws.proofs.Constants.{get-either}
 use Rattle.name_laws.proofs.Fitting.{Fits, fits_constant}
 use Rattle.name_laws.proofs.Walk.{Walk}
-use Rattle.name_laws.specs.Based.{AreSpans, ArraysBased, HasBased, IsBased, IsSpan}
+use Rattle.name_laws.specs.Based.{AreSpans, ArraysBased, HasBased, IsBased, IsRange, IsSpan}
 
 -- ---- ranges
 
@@ -36,7 +37,7 @@ int-trans (negsuc a) (pos b) (negsuc c) e f = absurd (true≢false (sym f))
 int-trans (negsuc a) (negsuc b) (pos c) e f = refl
 int-trans (negsuc a) (negsuc b) (negsuc c) e f = le-leb c a (omega (arith, leb-true b a e, leb-true c b f))
 
-both-true : (a b : Bool) → a ≡ true → b ≡ true → (a && b) ≡ true
+pub both-true : (a b : Bool) → a ≡ true → b ≡ true → (a && b) ≡ true
 both-true true b e f = f
 both-true false b e f = absurd (true≢false (sym e))
 
@@ -51,12 +52,29 @@ pub base-between : (k : Kind) (low high z : ℤ) → in_base k low ≡ true → 
 base-between kind.Boolean low high z = between (pos 0) (pos 1) low high z
 base-between kind.Integer low high z = between (least_of Narrow) (greatest_of Narrow) low high z
 base-between (kind.Own n) low high z = between (least_of Wide) (greatest_of Wide) low high z
+base-between (kind.Modular n k) low high z = between (pos 0) (pos (modulus k - 1)) low high z
 
-pub lies-based : (s : Scalar) (z : ℤ) → IsSpan s.kind s.low s.high → lies_in s z ≡ true → in_base s.kind z ≡ true
-lies-based s z h e = let x = and_parts (int_le s.low z) (int_le z s.high) e in base-between s.kind s.low s.high z h.first h.last x.0 x.1
+pub kept-twice : (k : Kind) (z : ℤ) → kept k (kept k z) ≡ z
+kept-twice kind.Boolean z = refl
+kept-twice kind.Integer z = refl
+kept-twice (kind.Own n) z = refl
+kept-twice (kind.Modular n k) z = turned_twice z
+
+pub plain-kept : (k : Kind) (z : ℤ) → is_modular k ≡ false → kept k z ≡ z
+plain-kept kind.Boolean z e = refl
+plain-kept kind.Integer z e = refl
+plain-kept (kind.Own n) z e = refl
+plain-kept (kind.Modular n k) z e = absurd cc
+
+-- a subtype of a type that isn't modular
+pub plain-span : (k : Kind) (low high : ℤ) → is_modular k ≡ false → IsRange k (kept k low) (kept k high) → IsSpan k low high
+plain-span k low high e h = record { plain = e; range = subst (λ z. IsRange k low z) (plain-kept k high e) (subst (λ z. IsRange k z (kept k high)) (plain-kept k low e) h) }
+
+pub lies-based : (s : Scalar) (z : ℤ) → IsRange s.kind (kept s.kind s.low) (kept s.kind s.high) → lies_in s z ≡ true → in_base s.kind z ≡ true
+lies-based s z h e = let x = and_parts (int_le (kept s.kind s.low) z) (int_le z (kept s.kind s.high)) e in base-between s.kind (kept s.kind s.low) (kept s.kind s.high) z h.first h.last x.0 x.1
 
 -- the bounds of a range within a subtype's
-pub within-based : (s : Scalar) (low high : ℤ) → IsSpan s.kind s.low s.high → (lies_in s low && lies_in s high && int_le low high) ≡ true → IsSpan s.kind low high
+pub within-based : (s : Scalar) (low high : ℤ) → IsRange s.kind (kept s.kind s.low) (kept s.kind s.high) → (lies_in s low && lies_in s high && int_le low high) ≡ true → IsRange s.kind low high
 within-based s low high h e =
     let x = and_parts (lies_in s low && lies_in s high) (int_le low high) e in
     let y = and_parts (lies_in s low) (lies_in s high) x.0 in

@@ -1,5 +1,7 @@
 -- Declarations leave what is right: the subtypes that they name stand in the table.
-use Rattle.std.proofs.Common.{◌≡◌, refl, true≢false, ℕ, ℤ, ◌<◌, ◌≤◌, int_le, List, [], ◌∷◌, ◌++◌, length, Option, Some, None, Bool, true, false, sym, ap, subst, ◌∙◌, ◌⊎◌, inl, inr, arith, if◌then◌else◌, nat_le, option_map, ◌==◌, ◌&&◌}
+use Rattle.std.proofs.Common.{◌≡◌, refl, true≢false, ℕ, ℤ, ◌<◌, ◌≤◌, int_le, List, [], ◌∷◌, ◌++◌, length, Option, Some, None, Bool, true, false, sym, ap, subst, ◌∙◌, ◌⊎◌, inl, inr, arith, if◌then◌else◌, nat_le, option_map, ◌==◌, ◌&&◌, ◌||◌}
+use Rattle.name_rules.specs.declared.types.Kind.TheVariants as kind
+use Rattle.name_laws.proofs.Based.{kept-twice, plain-kept}
 use Rattle.std.specs.Prelude.{◌||◌}
 use Rattle.ada_base.specs.declared.reason.Reason.TheVariants as reason
 use Rattle.syntax_tree.specs.Syntax as syntax
@@ -19,7 +21,7 @@ use Rattle.name_rules.specs.Ranges.{Static}
 use Rattle.name_rules.specs.Limits.{most_dimensions}
 use Rattle.name_rules.specs.declared.log.Bound.TheVariants as bound
 use Rattle.name_rules.specs.declared.log.Rule.TheVariants.{StaticRange, WrongType}
-use Rattle.name_rules.specs.Types.{is_integer}
+use Rattle.name_rules.specs.Types.{kept, is_modular}
 use Rattle.name_rules.specs.Values.{is_number as is_numeric, suits}
 use Rattle.name_rules.specs.declared.types.Kind.{Kind}
 use Rattle.std.specs.Prelude.{not}
@@ -167,16 +169,19 @@ last-true true true c e = e
 last-true true false c e = absurd (true≢false (sym e))
 last-true false b c e = absurd (true≢false (sym e))
 
-scalar-if : (n : ℕ) (b : Bool) (s : Scalar) (log : Log) → (b ≡ true → int_le s.low s.high ≡ true) → IsRightOne n ((if b then some (subtype.Scalar s) else pure None) log).0
+scalar-if : (n : ℕ) (b : Bool) (s : Scalar) (log : Log) → (b ≡ true → int_le (kept s.kind s.low) (kept s.kind s.high) ≡ true) → IsRightOne n ((if b then some (subtype.Scalar s) else pure None) log).0
 scalar-if n true s log h = h refl
 scalar-if n false s log h = tt
+
+kept-order : (k : Kind) (a z : ℤ) → int_le a z ≡ true → int_le (kept k (kept k a)) (kept k (kept k z)) ≡ true
+kept-order k a z h = ap (λ x. int_le x (kept k (kept k z))) (kept-twice k a) ∙ ap (λ y. int_le a y) (kept-twice k z) ∙ h
 
 bounds-right : (n : ℕ) (s : Scalar) (a z : Found) (log : Log) → IsIndicated n (d.indic_bounds s a z log).0
 bounds-right n s a z log = by (both_static s.kind a z log).0 (both_static s.kind a z log).1
   where
     by : (v : Option (ℤ × ℤ)) (log : Log) → IsIndicated n (option_map (indicated (both_mentions a z)) (given v (d.indic_range s (first_of a.known) (first_of z.known)) log).0)
     by None log = tt
-    by (Some r) log = mapped n (both_mentions a z) _ (scalar-if n (lies_in s r.0 && lies_in s r.1 && int_le r.0 r.1) _ _ (last-true (lies_in s r.0) (lies_in s r.1) (int_le r.0 r.1)))
+    by (Some r) log = mapped n (both_mentions a z) _ (scalar-if n (lies_in s r.0 && lies_in s r.1 && int_le r.0 r.1) _ _ (λ e. kept-order s.kind r.0 r.1 (last-true (lies_in s r.0) (lies_in s r.1) (int_le r.0 r.1) e)))
 
 ranged : (n : ℕ) (t : Option Scalar) (x y : Option Found) (log : Log) → IsIndicated n (given t (λ s. both x y (d.indic_bounds s)) log).0
 ranged n None x y log = tt
@@ -209,7 +214,7 @@ next-leaves Q log mid r l h = record { longer = omega (arith, l, h.longer); soun
 indicated-leaves : (x : TypedPart) (log : Log) (r : Option Subtype × Log) → Leaves IsRightOne log r → Leaves IsIndicated log (option_map (indicated x) r.0, r.1)
 indicated-leaves x log r h = record { longer = h.longer; sound = h.sound; right = mapped (length r.1.shapes) x r.0 h.right }
 
-none-leaves : (log : Log) → Sound log → Leaves IsIndicated log (None, log)
+pub none-leaves : (log : Log) → Sound log → Leaves IsIndicated log (None, log)
 none-leaves log h = record { longer = omega arith; sound = h; right = tt }
 
 fault-leaves : (at : ℕ) (rule : Rule) (log : Log) → Sound log → Leaves IsIndicated log (fault at rule log)
@@ -300,7 +305,7 @@ s-bounds first a z =
     let g = ranges.spanned first true k a z in
     let w = both_static k a z >>= λ s. given s g in
     let v = if not (suits k a.known && suits k z.known) then fault (first_of z.known) WrongType else w in
-    s-if (not (is_numeric a.known)) (fault (first_of a.known) WrongType) v (s-fault (first_of a.known) WrongType)
+    s-if (not (is_numeric a.known) || is_modular k) (fault (first_of a.known) WrongType) v (s-fault (first_of a.known) WrongType)
     (s-if (not (suits k a.known && suits k z.known)) (fault (first_of z.known) WrongType) w (s-fault (first_of z.known) WrongType)
     (s-bind (both_static k a z) (λ s. given s g) (λ s. s-given s g (λ r. s-spanned first k a z r))))
 
@@ -308,16 +313,25 @@ s-static_checked : (first : ℕ) (t : Scalar) (a z : Found) → Spans (ranges.st
 unfolding ranges.static_checked
 s-static_checked first t a z =
     let g = ranges.checked_span first true t a z in
-    s-if (is_integer t.kind) (both_static t.kind a z >>= λ v. given v g) (fault first WrongType)
+    s-if (ranges.is_index t.kind) (both_static t.kind a z >>= λ v. given v g) (fault first WrongType)
     (s-bind (both_static t.kind a z) (λ v. given v g) (λ v. s-given v g (λ r. s-checked first t a z r))) (s-fault first WrongType)
+
+plain-range : (k : Kind) (low high : ℤ) → is_modular k ≡ false → int_le (kept k low) (kept k high) ≡ true → int_le low high ≡ true
+plain-range k low high e h = ap (λ x. int_le x high) (sym (plain-kept k low e)) ∙ ap (λ y. int_le (kept k low) y) (sym (plain-kept k high e)) ∙ h
+
+index-plain : (k : Kind) → ranges.is_index k ≡ true → is_modular k ≡ false
+index-plain kind.Boolean e = refl
+index-plain kind.Integer e = refl
+index-plain (kind.Own n) e = refl
+index-plain (kind.Modular n k) e = absurd cc
 
 name-span : (n first : ℕ) (k : Known) (x : TypedPart) → IsRightly n k → Spans (ranges.static_name first k x)
 name-span n first (denoted.Range at d) x h = record { at = λ log. h }
-name-span n first (denoted.Type at (subtype.Scalar s)) x h = by (is_integer s.kind)
+name-span n first (denoted.Type at (subtype.Scalar s)) x h = by (ranges.is_index s.kind) refl
   where
-    by : (b : Bool) → Spans (if b then some (record { known = record { kind = s.kind; low = s.low; high = s.high }; part = part.Nothing }) else fault first WrongType)
-    by true = record { at = λ log. h }
-    by false = s-fault first WrongType
+    by : (b : Bool) → ranges.is_index s.kind ≡ b → Spans (if b then some (record { known = record { kind = s.kind; low = s.low; high = s.high }; part = part.Nothing }) else fault first WrongType)
+    by true e = record { at = λ log. (plain-range s.kind s.low s.high (index-plain s.kind e) h) }
+    by false e = s-fault first WrongType
 name-span n first d x h = s-fault _ WrongType
 
 static-span : (level : Inside) (here : Context) (r : syntax.Range) (log : Log) → NamesRight level → Sound log → AreRight (length log.shapes) here.scope → HasSpan (ranges.static_range level here true None r log).0

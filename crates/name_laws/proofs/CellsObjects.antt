@@ -1,5 +1,11 @@
 -- Record types, objects and declarations leave what is right.
-use Rattle.std.proofs.Common.{true≢false, leb-true, nat_le, nat_lt, map, ◌≡◌, ℕ, suc, ℤ, ◌+◌, ◌<◌, ◌≤◌, int_le, List, [], ◌∷◌, ◌++◌, length, length-append, Option, Some, None, Bool, true, false, refl, sym, ap, subst, ◌∙◌, arith, if◌then◌else◌, option_map, ◌&&◌}
+use Rattle.std.proofs.Common.{true≢false, leb-true, nat_le, nat_lt, map, ◌≡◌, ℕ, suc, ℤ, ◌+◌, ◌<◌, ◌≤◌, int_le, List, [], ◌∷◌, ◌++◌, length, length-append, Option, Some, None, Bool, true, false, refl, sym, ap, subst, ◌∙◌, arith, if◌then◌else◌, option_map, ◌&&◌, ◌-◌, le-leb, pos}
+use Rattle.name_rules.specs.Values.{first_of, mentions_of}
+use Rattle.name_rules.specs.Found.{Found}
+use Rattle.name_laws.proofs.Walk.{k-given}
+use Rattle.name_laws.proofs.KeepsExpressions.{k-simple}
+use Rattle.ada_base.proofs.Turning.{turned_twice}
+use Rattle.ada_base.specs.Operation.{turned, modulus}
 use Rattle.std.specs.Prelude.{is_some, not}
 use Rattle.ada_base.specs.declared.reason.Reason.TheVariants as reason
 use Rattle.syntax_tree.specs.Syntax as syntax
@@ -8,7 +14,7 @@ use Rattle.typed_tree.specs.Decoded as part
 use Rattle.typed_tree.specs.Decoded.{TypedPart}
 use Rattle.name_rules.specs.Declarations as d
 use Rattle.name_rules.specs.Declarations.{Building, Indicated, Initial, all_ids, indicated}
-use Rattle.name_rules.specs.Expressions.{Inside, expr}
+use Rattle.name_rules.specs.Expressions.{Inside, expr, simple}
 use Rattle.name_rules.specs.Judging.{◌>>=◌, both, given, pure, some, unless}
 use Rattle.name_rules.specs.Ranges.{two_bounds}
 use Rattle.name_rules.specs.Scope.{declared, free, hidden_where}
@@ -28,7 +34,7 @@ use Rattle.name_rules.specs.declared.types.Kind.TheVariants as kind
 use Rattle.name_rules.specs.declared.types.Subtype.{Subtype}
 use Rattle.name_rules.specs.declared.types.Subtype.TheVariants as subtype
 use Rattle.name_rules.specs.declared.types.Wanted.TheVariants as wanted
-use Rattle.name_laws.proofs.CellsDeclared.{NamesRight, IsIndicated, IsRightMaybe, Leaves, array-leaves, begun-right, declared-right, ended-right, hidden-right, indic-right, last-true, next-leaves, now}
+use Rattle.name_laws.proofs.CellsDeclared.{NamesRight, IsIndicated, IsRightMaybe, Leaves, array-leaves, begun-right, declared-right, ended-right, hidden-right, indic-right, last-true, next-leaves, now, none-leaves}
 use Rattle.std.proofs.lemmas.List.{append-nil, append_assoc, map-append}
 use Rattle.std.proofs.lemmas.Option.{slice_get-get_or}
 use Rattle.typed_tree.specs.Layout.{cells_of, fields_cells}
@@ -38,7 +44,7 @@ use Rattle.name_laws.proofs.CellsCounted.{fields_sum, saturated_least, saturated
 use Rattle.name_laws.proofs.CellsGrown.{Extends, extending, extends_joined, fields_later, lie_later, numbered_later, shape_later, values_before}
 use Rattle.name_laws.proofs.CellsSound.{AllValues, FieldsLie, FieldsNumbered, NumberIn, number_in, number_counted, table_of, AreRight, FieldsBefore, IsRight, Sound, are_later, longer_shapes, minding, more_objects, more_shapes, number_within, right_later}
 use Rattle.name_laws.proofs.Fitting.{is_number}
-use Rattle.name_laws.proofs.KeepsDeclarations.{k-begun_names, k-cells_counted, k-each_exception, k-indic, k-initial, k-numbers, k-own_type_of, k-valued_constant}
+use Rattle.name_laws.proofs.KeepsDeclarations.{k-begun_names, k-cells_counted, k-each_exception, k-indic, k-initial, k-numbers, k-own_type_of, k-valued_constant, k-modular_by, k-static_number}
 use Rattle.name_laws.proofs.KeepsRanges.{k-two_bounds}
 use Rattle.name_laws.proofs.KeepsScope.{k-free}
 use Rattle.name_laws.proofs.KeepsTypes.{k-number_of}
@@ -334,9 +340,41 @@ range-type names level here token low high log keeps h =
       right = own-right _ token (d.first_or r.0.0) (d.first_or r.0.1) (also_all (d.found_mentions r.0.0) (d.found_mentions r.0.1)) a.0 z.0 z.1;
     }
 
+modular-right : (n token first : ℕ) (x : TypedPart) (m : Option ℤ) (log : Log) → IsIndicated n (option_map (indicated x) (given m (λ z. d.modular_by token first (d.exponent_from 64 1 z)) log).0)
+modular-right n token first x None log = tt
+modular-right n token first x (Some z) log = by (d.exponent_from 64 1 z)
+  where
+    at_least : (k : ℕ) → int_le (turned (pos 0)) (turned (turned (pos (modulus k - 1)))) ≡ true
+    at_least k = ap (λ y. int_le (pos 0) y) (turned_twice (pos (modulus k - 1))) ∙ le-leb 0 (modulus k - 1) (omega arith)
+
+    by : (k : Option ℕ) → IsIndicated n (option_map (indicated x) (d.modular_by token first k log).0)
+    by None = tt
+    by (Some k) = at_least k
+
+modular-type : (names : Names) (level : Inside) (here : Context) (token : ℕ) (m : Simple) (log : Log) → KeepsBoth level → Sound log
+    → Leaves IsIndicated log ((simple level here wanted.Other m >>= λ x. given x (d.modular_type token)) log)
+modular-type names level here token m log keeps h =
+    let r = simple level here wanted.Other m log in
+    let k = now log (simple level here wanted.Other m) (k-simple (minding 0) level here wanted.Other m keeps.minds) h in
+    next-leaves IsIndicated log r.1 (given r.0 (d.modular_type token) r.1) k.0 (by r.0 r.1 k.1)
+  where
+    by : (x : Option Found) (log : Log) → Sound log → Leaves IsIndicated log (given x (d.modular_type token) log)
+    by None log h = none-leaves log h
+    by (Some f) log h =
+        let v = d.static_number f log in
+        let k = now log (d.static_number f) (k-static_number (minding 0) f) h in
+        let w = given v.0 (λ z. d.modular_by token (first_of f.known) (d.exponent_from 64 1 z)) v.1 in
+        let j = now v.1 (given v.0 (λ z. d.modular_by token (first_of f.known) (d.exponent_from 64 1 z))) (k-given (minding 0) v.0 (λ z. d.modular_by token (first_of f.known) (d.exponent_from 64 1 z)) (λ z. k-modular_by (minding 0) token (first_of f.known) (d.exponent_from 64 1 z))) k.1 in
+        record {
+          longer = omega (arith, k.0, j.0);
+          sound = j.1;
+          right = modular-right (length w.1.shapes) token (first_of f.known) (mentions_of f) v.0 v.1;
+        }
+
 defined-leaves : (names : Names) (level : Inside) (here : Context) (token : ℕ) (x : Definition) (log : Log) → KeepsBoth level → Sound log → AreRight (length log.shapes) here.scope
     → Leaves IsIndicated log (d.defined names level here token x log)
 unfolding d.defined
+defined-leaves names level here token (syntax.ModularType m) log keeps h r = modular-type names level here token m log keeps h
 defined-leaves names level here token (syntax.RangeType low high) log keeps h r = range-type names level here token low high log keeps h
 defined-leaves names level here token (syntax.ArrayType a) log keeps h r = array-leaves names level here a log keeps.minds keeps.named h r
 defined-leaves names level here token (syntax.RecordType c cs) log keeps h r = record-leaves names level here c cs log keeps h r

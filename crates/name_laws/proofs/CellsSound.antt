@@ -9,7 +9,7 @@ use Rattle.typed_tree.specs.declared.program.Object.{Object}
 use Rattle.name_rules.specs.Declarations.{cells_counted}
 use Rattle.name_rules.specs.Judging.{unless}
 use Rattle.name_rules.specs.Resolved.{typed_subtype}
-use Rattle.name_rules.specs.Types.{cells_in, cells_of_shape, dimensions_of, fields_of, saturated}
+use Rattle.name_rules.specs.Types.{cells_in, cells_of_shape, dimensions_of, fields_of, saturated, kept}
 use Rattle.name_rules.specs.Limits.{most_cells, most_objects}
 use Rattle.name_rules.specs.declared.log.Bound.TheVariants as bound
 use Rattle.name_rules.specs.declared.log.Field.{Field}
@@ -241,7 +241,7 @@ minding known = record {
 -- ---- subtypes that are known, and declarations of such
 
 abbrev pub IsRight : ℕ → Subtype → Type 0
-IsRight n (subtype.Scalar s) = int_le s.low s.high ≡ true
+IsRight n (subtype.Scalar s) = int_le (kept s.kind s.low) (kept s.kind s.high) ≡ true
 IsRight n (subtype.Composite m) = m < n
 
 pub right_later : (n m : ℕ) (s : Subtype) → n ≤ m → IsRight n s → IsRight m s

@@ -1,5 +1,5 @@
 -- Static values of objects lie in their subtypes.
-use Rattle.std.proofs.Common.{◌≡◌, ℕ, ℤ, zero, suc, ◌+◌, List, [], ◌∷◌, ◌++◌, Option, Some, None, Bool, true, false, refl, sym, ap, subst, ◌∙◌, ◌⊎◌, inl, inr, slice_get, int_le, nat_le, nat_lt, ◌==◌, map, option_map}
+use Rattle.std.proofs.Common.{◌≡◌, ℕ, ℤ, zero, suc, ◌+◌, List, [], ◌∷◌, ◌++◌, Option, Some, None, Bool, true, false, refl, sym, ap, subst, ◌∙◌, ◌⊎◌, inl, inr, slice_get, int_le, nat_le, nat_lt, ◌==◌, map, option_map, ◌&&◌}
 use Rattle.std.proofs.lemmas.Bool.{and_parts}
 use Rattle.std.proofs.lemmas.Option.{slice_get-map}
 use Rattle.std.specs.Prelude.{not, ◌||◌}
@@ -11,7 +11,7 @@ use Rattle.name_rules.specs.Declarations.{cells_counted}
 use Rattle.name_rules.specs.Judging.{unless}
 use Rattle.syntax_tree.specs.Parsed.{depth_limit}
 use Rattle.name_rules.specs.Resolved.{fresh, judged, typed_subtype}
-use Rattle.name_rules.specs.Types.{class_of, is_integer, lies_in, saturated, typed_scalar}
+use Rattle.name_rules.specs.Types.{class_of, is_integer, lies_in, saturated, typed_scalar, is_modular, kept}
 use Rattle.name_rules.specs.Limits.{most_cells, most_objects}
 use Rattle.name_rules.specs.declared.log.Bound.TheVariants as bound
 use Rattle.name_rules.specs.declared.log.Log.{Log}
@@ -37,6 +37,7 @@ pub record Holds (shapes : List Shape) (o : Object) (z : ℤ) : Type 0 where
   pub scalar : Scalar
   pub at : slice_get shapes o.subtype ≡ Some (shape.Scalar scalar)
   pub integer : is_integer scalar.kind ≡ true
+  pub plain : is_modular scalar.kind ≡ false
   pub lies : lies_in scalar z ≡ true
 
 abbrev pub AllHold : Log → Type 0
@@ -62,20 +63,20 @@ get-either (a ∷ xs) x (suc i) y e = get-either xs x i y e
 alike : (a b : Log) → a.shapes ≡ b.shapes → a.objects ≡ b.objects → Grows a b
 alike a b e f = record {
   shapes = λ n t g. ap (λ s. slice_get s n) (sym e) ∙ g;
-  holds = λ h i o z g v. let x = h i o z (ap (λ s. slice_get s i) f ∙ g) v in record { constant = x.constant; scalar = x.scalar; at = ap (λ s. slice_get s o.subtype) (sym e) ∙ x.at; integer = x.integer; lies = x.lies };
+  holds = λ h i o z g v. let x = h i o z (ap (λ s. slice_get s i) f ∙ g) v in record { constant = x.constant; scalar = x.scalar; at = ap (λ s. slice_get s o.subtype) (sym e) ∙ x.at; integer = x.integer; plain = x.plain; lies = x.lies };
 }
 
 more-shapes : (t : Shape) (a : Log) → Grows a (record a { shapes = a.shapes ++ t ∷ [] })
 more-shapes t a = record {
   shapes = λ n u g. get-kept a.shapes t n u g;
-  holds = λ h i o z g v. let x = h i o z g v in record { constant = x.constant; scalar = x.scalar; at = get-kept a.shapes t o.subtype (shape.Scalar x.scalar) x.at; integer = x.integer; lies = x.lies };
+  holds = λ h i o z g v. let x = h i o z g v in record { constant = x.constant; scalar = x.scalar; at = get-kept a.shapes t o.subtype (shape.Scalar x.scalar) x.at; integer = x.integer; plain = x.plain; lies = x.lies };
 }
 
 value-holds : (shapes : List Shape) (o : Object) (s : Subtype) (log : Log) → log.shapes ≡ shapes → (value : Option ℤ) (constant : Bool) → o.constant ≡ constant → IsNumber s o.subtype log → Fits s constant value
     → (z : ℤ) → value ≡ Some z → Holds shapes o z
 value-holds shapes o (subtype.Scalar s) log e (Some y) constant c n f z v =
     let same : y ≡ z = cc in
-    record { constant = c ∙ f.0; scalar = s; at = ap (λ t. slice_get t o.subtype) (sym e) ∙ n; integer = f.1; lies = ap (lies_in s) (sym same) ∙ f.2 }
+    record { constant = c ∙ f.0; scalar = s; at = ap (λ t. slice_get t o.subtype) (sym e) ∙ n; integer = f.1.0; plain = f.1.1; lies = ap (lies_in s) (sym same) ∙ f.2 }
 value-holds shapes o (subtype.Composite m) log e (Some y) constant c n f z v = absurd f
 value-holds shapes o s log e None constant c n f z v = absurd cc
 
@@ -134,10 +135,17 @@ not-boolean : (k : Kind) → is_integer k ≡ true → class_of k ≡ class.Bool
 not-boolean kind.Boolean e f = absurd cc
 not-boolean kind.Integer e f = absurd cc
 not-boolean (kind.Own n) e f = absurd cc
+not-boolean (kind.Modular n k) e f = absurd cc
+
+plain-lies : (k : Kind) (low high z : ℤ) → is_modular k ≡ false → (int_le (kept k low) z && int_le z (kept k high)) ≡ true → (int_le low z && int_le z high) ≡ true
+plain-lies kind.Boolean low high z e h = h
+plain-lies kind.Integer low high z e h = h
+plain-lies (kind.Own n) low high z e h = h
+plain-lies (kind.Modular n k) low high z e h = absurd cc
 
 of-log : (log : Log) (program : typed.Program) (o : Object) (z : ℤ) → program.subtypes ≡ map typed_subtype log.shapes → Holds log.shapes o z → IsConstantIn program o z
 of-log log program o z e h =
-    let parts = and_parts (int_le h.scalar.low z) (int_le z h.scalar.high) h.lies in
+    let parts = and_parts (int_le h.scalar.low z) (int_le z h.scalar.high) (plain-lies h.scalar.kind h.scalar.low h.scalar.high z h.plain h.lies) in
     record {
       constant = h.constant;
       scalar = typed_scalar h.scalar;

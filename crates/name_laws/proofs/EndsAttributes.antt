@@ -24,13 +24,12 @@ use Rattle.name_rules.specs.declared.types.Scalar.{Scalar}
 use Rattle.name_rules.specs.declared.types.Subtype.TheVariants as subtype
 use Rattle.name_rules.specs.declared.types.Subtype.{Subtype}
 use Rattle.syntax_tree.specs.Syntax.{Args}
-use Rattle.typed_tree.specs.Decoded as part
 use Rattle.typed_tree.specs.Syntax.{Expr as TypedExpr}
 use Rattle.std.specs.Prelude.{Bool, List, None, Option, Some, [], false, if◌then◌else◌, int_le, length, option_map, pos, slice_get, true, unsigned_abs, ℕ, ℤ, ◌&&◌, ◌-◌, ◌∷◌}
 use Rattle.name_rules.specs.TypedParts.{also_all}
 use Rattle.typed_tree.specs.Decoded.{TypedPart, as_expr}
-use Rattle.name_rules.specs.Judging.{◌>>=◌, fault, given, pure, read}
-use Rattle.name_rules.specs.Attributes.{prefix_of, attribute_found, scalar_bound, dimension_bound, mentioned, prefix_subtype, dimensions_in, bound_in, bound_alone, dimension_at, dimension_given, one_dimension, bound_with, first_named, one_given, two_given, one_named, two_named, one_argument, two_arguments_of, image_text, extreme, step, stepped, scalar_with, object_image, is_bound, is_reduction, reduced_alone, is_array_object, alone, settled_form, settled_attribute}
+use Rattle.name_rules.specs.Judging.{◌>>=◌, fault, given, pure, read, some}
+use Rattle.name_rules.specs.Attributes.{prefix_of, attribute_found, scalar_bound, dimension_bound, mentioned, prefix_subtype, dimensions_in, bound_in, bound_alone, dimension_at, dimension_given, one_dimension, bound_with, first_named, one_given, two_given, one_named, two_named, one_argument, two_arguments_of, image_text, extreme, step, stepped, scalar_with, object_image, is_bound, is_reduction, reduced_alone, is_array_object, alone, settled_form, settled_attribute, is_left_out, bound_found}
 use Rattle.name_laws.proofs.CellsCounted.{HaveValues}
 use Rattle.name_laws.proofs.CellsDeclared.{Ends, IsRightly, Named, e-bind, e-fault, e-given, e-if, e-joined, e-map, e-some, e-where_clean}
 use Rattle.name_laws.proofs.CellsSound.{Sound}
@@ -43,11 +42,13 @@ use Rattle.std.proofs.Common.{◌≡◌, refl, zero, suc}
 
 pub e-attribute_found : (m0 : ℕ) (d : Denoted) (at : ℕ) (a : Option Attribute) → Ends m0 (attribute_found d at a)
 e-attribute_found m0 d at None = e-fault m0 at Unknown
-e-attribute_found m0 d at (Some a) = e-some m0 (denote (denoted.Attribute (denoted_first d.known) (prefix_of d.known) at a) d.part) tt
+e-attribute_found m0 d at (Some a) =
+    e-if m0 (is_left_out (prefix_of d.known) a) (fault at Unknown) (some (denote (denoted.Attribute (denoted_first d.known) (prefix_of d.known) at a) d.part)) (e-fault m0 at Unknown)
+    (e-some m0 (denote (denoted.Attribute (denoted_first d.known) (prefix_of d.known) at a) d.part) tt)
 
 e-scalar_bound : (m0 first : ℕ) (s : Scalar) (a : Attribute) → Ends m0 (scalar_bound first s a)
-e-scalar_bound m0 first s attribute'.First = e-some m0 (value_denoted (static first s.kind s.low part.Nothing)) tt
-e-scalar_bound m0 first s attribute'.Last = e-some m0 (value_denoted (static first s.kind s.high part.Nothing)) tt
+e-scalar_bound m0 first s attribute'.First = e-some m0 (value_denoted (bound_found first s.kind s.low)) tt
+e-scalar_bound m0 first s attribute'.Last = e-some m0 (value_denoted (bound_found first s.kind s.high)) tt
 e-scalar_bound m0 first s a = e-fault m0 first WrongType
 
 e-dimension_bound : (m0 first : ℕ) (ms : TypedPart) (a : Attribute) (d : Dimension) → int_le d.low d.high ≡ true → Ends m0 (dimension_bound first ms a d)

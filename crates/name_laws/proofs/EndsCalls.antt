@@ -2,7 +2,7 @@
 use Rattle.name_rules.specs.Expressions.{Inside}
 use Rattle.name_rules.specs.Found.{Found}
 use Rattle.name_rules.specs.Types.{is_integer}
-use Rattle.name_rules.specs.Values.{first_of, is_number, settled_found}
+use Rattle.name_rules.specs.Values.{first_of, is_number, settled_found, own_kind}
 use Rattle.name_rules.specs.declared.log.Rule.TheVariants.{WrongType}
 use Rattle.name_rules.specs.declared.scope.Context.{Context}
 use Rattle.name_rules.specs.declared.scope.Names.{Names}
@@ -26,7 +26,7 @@ unfolding sub_call
 e-sub_call m0 names inside here at first last n as' = e-bind m0 (read (λ log. profile_in log n)) (λ p. where_clean (arguments names inside here (takes_in p) begun_call as') (λ c. complete at (length (takes_in p)) c.late c >>= λ xs. given xs (λ ys. some (call_given first last n (gives_in p) ys)))) (λ p. e-where_clean m0 (arguments names inside here (takes_in p) begun_call as') (λ c. complete at (length (takes_in p)) c.late c >>= λ xs. given xs (λ ys. some (call_given first last n (gives_in p) ys))) (λ c. e-bind m0 (complete at (length (takes_in p)) c.late c) (λ xs. given xs (λ ys. some (call_given first last n (gives_in p) ys))) (λ xs. e-given m0 xs (λ ys. some (call_given first last n (gives_in p) ys)) (λ ys. e-some m0 (call_given first last n (gives_in p) ys) (call-right m0 first last n (gives_in p) ys)))))
 
 pub e-converted : (m0 : ℕ) (x0 : ℕ) (x1 : Scalar) (x2 : Found) → Ends m0 (converted x0 x1 x2)
-e-converted m0 first s f = e-if m0 (is_number f.known) ((settled_found f >>= λ e. given e (λ x. some (conversion_of first s x)))) (fault (first_of f.known) WrongType) (e-bind m0 (settled_found f) (λ e. given e (λ x. some (conversion_of first s x))) (λ e. e-given m0 e (λ x. some (conversion_of first s x)) (λ x. e-some m0 (conversion_of first s x) tt))) (e-fault m0 (first_of f.known) WrongType)
+e-converted m0 first s f = e-if m0 (is_number f.known) ((settled_found f >>= λ e. given e (λ x. some (conversion_of first (own_kind f.known) s x)))) (fault (first_of f.known) WrongType) (e-bind m0 (settled_found f) (λ e. given e (λ x. some (conversion_of first (own_kind f.known) s x))) (λ e. e-given m0 e (λ x. some (conversion_of first (own_kind f.known) s x)) (λ x. e-some m0 (conversion_of first (own_kind f.known) s x) tt))) (e-fault m0 (first_of f.known) WrongType)
 
 pub e-one_operand : (m0 : ℕ) (x0 : ℕ) (x1 : ℕ) (x2 : Scalar) (x3 : List (Option ℕ)) (x4 : List Found) → Ends m0 (one_operand x0 x1 x2 x3 x4)
 e-one_operand m0 bracket first s (Some name ∷ ns) fs = e-fault m0 name WrongType

@@ -1,18 +1,18 @@
 -- What is known of the static value of an object that is written: it lies in the object's subtype.
-use Rattle.std.proofs.Common.{◌≡◌, ℕ, ℤ, List, [], ◌∷◌, ◌++◌, length, Option, Some, None, Bool, true, false, ◌&&◌, if◌then◌else◌, refl, slice_get}
+use Rattle.std.proofs.Common.{◌≡◌, ℕ, ℤ, List, [], ◌∷◌, ◌++◌, length, Option, Some, None, Bool, true, false, ◌&&◌, not, if◌then◌else◌, refl, slice_get}
 use Rattle.name_rules.specs.Declarations.{Initial, constant_value, static_in}
-use Rattle.name_rules.specs.Types.{is_integer, lies_in, number_of}
+use Rattle.name_rules.specs.Types.{is_integer, is_modular, lies_in, number_of}
 use Rattle.name_rules.specs.declared.log.Log.{Log}
 use Rattle.name_rules.specs.declared.log.Shape.TheVariants as shape
 use Rattle.name_rules.specs.declared.types.Scalar.{Scalar}
 use Rattle.name_rules.specs.declared.types.Subtype.{Subtype}
 use Rattle.name_rules.specs.declared.types.Subtype.TheVariants as subtype
 
--- a static value is an integer constant's, and lies in its subtype
+-- a static value is an integer constant's that isn't of a modular type, and lies in its subtype
 abbrev pub Fits : Subtype → Bool → Option ℤ → Type 0
 Fits s constant None = Unit {0}
 Fits (subtype.Composite n) constant (Some z) = ⊥
-Fits (subtype.Scalar s) constant (Some z) = (constant ≡ true) × (is_integer s.kind ≡ true) × (lies_in s z ≡ true)
+Fits (subtype.Scalar s) constant (Some z) = (constant ≡ true) × ((is_integer s.kind ≡ true) × (is_modular s.kind ≡ false)) × (lies_in s z ≡ true)
 
 -- a scalar subtype stands at its number
 abbrev pub IsNumber : Subtype → ℕ → Log → Type 0
@@ -28,13 +28,14 @@ unfolding number_of
 is_number (subtype.Scalar s) log = get-last log.shapes (shape.Scalar s)
 is_number (subtype.Composite n) log = refl
 
-in-where : (s : Scalar) (z : ℤ) (a b : Bool) → is_integer s.kind ≡ a → lies_in s z ≡ b → Fits (subtype.Scalar s) true (if a && b then Some z else None)
-in-where s z true true e f = (refl, e, f)
-in-where s z true false e f = tt
-in-where s z false b e f = tt
+in-where : (s : Scalar) (z : ℤ) (a m b : Bool) → is_integer s.kind ≡ a → is_modular s.kind ≡ m → lies_in s z ≡ b → Fits (subtype.Scalar s) true (if a && not m && b then Some z else None)
+in-where s z true false true e g f = (refl, (e, g), f)
+in-where s z true false false e g f = tt
+in-where s z true true b e g f = tt
+in-where s z false m b e g f = tt
 
 fits-static : (s : Subtype) (z : Option ℤ) → Fits s true (static_in s z)
-fits-static (subtype.Scalar s) (Some z) = in-where s z (is_integer s.kind) (lies_in s z) refl refl
+fits-static (subtype.Scalar s) (Some z) = in-where s z (is_integer s.kind) (is_modular s.kind) (lies_in s z) refl refl refl
 fits-static (subtype.Scalar s) None = tt
 fits-static (subtype.Composite n) z = tt
 

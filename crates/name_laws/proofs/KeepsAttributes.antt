@@ -24,13 +24,12 @@ use Rattle.name_rules.specs.declared.types.Scalar.{Scalar}
 use Rattle.name_rules.specs.declared.types.Subtype.TheVariants as subtype
 use Rattle.name_rules.specs.declared.types.Subtype.{Subtype}
 use Rattle.syntax_tree.specs.Syntax.{Args}
-use Rattle.typed_tree.specs.Decoded as part
 use Rattle.typed_tree.specs.Syntax.{Expr as TypedExpr}
 use Rattle.std.specs.Prelude.{Bool, List, None, Option, Some, [], false, if◌then◌else◌, int_le, length, option_map, pos, slice_get, true, unsigned_abs, ℕ, ℤ, ◌&&◌, ◌-◌, ◌∷◌}
 use Rattle.name_rules.specs.TypedParts.{also_all}
 use Rattle.typed_tree.specs.Decoded.{TypedPart, as_expr}
-use Rattle.name_rules.specs.Judging.{◌>>=◌, fault, given, pure, read}
-use Rattle.name_rules.specs.Attributes.{prefix_of, attribute_found, scalar_bound, dimension_bound, mentioned, prefix_subtype, dimensions_in, bound_in, bound_alone, dimension_at, dimension_given, one_dimension, bound_with, first_named, one_given, two_given, one_named, two_named, one_argument, two_arguments_of, image_text, extreme, step, stepped, scalar_with, object_image, is_bound, is_reduction, reduced_alone, is_array_object, alone, settled_form, settled_attribute}
+use Rattle.name_rules.specs.Judging.{◌>>=◌, fault, given, pure, read, some}
+use Rattle.name_rules.specs.Attributes.{prefix_of, attribute_found, scalar_bound, dimension_bound, mentioned, prefix_subtype, dimensions_in, bound_in, bound_alone, dimension_at, dimension_given, one_dimension, bound_with, first_named, one_given, two_given, one_named, two_named, one_argument, two_arguments_of, image_text, extreme, step, stepped, scalar_with, object_image, is_bound, is_reduction, reduced_alone, is_array_object, alone, settled_form, settled_attribute, is_left_out, bound_found}
 use Rattle.name_laws.proofs.Walk.{Walk, Keeps, k-pure, k-some, k-bind, k-fault, k-read, k-if, k-given, k-where_clean}
 use Rattle.name_laws.proofs.Walked.{KeepsInside}
 use Rattle.name_laws.proofs.KeepsCalls.{k-operands}
@@ -39,11 +38,11 @@ use Rattle.name_laws.proofs.KeepsValues.{k-asked, k-static_of_kind}
 
 pub k-attribute_found : (walk : Walk) (x0 : Denoted) (x1 : ℕ) (x2 : Option Attribute) → Keeps walk (attribute_found x0 x1 x2)
 k-attribute_found walk d at None = k-fault walk at Unknown
-k-attribute_found walk d at (Some a) = k-some walk (denote (denoted.Attribute (denoted_first d.known) (prefix_of d.known) at a) d.part)
+k-attribute_found walk d at (Some a) = k-if walk (is_left_out (prefix_of d.known) a) (fault at Unknown) (some (denote (denoted.Attribute (denoted_first d.known) (prefix_of d.known) at a) d.part)) (k-fault walk at Unknown) (k-some walk (denote (denoted.Attribute (denoted_first d.known) (prefix_of d.known) at a) d.part))
 
 pub k-scalar_bound : (walk : Walk) (x0 : ℕ) (x1 : Scalar) (x2 : Attribute) → Keeps walk (scalar_bound x0 x1 x2)
-k-scalar_bound walk first s attribute'.First = k-some walk (value_denoted (static first s.kind s.low part.Nothing))
-k-scalar_bound walk first s attribute'.Last = k-some walk (value_denoted (static first s.kind s.high part.Nothing))
+k-scalar_bound walk first s attribute'.First = k-some walk (value_denoted (bound_found first s.kind s.low))
+k-scalar_bound walk first s attribute'.Last = k-some walk (value_denoted (bound_found first s.kind s.high))
 k-scalar_bound walk first s a = k-fault walk first WrongType
 
 pub k-dimension_bound : (walk : Walk) (x0 : ℕ) (x1 : TypedPart) (x2 : Attribute) (x3 : Dimension) → Keeps walk (dimension_bound x0 x1 x2 x3)

@@ -6,7 +6,7 @@ use Rattle.name_rules.specs.Names.{count}
 use Rattle.name_rules.specs.Scope.{named}
 use Rattle.name_rules.specs.Symbols.{symbol}
 use Rattle.name_rules.specs.Types.{is_integer, same, wanted_of}
-use Rattle.name_rules.specs.Values.{first_of, is_number, settled_found}
+use Rattle.name_rules.specs.Values.{first_of, is_number, settled_found, own_kind}
 use Rattle.name_rules.specs.declared.found.Found.TheVariants as known
 use Rattle.name_rules.specs.declared.found.Found.{Found as Known}
 use Rattle.name_rules.specs.declared.found.ObjectName.{ObjectName}
@@ -104,7 +104,7 @@ k-operands walk names inside here made syntax.NoArg keeps1 keeps2 = k-pure walk 
 k-operands walk names inside here made (syntax.AlsoArg (syntax.arg name e) as') keeps1 keeps2 = k-bind walk (expr names inside here wanted.Other e) (λ x. operands names inside here (with_operand made x) as') (k-expr walk names inside here wanted.Other e keeps1 keeps2) (λ x. k-operands walk names inside here (with_operand made x) as' keeps1 keeps2)
 
 pub k-converted : (walk : Walk) (x0 : ℕ) (x1 : Scalar) (x2 : Found) → Keeps walk (converted x0 x1 x2)
-k-converted walk first s f = k-if walk (is_number f.known) ((settled_found f >>= λ e. given e (λ x. some (conversion_of first s x)))) (fault (first_of f.known) WrongType) (k-bind walk (settled_found f) (λ e. given e (λ x. some (conversion_of first s x))) (k-settled_found walk f) (λ e. k-given walk e (λ x. some (conversion_of first s x)) (λ x. k-some walk (conversion_of first s x)))) (k-fault walk (first_of f.known) WrongType)
+k-converted walk first s f = k-if walk (is_number f.known) ((settled_found f >>= λ e. given e (λ x. some (conversion_of first (own_kind f.known) s x)))) (fault (first_of f.known) WrongType) (k-bind walk (settled_found f) (λ e. given e (λ x. some (conversion_of first (own_kind f.known) s x))) (k-settled_found walk f) (λ e. k-given walk e (λ x. some (conversion_of first (own_kind f.known) s x)) (λ x. k-some walk (conversion_of first (own_kind f.known) s x)))) (k-fault walk (first_of f.known) WrongType)
 
 pub k-one_operand : (walk : Walk) (x0 : ℕ) (x1 : ℕ) (x2 : Scalar) (x3 : List (Option ℕ)) (x4 : List Found) → Keeps walk (one_operand x0 x1 x2 x3 x4)
 k-one_operand walk bracket first s (Some name ∷ ns) fs = k-fault walk name WrongType

@@ -1,12 +1,12 @@
 -- What holds of each line of the log holds of what Declarations judges.
 use Rattle.ada_base.specs.declared.reason.Reason.TheVariants as reason
-use Rattle.name_rules.specs.Expressions.{Inside, expr, judged_alone}
+use Rattle.name_rules.specs.Expressions.{Inside, expr, judged_alone, simple}
 use Rattle.syntax_tree.specs.FirstTokens as first_token
 use Rattle.name_rules.specs.Found.{Found}
 use Rattle.name_rules.specs.Ranges.{both_static, static_range, two_bounds}
 use Rattle.name_rules.specs.Scope.{as_scalar, declared, free, hidden_where, subtype_named}
-use Rattle.name_rules.specs.Types.{array_cells, cells_in, in_base, lies_in, number_of, wanted_of, written_shape}
-use Rattle.name_rules.specs.Values.{first_of, stored}
+use Rattle.name_rules.specs.Types.{array_cells, cells_in, in_base, lies_in, number_of, wanted_of, written_shape, kept, base_of}
+use Rattle.name_rules.specs.Values.{first_of, stored, mentions_of}
 use Rattle.name_rules.specs.Limits.{most_dimensions}
 use Rattle.name_rules.specs.declared.log.Bound.TheVariants as bound
 use Rattle.name_rules.specs.declared.log.Dimension.{Dimension}
@@ -30,10 +30,10 @@ use Rattle.typed_tree.specs.Decoded.{TypedPart}
 use Rattle.name_rules.specs.Judging.{◌>>=◌, both, fault, given, joined, pure, read, some, unless}
 use Rattle.name_rules.specs.declared.log.Log.{Log}
 use Rattle.name_laws.proofs.Fitting.{Fits, IsNumber, is_number, fits_constant}
-use Rattle.name_rules.specs.Declarations.{all_ids, begun_names, ended_name, indic_range, Indicated, indicated, indic_bounds, indic, Dimensions, also_dimension, dimensions_from, array_written, array_given, array, Building, without_fields, with_field, with_fields, indicated_mentions, component, components, record_written, record_of, own_type, first_or, static_number, own_type_of, defined, cells_counted, object_written, new_object, Initial, no_initial, initial, valued_constant, constant_value, object_ended, one_object, typed_object, each_object, objects, numbers, new_exception, each_exception, declaration, declarations}
+use Rattle.name_rules.specs.Declarations.{all_ids, begun_names, ended_name, indic_range, Indicated, indicated, indic_bounds, indic, Dimensions, also_dimension, dimensions_from, array_written, array_given, array, Building, without_fields, with_field, with_fields, indicated_mentions, component, components, record_written, record_of, own_type, first_or, static_number, own_type_of, defined, cells_counted, object_written, new_object, Initial, no_initial, initial, valued_constant, constant_value, object_ended, one_object, typed_object, each_object, objects, numbers, new_exception, each_exception, declaration, declarations, modular_by, modular_type, exponent_from}
 use Rattle.name_laws.proofs.Walk.{Walk, Wide, Keeps, k-pure, k-some, k-bind, k-fault, k-breaks, k-unless, k-read, k-if, k-given, k-both}
 use Rattle.name_laws.proofs.Walked.{KeepsInside}
-use Rattle.name_laws.proofs.KeepsExpressions.{k-expr, k-judged_alone}
+use Rattle.name_laws.proofs.KeepsExpressions.{k-expr, k-judged_alone, k-simple}
 use Rattle.name_laws.proofs.KeepsRanges.{k-both_static, k-static_range, k-two_bounds}
 use Rattle.name_laws.proofs.KeepsScope.{k-as_scalar, k-free, k-subtype_named}
 use Rattle.name_laws.proofs.KeepsTypes.{k-number_of, k-written_shape}
@@ -52,7 +52,7 @@ k-indic_range walk s first last r = record {
       walk.joins _ _ _ ((k-unless walk (lies_in s r.0) first StaticRange).at log)
       (walk.joins _ _ _ ((k-unless walk (lies_in s r.1) last StaticRange).at out1.1)
       (walk.joins _ _ _ ((k-unless walk (int_le r.0 r.1) first StaticRange).at out2.1)
-      ((k-if walk (lies_in s r.0 && lies_in s r.1 && int_le r.0 r.1) (some (subtype.Scalar (record { kind = s.kind; low = r.0; high = r.1 }))) (pure None) (k-some walk (subtype.Scalar (record { kind = s.kind; low = r.0; high = r.1 }))) (k-pure walk None)).at out3.1)));
+      ((k-if walk (lies_in s r.0 && lies_in s r.1 && int_le r.0 r.1) (some (subtype.Scalar (record { kind = s.kind; low = kept s.kind r.0; high = kept s.kind r.1 }))) (pure None) (k-some walk (subtype.Scalar (record { kind = s.kind; low = kept s.kind r.0; high = kept s.kind r.1 }))) (k-pure walk None)).at out3.1)));
 }
 
 pub k-indic_bounds : (walk : Walk) (x0 : Scalar) (x1 : Found) (x2 : Found) → Keeps walk (indic_bounds x0 x1 x2)
@@ -178,9 +178,21 @@ k-own_type_of walk token r = record {
       ((k-both walk a z (own_type token (first_or r.0) (first_or r.1)) (λ z5 z6. k-own_type walk token (first_or r.0) (first_or r.1) z5 z6)).at out4.1));
 }
 
+pub k-modular_by : (walk : Walk) (token first : ℕ) (k : Option ℕ) → Keeps walk (modular_by token first k)
+k-modular_by walk token first None = k-fault walk first StaticRange
+k-modular_by walk token first (Some k) = k-some walk (subtype.Scalar (base_of (kind.Modular token k)))
+
+pub k-modular_type : (walk : Walk) (token : ℕ) (f : Found) → Keeps walk (modular_type token f)
+k-modular_type walk token f =
+    let found = static_number f >>= λ m. given m (λ z. modular_by token (first_of f.known) (exponent_from 64 1 z)) in
+    k-bind walk found (λ t. pure (option_map (indicated (mentions_of f)) t))
+    (k-bind walk (static_number f) (λ m. given m (λ z. modular_by token (first_of f.known) (exponent_from 64 1 z))) (k-static_number walk f) (λ m. k-given walk m (λ z. modular_by token (first_of f.known) (exponent_from 64 1 z)) (λ z. k-modular_by walk token (first_of f.known) (exponent_from 64 1 z))))
+    (λ t. k-pure walk (option_map (indicated (mentions_of f)) t))
+
 pub k-defined : (wide : Wide) (x0 : Names) (x1 : Inside) (x2 : Context) (x3 : ℕ) (x4 : Definition) → wide.walk.Takes x0 → KeepsInside wide.walk x1 → Keeps wide.walk (defined x0 x1 x2 x3 x4)
 unfolding defined
 k-defined wide names level here token (syntax.RangeType low high) keeps1 keeps2 = k-bind wide.walk (two_bounds level here low high) (own_type_of token) (k-two_bounds wide.walk level here low high keeps2) (λ z2. k-own_type_of wide.walk token z2)
+k-defined wide names level here token (syntax.ModularType m) keeps1 keeps2 = k-bind wide.walk (simple level here wanted.Other m) (λ x. given x (modular_type token)) (k-simple wide.walk level here wanted.Other m keeps2) (λ x. k-given wide.walk x (modular_type token) (λ f. k-modular_type wide.walk token f))
 k-defined wide names level here token (syntax.ArrayType a) keeps1 keeps2 = k-array wide names level here a keeps1 keeps2
 k-defined wide names level here token (syntax.RecordType c cs) keeps1 keeps2 = k-record_of wide names level here (c ∷ cs) keeps1 keeps2
 

@@ -2,8 +2,8 @@
 use Rattle.ada_base.specs.declared.operation.Op.TheVariants as op
 use Rattle.ada_base.specs.declared.operation.Op.{Op}
 use Rattle.name_rules.specs.Found.{Found, scalar, static, text_found, universal}
-use Rattle.name_rules.specs.Types.{class_of, in_base, same}
-use Rattle.name_rules.specs.Values.{asked, exact, first_of, fitting, is_kind, is_number, is_scalar, kind_of, suits, value_of}
+use Rattle.name_rules.specs.Types.{class_of, in_base, same, is_modular}
+use Rattle.name_rules.specs.Values.{asked, exact, first_of, fitting, is_number, is_scalar, kind_of, suits, value_of}
 use Rattle.name_rules.specs.declared.found.Found.TheVariants as known
 use Rattle.name_rules.specs.declared.found.Found.{Found as Known}
 use Rattle.name_rules.specs.declared.log.Rule.TheVariants.{StaticRange, WrongType}
@@ -19,7 +19,7 @@ use Rattle.std.specs.Prelude.{Bool, None, Option, Some, false, if◌then◌else�
 use Rattle.name_rules.specs.TypedParts.{also_all}
 use Rattle.typed_tree.specs.Decoded.{TypedPart, as_expr}
 use Rattle.name_rules.specs.Judging.{◌>>=◌, both, fault, given, pure, some}
-use Rattle.name_rules.specs.Operators.{static_of, static_universal, both_mentions, static_operation, operation_on, operation_by, typed_operation, open_of, open_plain, open_binary, universal_by, universal_operation, by_kinds, operand_blamed, operation, binary, open_power, universal_power, static_power, universal_to, power_to, power, signed, static_unary, unary_typed, open_unary, unary_open, unary_by, unary, plain_typed, plain_open, plain_by, plain, negation, not_of, joined_texts, joined_text, logical, compared_at, common_kind, compared_by, compared, member, within_bounds, first_kind, member_of, membership, limit_of, of_subtype}
+use Rattle.name_rules.specs.Operators.{static_of, static_universal, both_mentions, static_operation, operation_on, operation_by, typed_operation, open_of, open_plain, open_binary, universal_by, universal_operation, by_kinds, operand_blamed, operation, binary, open_power, universal_power, static_power, universal_to, power_to, power, signed, static_unary, unary_typed, open_unary, unary_open, unary_by, unary, plain_typed, plain_open, plain_by, plain, negation, not_of, joined_texts, joined_text, logical, compared_at, common_kind, compared_by, compared, member, within_bounds, first_kind, member_of, membership, limit_of, of_subtype, complement, not_by, logical_by, is_logical_kind}
 use Rattle.name_laws.proofs.Walk.{Walk, Keeps, k-pure, k-some, k-bind, k-fault, k-if, k-given, k-both}
 use Rattle.name_laws.proofs.KeepsValues.{k-asked, k-fitting}
 
@@ -147,9 +147,16 @@ k-plain walk at x = k-given walk x (λ a. if is_number a.known then plain_by at 
 pub k-negation : (walk : Walk) (x0 : ℕ) (x1 : Found) → Keeps walk (negation x0 x1)
 k-negation walk at a = k-bind walk (asked kind.Boolean a) (λ x. given x (λ e. some (scalar at kind.Boolean None (typed.Unary at unary'.Not class.Boolean (as_expr e))))) (k-asked walk kind.Boolean a) (λ x. k-given walk x (λ e. some (scalar at kind.Boolean None (typed.Unary at unary'.Not class.Boolean (as_expr e)))) (λ e. k-some walk (scalar at kind.Boolean None (typed.Unary at unary'.Not class.Boolean (as_expr e)))))
 
+k-complement : (walk : Walk) (at : ℕ) (a : Found) (k : Kind) → Keeps walk (complement at a k)
+k-complement walk at a k = k-bind walk (asked k a) (λ x. given x (λ e. some (scalar at k None (typed.Unary at unary'.Not (class_of k) (as_expr e))))) (k-asked walk k a) (λ x. k-given walk x (λ e. some (scalar at k None (typed.Unary at unary'.Not (class_of k) (as_expr e)))) (λ e. k-some walk (scalar at k None (typed.Unary at unary'.Not (class_of k) (as_expr e)))))
+
+k-not_by : (walk : Walk) (at : ℕ) (a : Found) (k : Option Kind) → Keeps walk (not_by at a k)
+k-not_by walk at a None = k-fault walk at WrongType
+k-not_by walk at a (Some k) = k-if walk (same k kind.Boolean) (negation at a) (if is_modular k then complement at a k else fault at WrongType) (k-negation walk at a) (k-if walk (is_modular k) (complement at a k) (fault at WrongType) (k-complement walk at a k) (k-fault walk at WrongType))
+
 pub k-not_of : (walk : Walk) (x0 : ℕ) (x1 : Option Found) → Keeps walk (not_of x0 x1)
 unfolding not_of
-k-not_of walk at x = k-given walk x (λ a. if is_kind kind.Boolean (kind_of a.known) then negation at a else fault at WrongType) (λ a. k-if walk (is_kind kind.Boolean (kind_of a.known)) (negation at a) (fault at WrongType) (k-negation walk at a) (k-fault walk at WrongType))
+k-not_of walk at x = k-given walk x (λ a. not_by at a (kind_of a.known)) (λ a. k-not_by walk at a (kind_of a.known))
 
 pub k-joined_texts : (walk : Walk) (x0 : ℕ) (x1 : Known) (x2 : TypedPart) (x3 : Known) (x4 : TypedPart) → Keeps walk (joined_texts x0 x1 x2 x3 x4)
 k-joined_texts walk at (known.Text first) ps (known.Text second) qs = k-some walk (text_found first (also_all ps qs))
@@ -159,9 +166,12 @@ pub k-joined_text : (walk : Walk) (x0 : ℕ) (x1 : Option Found) (x2 : Option Fo
 unfolding joined_text
 k-joined_text walk at x y = k-both walk x y (λ a b. joined_texts at a.known a.part b.known b.part) (λ a b. k-joined_texts walk at a.known a.part b.known b.part)
 
+k-logical_by : (walk : Walk) (o : Op) (at : ℕ) (a b : Found) (k : Kind) → Keeps walk (logical_by o at a b k)
+k-logical_by walk o at a b k = k-if walk (is_logical_kind k && (suits k a.known && suits k b.known)) (operation_on o at k k a b) (fault at WrongType) (k-operation_on walk o at k k a b) (k-fault walk at WrongType)
+
 pub k-logical : (walk : Walk) (x0 : Op) (x1 : ℕ) (x2 : Option Found) (x3 : Option Found) → Keeps walk (logical x0 x1 x2 x3)
 unfolding logical
-k-logical walk o at x y = k-both walk x y (λ a b. if is_kind kind.Boolean (kind_of a.known) && is_kind kind.Boolean (kind_of b.known) then operation_on o at kind.Boolean kind.Boolean a b else fault at WrongType) (λ a b. k-if walk (is_kind kind.Boolean (kind_of a.known) && is_kind kind.Boolean (kind_of b.known)) (operation_on o at kind.Boolean kind.Boolean a b) (fault at WrongType) (k-operation_on walk o at kind.Boolean kind.Boolean a b) (k-fault walk at WrongType))
+k-logical walk o at x y = k-both walk x y (λ a b. logical_by o at a b (common_kind (kind_of a.known) (kind_of b.known))) (λ a b. k-logical_by walk o at a b (common_kind (kind_of a.known) (kind_of b.known)))
 
 pub k-compared_at : (walk : Walk) (x0 : Kind) (x1 : Comparison) (x2 : Found) (x3 : Found) → Keeps walk (compared_at x0 x1 x2 x3)
 unfolding compared_at

@@ -4,7 +4,7 @@ use Rattle.syntax_tree.specs.FirstTokens as first_token
 use Rattle.name_rules.specs.Found.{Found}
 use Rattle.name_rules.specs.Names.{denoted_first}
 use Rattle.name_rules.specs.Operators.{both_mentions, common_kind}
-use Rattle.name_rules.specs.Types.{base_of, is_integer, lies_in}
+use Rattle.name_rules.specs.Types.{base_of, lies_in, is_modular, kept}
 use Rattle.name_rules.specs.Values.{asked, first_of, is_number, is_scalar, kind_of, mentions_of, static_of_kind, static_value, suits, value_of}
 use Rattle.name_rules.specs.declared.found.Denoted.TheVariants as denoted
 use Rattle.name_rules.specs.declared.found.Denoted.{Denoted as KnownDenoted}
@@ -18,10 +18,10 @@ use Rattle.name_rules.specs.declared.types.Wanted.TheVariants as wanted
 use Rattle.syntax_tree.specs.Syntax as syntax
 use Rattle.syntax_tree.specs.Syntax.{Range, Simple}
 use Rattle.typed_tree.specs.Decoded as part
-use Rattle.std.specs.Prelude.{Bool, None, Option, Some, if◌then◌else◌, int_le, not, option_map, ℕ, ℤ, ◌&&◌}
+use Rattle.std.specs.Prelude.{Bool, None, Option, Some, if◌then◌else◌, int_le, not, option_map, ℕ, ℤ, ◌&&◌, ◌||◌}
 use Rattle.typed_tree.specs.Decoded.{TypedPart}
 use Rattle.name_rules.specs.Judging.{◌>>=◌, Judging, both, fault, given, pure, some}
-use Rattle.name_rules.specs.Ranges.{two_bounds, bounds_of, of_one_type, bounded_by, own_range, own_bounds, checked_range, whole_range, named_range, scalar_type, range, both_static, dimension, of_static, spanned, inside_subtype, checked_span, preferred, static_by, static_bounds, static_scalar, static_name, static_checked, static_range, one_value, two_values, values_of, range_values, chosen_value, chosen_span}
+use Rattle.name_rules.specs.Ranges.{two_bounds, bounds_of, of_one_type, bounded_by, own_range, own_bounds, checked_range, whole_range, named_range, scalar_type, range, both_static, dimension, of_static, spanned, inside_subtype, checked_span, preferred, static_by, static_bounds, static_scalar, static_name, static_checked, static_range, one_value, two_values, values_of, range_values, chosen_value, chosen_span, is_index}
 use Rattle.name_laws.proofs.Walk.{Walk, Keeps, k-pure, k-some, k-bind, k-fault, k-unless, k-if, k-given, k-both}
 use Rattle.name_laws.proofs.Walked.{KeepsInside}
 use Rattle.name_laws.proofs.KeepsExpressions.{k-simple}
@@ -48,7 +48,7 @@ k-bounds_of walk k a z = record {
 }
 
 pub k-of_one_type : (walk : Walk) {A : Type 0} (x0 : Known) (x1 : Known) (x2 : Kind) (x3 : (Kind → Judging (Option A))) → ((x : Kind) → Keeps walk (x3 x)) → Keeps walk (of_one_type x0 x1 x2 x3)
-k-of_one_type walk a z k f keeps1 = k-if walk (not (is_scalar a)) (fault (first_of a) WrongType) (if not (suits k a) then fault (first_of z) WrongType else f k) (k-fault walk (first_of a) WrongType) (k-if walk (not (suits k a)) (fault (first_of z) WrongType) (f k) (k-fault walk (first_of z) WrongType) (keeps1 k))
+k-of_one_type walk a z k f keeps1 = k-if walk (not (is_scalar a)) (fault (first_of a) WrongType) (if not (suits k a) then fault (first_of z) WrongType else if is_modular k then fault (first_of a) WrongType else f k) (k-fault walk (first_of a) WrongType) (k-if walk (not (suits k a)) (fault (first_of z) WrongType) (if is_modular k then fault (first_of a) WrongType else f k) (k-fault walk (first_of z) WrongType) (k-if walk (is_modular k) (fault (first_of a) WrongType) (f k) (k-fault walk (first_of a) WrongType) (keeps1 k)))
 
 pub k-own_range : (walk : Walk) (x0 : ℕ) (x1 : Found) (x2 : Found) (x3 : Kind) → Keeps walk (own_range x0 x1 x2 x3)
 k-own_range walk first a z k = k-bind walk (bounds_of k a z) (λ x. pure (option_map (bounded_by first (base_of k) None a z) x)) (k-bounds_of walk k a z) (λ x. k-pure walk (option_map (bounded_by first (base_of k) None a z) x))
@@ -59,11 +59,11 @@ k-own_bounds walk first a z = k-of_one_type walk a.known z.known (common_kind (k
 
 pub k-checked_range : (walk : Walk) (x0 : ℕ) (x1 : Scalar) (x2 : Found) (x3 : Found) → Keeps walk (checked_range x0 x1 x2 x3)
 unfolding checked_range
-k-checked_range walk first s a z = k-bind walk (bounds_of s.kind a z) (λ x. pure (option_map (bounded_by first s (Some s) a z) x)) (k-bounds_of walk s.kind a z) (λ x. k-pure walk (option_map (bounded_by first s (Some s) a z) x))
+k-checked_range walk first s a z = k-if walk (is_modular s.kind) (fault first WrongType) (bounds_of s.kind a z >>= λ x. pure (option_map (bounded_by first s (Some s) a z) x)) (k-fault walk first WrongType) (k-bind walk (bounds_of s.kind a z) (λ x. pure (option_map (bounded_by first s (Some s) a z) x)) (k-bounds_of walk s.kind a z) (λ x. k-pure walk (option_map (bounded_by first s (Some s) a z) x)))
 
 pub k-named_range : (walk : Walk) (x0 : KnownDenoted) (x1 : TypedPart) → Keeps walk (named_range x0 x1)
 k-named_range walk (denoted.Range first d) x = k-some walk (whole_range first d.kind d.low d.high x)
-k-named_range walk (denoted.Type first (subtype.Scalar s)) x = k-some walk (whole_range first s.kind s.low s.high part.Nothing)
+k-named_range walk (denoted.Type first (subtype.Scalar s)) x = k-if walk (is_modular s.kind) (fault first WrongType) (some (whole_range first s.kind s.low s.high part.Nothing)) (k-fault walk first WrongType) (k-some walk (whole_range first s.kind s.low s.high part.Nothing))
 k-named_range walk d x = k-fault walk (denoted_first d) WrongType
 
 pub k-scalar_type : (walk : Walk) (x0 : KnownDenoted) → Keeps walk (scalar_type x0)
@@ -110,14 +110,14 @@ pub k-checked_span : (walk : Walk) (x0 : ℕ) (x1 : Bool) (x2 : Scalar) (x3 : Fo
 k-checked_span walk first must_hold s a z r = k-if walk (not (int_le r.0 r.1)) (spanned first must_hold s.kind a z r) ((inside_subtype s a r.0 >>= λ u. inside_subtype s z r.1 >>= λ v. if lies_in s r.0 && lies_in s r.1 then spanned first must_hold s.kind a z r else pure None)) (k-spanned walk first must_hold s.kind a z r) (record { at = λ log. let out1 = inside_subtype s a r.0 log in let out2 = inside_subtype s z r.1 out1.1 in walk.joins _ _ _ ((k-inside_subtype walk s a r.0).at log) (walk.joins _ _ _ ((k-inside_subtype walk s z r.1).at out1.1) ((k-if walk (lies_in s r.0 && lies_in s r.1) (spanned first must_hold s.kind a z r) (pure None) (k-spanned walk first must_hold s.kind a z r) (k-pure walk None)).at out2.1)) })
 
 pub k-static_by : (walk : Walk) (x0 : ℕ) (x1 : Bool) (x2 : Found) (x3 : Found) (x4 : Kind) → Keeps walk (static_by x0 x1 x2 x3 x4)
-k-static_by walk first must_hold a z k = k-if walk (not (is_number a.known)) (fault (first_of a.known) WrongType) (if not (suits k a.known && suits k z.known) then fault (first_of z.known) WrongType else (both_static k a z >>= λ s. given s (spanned first must_hold k a z))) (k-fault walk (first_of a.known) WrongType) (k-if walk (not (suits k a.known && suits k z.known)) (fault (first_of z.known) WrongType) ((both_static k a z >>= λ s. given s (spanned first must_hold k a z))) (k-fault walk (first_of z.known) WrongType) (k-bind walk (both_static k a z) (λ s. given s (spanned first must_hold k a z)) (k-both_static walk k a z) (λ s. k-given walk s (spanned first must_hold k a z) (λ z1. k-spanned walk first must_hold k a z z1))))
+k-static_by walk first must_hold a z k = k-if walk (not (is_number a.known) || is_modular k) (fault (first_of a.known) WrongType) (if not (suits k a.known && suits k z.known) then fault (first_of z.known) WrongType else (both_static k a z >>= λ s. given s (spanned first must_hold k a z))) (k-fault walk (first_of a.known) WrongType) (k-if walk (not (suits k a.known && suits k z.known)) (fault (first_of z.known) WrongType) ((both_static k a z >>= λ s. given s (spanned first must_hold k a z))) (k-fault walk (first_of z.known) WrongType) (k-bind walk (both_static k a z) (λ s. given s (spanned first must_hold k a z)) (k-both_static walk k a z) (λ s. k-given walk s (spanned first must_hold k a z) (λ z1. k-spanned walk first must_hold k a z z1))))
 
 pub k-static_bounds : (walk : Walk) (x0 : ℕ) (x1 : Bool) (x2 : Option Kind) (x3 : Found) (x4 : Found) → Keeps walk (static_bounds x0 x1 x2 x3 x4)
 unfolding static_bounds
 k-static_bounds walk first must_hold want a z = k-static_by walk first must_hold a z (preferred want a.known z.known)
 
 pub k-static_scalar : (walk : Walk) (x0 : ℕ) (x1 : Scalar) → Keeps walk (static_scalar x0 x1)
-k-static_scalar walk first s = k-if walk (is_integer s.kind) (some (record { known = record { kind = s.kind; low = s.low; high = s.high }; part = part.Nothing })) (fault first WrongType) (k-some walk (record { known = record { kind = s.kind; low = s.low; high = s.high }; part = part.Nothing })) (k-fault walk first WrongType)
+k-static_scalar walk first s = k-if walk (is_index s.kind) (some (record { known = record { kind = s.kind; low = s.low; high = s.high }; part = part.Nothing })) (fault first WrongType) (k-some walk (record { known = record { kind = s.kind; low = s.low; high = s.high }; part = part.Nothing })) (k-fault walk first WrongType)
 
 pub k-static_name : (walk : Walk) (x0 : ℕ) (x1 : KnownDenoted) (x2 : TypedPart) → Keeps walk (static_name x0 x1 x2)
 k-static_name walk first (denoted.Range at d) x = k-some walk (record { known = d; part = x })
@@ -126,7 +126,7 @@ k-static_name walk first d x = k-fault walk (denoted_first d) WrongType
 
 pub k-static_checked : (walk : Walk) (x0 : ℕ) (x1 : Bool) (x2 : Scalar) (x3 : Found) (x4 : Found) → Keeps walk (static_checked x0 x1 x2 x3 x4)
 unfolding static_checked
-k-static_checked walk first must_hold t a z = k-if walk (is_integer t.kind) ((both_static t.kind a z >>= λ v. given v (checked_span first must_hold t a z))) (fault first WrongType) (k-bind walk (both_static t.kind a z) (λ v. given v (checked_span first must_hold t a z)) (k-both_static walk t.kind a z) (λ v. k-given walk v (checked_span first must_hold t a z) (λ z1. k-checked_span walk first must_hold t a z z1))) (k-fault walk first WrongType)
+k-static_checked walk first must_hold t a z = k-if walk (is_index t.kind) ((both_static t.kind a z >>= λ v. given v (checked_span first must_hold t a z))) (fault first WrongType) (k-bind walk (both_static t.kind a z) (λ v. given v (checked_span first must_hold t a z)) (k-both_static walk t.kind a z) (λ v. k-given walk v (checked_span first must_hold t a z) (λ z1. k-checked_span walk first must_hold t a z z1))) (k-fault walk first WrongType)
 
 pub k-static_range : (walk : Walk) (x0 : Inside) (x1 : Context) (x2 : Bool) (x3 : Option Kind) (x4 : Range) → KeepsInside walk x0 → Keeps walk (static_range x0 x1 x2 x3 x4)
 unfolding static_range
@@ -147,7 +147,7 @@ k-static_range walk level here must_hold want (syntax.Constrained n low high) ke
 }
 
 pub k-one_value : (walk : Walk) (x0 : Kind) (x1 : Found) → Keeps walk (one_value x0 x1)
-k-one_value walk k f = k-bind walk (static_of_kind k f) (λ v. given v (λ z. some (record { known = record { at = first_of f.known; low = z; high = z }; part = mentions_of f }))) (k-static_of_kind walk k f) (λ v. k-given walk v (λ z. some (record { known = record { at = first_of f.known; low = z; high = z }; part = mentions_of f })) (λ z. k-some walk (record { known = record { at = first_of f.known; low = z; high = z }; part = mentions_of f })))
+k-one_value walk k f = k-bind walk (static_of_kind k f) (λ v. given v (λ z. some (record { known = record { at = first_of f.known; low = kept k z; high = kept k z }; part = mentions_of f }))) (k-static_of_kind walk k f) (λ v. k-given walk v (λ z. some (record { known = record { at = first_of f.known; low = kept k z; high = kept k z }; part = mentions_of f })) (λ z. k-some walk (record { known = record { at = first_of f.known; low = kept k z; high = kept k z }; part = mentions_of f })))
 
 pub k-two_values : (walk : Walk) (x0 : Kind) (x1 : Found) (x2 : Found) → Keeps walk (two_values x0 x1 x2)
 k-two_values walk k a z = record {
@@ -158,7 +158,7 @@ k-two_values walk k a z = record {
       let v = out2.0 in
       walk.joins _ _ _ ((k-static_of_kind walk k a).at log)
       (walk.joins _ _ _ ((k-static_of_kind walk k z).at out1.1)
-      ((k-both walk u v (λ x y. some (record { known = record { at = first_of a.known; low = x; high = y }; part = both_mentions a z })) (λ x y. k-some walk (record { known = record { at = first_of a.known; low = x; high = y }; part = both_mentions a z }))).at out2.1));
+      ((k-both walk u v (λ x y. some (record { known = record { at = first_of a.known; low = kept k x; high = kept k y }; part = both_mentions a z })) (λ x y. k-some walk (record { known = record { at = first_of a.known; low = kept k x; high = kept k y }; part = both_mentions a z }))).at out2.1));
 }
 
 pub k-values_of : (walk : Walk) (x0 : Option Kind) (x1 : Option Found) → Keeps walk (values_of x0 x1)

@@ -19,7 +19,6 @@ use Rattle.name_rules.specs.declared.log.Rule.TheVariants.{ReduceRule}
 use Rattle.name_rules.specs.declared.log.Taken.{Taken}
 use Rattle.name_rules.specs.declared.scope.Context.{Context}
 use Rattle.name_rules.specs.declared.scope.Names.{Names}
-use Rattle.name_rules.specs.declared.types.Kind.TheVariants as kind
 use Rattle.name_rules.specs.declared.types.Kind.{Kind}
 use Rattle.name_rules.specs.declared.types.Scalar.{Scalar}
 use Rattle.name_rules.specs.declared.types.Subtype.TheVariants as subtype
@@ -31,7 +30,7 @@ use Rattle.typed_tree.specs.declared.expressions.Reducer.{Reducer}
 use Rattle.std.specs.Prelude.{List, None, Option, Some, [], if◌then◌else◌, is_some, not, ℕ, ◌&&◌, ◌||◌, ◌∷◌}
 use Rattle.typed_tree.specs.Decoded.{TypedPart}
 use Rattle.name_rules.specs.Judging.{fault, given, joined, read, some}
-use Rattle.name_rules.specs.Reducers.{operators, operator_named, operator_reducer, extreme_of, function_given, function_of, no_reducer, extreme_name, attribute_reducer, name_reducer, reducer_by, reducer_of, reduction, reduced, open_reduction, is_logical, of_kind, numeric, by_operator, by_subtypes, by_function, folded_by}
+use Rattle.name_rules.specs.Reducers.{operators, operator_named, operator_reducer, extreme_of, function_given, function_of, no_reducer, extreme_name, attribute_reducer, name_reducer, reducer_by, reducer_of, reduction, reduced, open_reduction, is_logical, of_kind, numeric, by_operator, by_subtypes, by_function, folded_by, logical_kind}
 use Rattle.name_laws.proofs.Walk.{Walk, Keeps, k-pure, k-some, k-bind, k-fault, k-read, k-if, k-given, k-both, k-where_clean}
 use Rattle.name_laws.proofs.Walked.{KeepsInside}
 use Rattle.name_laws.proofs.KeepsExpressions.{k-judged_alone}
@@ -97,7 +96,7 @@ k-numeric walk g c i at o x v (Some k) _ = k-of_kind walk g c i at o k x v
 k-numeric walk g c i at o x v None (Some k) = k-of_kind walk g c i at o k x v
 
 pub k-by_operator : (walk : Walk) (x0 : Going) (x1 : TypedPart) (x2 : TypedPart) (x3 : ℕ) (x4 : Op) (x5 : Found) (x6 : Found) → Keeps walk (by_operator x0 x1 x2 x3 x4 x5 x6)
-k-by_operator walk g c i at o x v = k-if walk (is_logical o) (of_kind g c i at o kind.Boolean x v) (if is_number x.known && is_number v.known then numeric g c i at o x v (kind_of x.known) (kind_of v.known) else fault at ReduceRule) (k-of_kind walk g c i at o kind.Boolean x v) (k-if walk (is_number x.known && is_number v.known) (numeric g c i at o x v (kind_of x.known) (kind_of v.known)) (fault at ReduceRule) (k-numeric walk g c i at o x v (kind_of x.known) (kind_of v.known)) (k-fault walk at ReduceRule))
+k-by_operator walk g c i at o x v = k-if walk (is_logical o) (of_kind g c i at o (logical_kind (kind_of x.known) (kind_of v.known)) x v) (if is_number x.known && is_number v.known then numeric g c i at o x v (kind_of x.known) (kind_of v.known) else fault at ReduceRule) (k-of_kind walk g c i at o (logical_kind (kind_of x.known) (kind_of v.known)) x v) (k-if walk (is_number x.known && is_number v.known) (numeric g c i at o x v (kind_of x.known) (kind_of v.known)) (fault at ReduceRule) (k-numeric walk g c i at o x v (kind_of x.known) (kind_of v.known)) (k-fault walk at ReduceRule))
 
 pub k-by_subtypes : (walk : Walk) (x0 : Going) (x1 : TypedPart) (x2 : TypedPart) (x3 : ℕ) (x4 : ℕ) (x5 : Kind) (x6 : Subtype) (x7 : Subtype) (x8 : Found) (x9 : Found) → Keeps walk (by_subtypes x0 x1 x2 x3 x4 x5 x6 x7 x8 x9)
 k-by_subtypes walk g c i at n result (subtype.Scalar a) (subtype.Scalar b) x v = k-if walk (same result a.kind && suits b.kind x.known && suits a.kind v.known && (not (is_some g.site) || same a.kind b.kind)) (reduced g c i b.kind a.kind (reducer'.Function at n (typed_scalar a) (typed_scalar b)) x v) (fault at ReduceRule) (k-reduced walk g c i b.kind a.kind (reducer'.Function at n (typed_scalar a) (typed_scalar b)) x v) (k-fault walk at ReduceRule)

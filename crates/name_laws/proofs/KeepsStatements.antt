@@ -11,7 +11,7 @@ use Rattle.name_rules.specs.Parts.{name, new_site, valued_by}
 use Rattle.name_rules.specs.Primaries.{inside}
 use Rattle.name_rules.specs.Symbols.{symbol}
 use Rattle.name_rules.specs.Types.{wanted_of}
-use Rattle.name_rules.specs.Values.{first_of, is_scalar, settled_found, stored}
+use Rattle.name_rules.specs.Values.{first_of, is_scalar, settled_found, stored, is_modular_kind, kind_of}
 use Rattle.name_rules.specs.declared.found.Denoted.TheVariants as denoted
 use Rattle.name_rules.specs.declared.found.Denoted.{Denoted as KnownDenoted}
 use Rattle.name_rules.specs.declared.found.Found.TheVariants as known
@@ -35,7 +35,7 @@ use Rattle.typed_tree.specs.Decoded as part
 use Rattle.typed_tree.specs.Syntax as typed
 use Rattle.typed_tree.specs.Syntax.{Selections}
 use Rattle.typed_tree.specs.declared.program.SiteKind.TheVariants as site
-use Rattle.std.specs.Prelude.{Bool, List, None, Option, Some, [], false, length, nat_le, not, option_map, suc, true, zero, ℕ, ◌-◌, ◌==◌, ◌∷◌}
+use Rattle.std.specs.Prelude.{Bool, List, None, Option, Some, [], false, length, nat_le, not, option_map, suc, true, zero, ℕ, ◌-◌, ◌==◌, ◌∷◌, ◌&&◌}
 use Rattle.name_rules.specs.TypedParts.{selections_of}
 use Rattle.typed_tree.specs.Decoded.{TypedPart}
 use Rattle.typed_tree.specs.Latest.{turned}
@@ -205,7 +205,7 @@ k-alts walk a here k c made syntax.NoAlt keeps1 = k-pure walk (c, made)
 k-alts walk a here k c made (syntax.AlsoAlt x xs) keeps1 = k-bind walk (alternative a here k (is_last xs) c made x) (λ r. alts a here k r.0 r.1 xs) (k-alternative walk a here k (is_last xs) c made x keeps1) (λ r. k-alts walk a here k r.0 r.1 xs keeps1)
 
 pub k-selector : (walk : Walk) (x0 : Found) → Keeps walk (selector x0)
-k-selector walk f = k-if walk (is_scalar f.known) ((settled_found f >>= λ e. pure (option_map (selector_of (selecting f.known)) e))) (fault (first_of f.known) WrongType) (k-bind walk (settled_found f) (λ e. pure (option_map (selector_of (selecting f.known)) e)) (k-settled_found walk f) (λ e. k-pure walk (option_map (selector_of (selecting f.known)) e))) (k-fault walk (first_of f.known) WrongType)
+k-selector walk f = k-if walk (is_scalar f.known && not (is_modular_kind (kind_of f.known))) ((settled_found f >>= λ e. pure (option_map (selector_of (selecting f.known)) e))) (fault (first_of f.known) WrongType) (k-bind walk (settled_found f) (λ e. pure (option_map (selector_of (selecting f.known)) e)) (k-settled_found walk f) (λ e. k-pure walk (option_map (selector_of (selecting f.known)) e))) (k-fault walk (first_of f.known) WrongType)
 
 pub k-closed_where : (walk : Walk) (x0 : ℕ) (x1 : Option Selector) (x2 : Covering) → Keeps walk (closed_where x0 x1 x2)
 k-closed_where walk at None c = k-pure walk tt

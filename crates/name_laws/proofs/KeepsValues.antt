@@ -1,6 +1,6 @@
 -- What holds of each line of the log holds of what Values judges.
 use Rattle.name_rules.specs.Found.{Found}
-use Rattle.name_rules.specs.Types.{check_at, class_of, in_base, is_integer, same}
+use Rattle.name_rules.specs.Types.{check_at, class_of, in_base, is_integer, same, kept}
 use Rattle.name_rules.specs.declared.found.Found.TheVariants as known
 use Rattle.name_rules.specs.declared.found.Found.{Found as Known}
 use Rattle.name_rules.specs.declared.found.Limits.{Limits}
@@ -13,16 +13,17 @@ use Rattle.typed_tree.specs.Decoded as part
 use Rattle.typed_tree.specs.Syntax as typed
 use Rattle.typed_tree.specs.Syntax.{Composite, Selections, Expr as TypedExpr}
 use Rattle.typed_tree.specs.Classes.{with_class}
-use Rattle.std.specs.Prelude.{Bool, None, Option, Some, false, ℕ, ℤ, ◌==◌}
+use Rattle.std.specs.Prelude.{Bool, None, Option, Some, false, ℕ, ℤ, ◌==◌, ◌&&◌, not}
 use Rattle.name_rules.specs.TypedParts.{selections_of}
 use Rattle.typed_tree.specs.Decoded.{TypedPart, as_expr}
 use Rattle.name_rules.specs.Judging.{fault, given, pure, some, unless}
-use Rattle.name_rules.specs.Values.{first_of, value_of, is_number, is_scalar, literal, valued, fitting, beyond, settled_by, settled, object_value, place_asked, asked_form, asked, own_kind, settled_found, any_integer, any_scalar, static_value, static_of_kind, static_integer, whole_object, whole_of, composite_form, composite_asked, stored}
+use Rattle.name_rules.specs.Values.{first_of, value_of, is_number, is_scalar, literal, valued, fitting, beyond, settled_by, settled, object_value, place_asked, asked_form, asked, own_kind, settled_found, any_integer, any_scalar, static_value, static_of_kind, static_integer, whole_object, whole_of, composite_form, composite_asked, stored, is_word_kind, kind_of, object_expr}
 use Rattle.name_laws.proofs.Walk.{Walk, Keeps, k-pure, k-some, k-bind, k-fault, k-unless, k-if, k-given}
+use Rattle.name_rules.specs.declared.types.Scalar.{Scalar}
 
 pub k-valued : (walk : Walk) (x0 : Kind) (x1 : ℕ) (x2 : ℤ) (x3 : Bool) (x4 : TypedPart) → Keeps walk (valued x0 x1 x2 x3 x4)
 unfolding valued
-k-valued walk k first z alone ms = k-if walk (in_base k z) (some (literal first z alone ms)) (fault first StaticRange) (k-some walk (literal first z alone ms)) (k-fault walk first StaticRange)
+k-valued walk k first z alone ms = k-if walk (in_base k z) (some (literal first (kept k z) alone ms)) (fault first StaticRange) (k-some walk (literal first (kept k z) alone ms)) (k-fault walk first StaticRange)
 
 pub k-fitting : (walk : Walk) (x0 : Kind) (x1 : ℕ) (x2 : ℤ) → Keeps walk (fitting x0 x1 x2)
 unfolding fitting
@@ -34,16 +35,20 @@ k-settled_by walk k e (Some at) = k-fault walk at StaticRange
 
 pub k-settled : (walk : Walk) (x0 : Kind) (x1 : Limits) (x2 : TypedExpr) → Keeps walk (settled x0 x1 x2)
 unfolding settled
-k-settled walk k l e = k-settled_by walk k e (beyond k l)
+k-settled walk k l e = k-settled_by walk k e (beyond k l e)
+
+pub k-object_value : (walk : Walk) (x0 : Kind) (x1 : ObjectName) (x2 : Selections) (x3 : Scalar) (x4 : Option ℤ) → Keeps walk (object_value x0 x1 x2 x3 x4)
+k-object_value walk k p ss s (Some z) = k-valued walk k p.first z false part.Nothing
+k-object_value walk k p ss s None = k-some walk (part.AnExpr (object_expr p ss s p.variable))
 
 pub k-place_asked : (walk : Walk) (x0 : Kind) (x1 : ObjectName) (x2 : Selections) (x3 : Subtype) → Keeps walk (place_asked x0 x1 x2 x3)
-k-place_asked walk k p ss (subtype.Scalar s) = k-if walk (same s.kind k) (some (object_value p ss s p.value)) (fault p.first WrongType) (k-some walk (object_value p ss s p.value)) (k-fault walk p.first WrongType)
+k-place_asked walk k p ss (subtype.Scalar s) = k-if walk (same s.kind k) (object_value k p ss s p.value) (fault p.first WrongType) (k-object_value walk k p ss s p.value) (k-fault walk p.first WrongType)
 k-place_asked walk k p ss (subtype.Composite n) = k-fault walk p.first WrongType
 
 pub k-asked_form : (walk : Walk) (x0 : Kind) (x1 : Known) (x2 : TypedPart) → Keeps walk (asked_form x0 x1 x2)
 k-asked_form walk k (known.Universal first z alone) x = k-if walk (is_integer k) (valued k first z alone x) (fault first WrongType) (k-valued walk k first z alone x) (k-fault walk first WrongType)
 k-asked_form walk k (known.Open first l) x = k-if walk (is_integer k) (settled k l (as_expr x)) (fault first WrongType) (k-settled walk k l (as_expr x)) (k-fault walk first WrongType)
-k-asked_form walk k (known.Static first j z) x = k-if walk (same j k) (some (literal first z false x)) (fault first WrongType) (k-some walk (literal first z false x)) (k-fault walk first WrongType)
+k-asked_form walk k (known.Static first j z) x = k-if walk (same j k) (valued k first z false x) (fault first WrongType) (k-valued walk k first z false x) (k-fault walk first WrongType)
 k-asked_form walk k (known.Object p) x = k-place_asked walk k p (selections_of x) p.subtype
 k-asked_form walk k (known.Scalar first j n) x = k-if walk (same j k) (some x) (fault first WrongType) (k-some walk x) (k-fault walk first WrongType)
 k-asked_form walk k f x = k-fault walk (first_of f) WrongType
@@ -58,7 +63,7 @@ k-settled_found walk f = k-asked walk (own_kind f.known) f
 
 pub k-any_integer : (walk : Walk) (x0 : Found) → Keeps walk (any_integer x0)
 unfolding any_integer
-k-any_integer walk f = k-if walk (is_number f.known) (settled_found f) (fault (first_of f.known) WrongType) (k-settled_found walk f) (k-fault walk (first_of f.known) WrongType)
+k-any_integer walk f = k-if walk (is_number f.known && not (is_word_kind (kind_of f.known))) (settled_found f) (fault (first_of f.known) WrongType) (k-settled_found walk f) (k-fault walk (first_of f.known) WrongType)
 
 pub k-any_scalar : (walk : Walk) (x0 : Found) → Keeps walk (any_scalar x0)
 unfolding any_scalar

@@ -57,6 +57,10 @@ pub m-test : {A : Type 0} (Q : A → Type 0) (b : Bool) (p q : Judging A) → (b
 m-test Q true p q m n = m refl
 m-test Q false p q m n = n
 
+pub m-rest : {A : Type 0} (Q : A → Type 0) (b : Bool) (p q : Judging A) → Makes Q p → (b ≡ false → Makes Q q) → Makes Q (if b then p else q)
+m-rest Q true p q m n = m
+m-rest Q false p q m n = n refl
+
 pub m-given : {A B : Type 0} (Q : A → Type 0) (R : B → Type 0) (x : Option A) (f : A → Judging (Option B)) → Maybe Q x → ((a : A) → Q a → Makes (Maybe R) (f a)) → Makes (Maybe R) (given x f)
 m-given Q R None f q m = m-none R
 m-given Q R (Some a) f q m = m a q

@@ -1,5 +1,5 @@
 -- What is found fits: attributes.
-use Rattle.std.proofs.Common.{◌≡◌, refl, inl, ℕ, zero, suc, ℤ, pos, List, [], ◌∷◌, length, Option, Some, None, Bool, true, false, if◌then◌else◌, option_map, ◌&&◌, ◌-◌, int_le, slice_get}
+use Rattle.std.proofs.Common.{◌≡◌, refl, inl, ℕ, zero, suc, ℤ, pos, List, [], ◌∷◌, length, Option, Some, None, Bool, true, false, if◌then◌else◌, option_map, ◌&&◌, ◌-◌, int_le, slice_get, true≢false, subst}
 use Rattle.std.specs.Prelude.{unsigned_abs}
 use Rattle.ada_base.specs.declared.operation.Op.TheVariants as op
 use Rattle.ada_base.specs.declared.operation.Op.{Op}
@@ -7,15 +7,15 @@ use Rattle.syntax_tree.specs.Syntax.{Args}
 use Rattle.typed_tree.specs.Decoded as part
 use Rattle.typed_tree.specs.Decoded.{TypedPart, as_expr}
 use Rattle.typed_tree.specs.Syntax.{Expr as TypedExpr}
-use Rattle.name_rules.specs.Attributes.{alone, attribute_found, bound_alone, bound_in, bound_with, dimension_at, dimension_bound, dimension_given, dimensions_in, extreme, first_named, image_text, is_array_object, is_bound, is_reduction, mentioned, object_image, one_argument, one_dimension, one_given, one_named, prefix_of, prefix_subtype, reduced_alone, scalar_bound, scalar_with, settled_attribute, settled_form, step, stepped, two_arguments_of, two_given, two_named}
+use Rattle.name_rules.specs.Attributes.{alone, attribute_found, bound_alone, bound_in, bound_with, dimension_at, dimension_bound, dimension_given, dimensions_in, extreme, first_named, image_text, is_array_object, is_bound, is_reduction, mentioned, object_image, one_argument, one_dimension, one_given, one_named, prefix_of, prefix_subtype, reduced_alone, scalar_bound, scalar_with, settled_attribute, settled_form, step, stepped, two_arguments_of, two_given, two_named, is_left_out, bound_found}
 use Rattle.name_rules.specs.Calls.{arg_names, operands}
 use Rattle.name_rules.specs.Expressions.{Inside}
-use Rattle.name_rules.specs.Found.{Denoted, Found, denote, parameter_found, static, universal, value_denoted}
-use Rattle.name_rules.specs.Judging.{◌>>=◌, fault, given, joined, read}
+use Rattle.name_rules.specs.Found.{Denoted, Found, denote, parameter_found, static, universal, value_denoted, scalar}
+use Rattle.name_rules.specs.Judging.{◌>>=◌, fault, given, joined, read, some}
 use Rattle.name_rules.specs.Names.{denoted_first, wrong_call}
 use Rattle.name_rules.specs.Operators.{limit_of}
 use Rattle.name_rules.specs.TypedParts.{also_all}
-use Rattle.name_rules.specs.Types.{class_of, dimensions_of, extent, in_base, is_integer, shape_in}
+use Rattle.name_rules.specs.Types.{class_of, dimensions_of, extent, in_base, is_integer, shape_in, is_modular, kept}
 use Rattle.name_rules.specs.Values.{asked, first_of, is_number, mentions_of, own_kind, static_of_kind}
 use Rattle.name_rules.specs.declared.found.Attribute.TheVariants as attribute'
 use Rattle.name_rules.specs.declared.found.Attribute.{Attribute}
@@ -37,14 +37,14 @@ use Rattle.name_rules.specs.declared.types.Kind.TheVariants as kind
 use Rattle.name_rules.specs.declared.types.Scalar.{Scalar}
 use Rattle.name_rules.specs.declared.types.Subtype.{Subtype}
 use Rattle.name_rules.specs.declared.types.Subtype.TheVariants as subtype
-use Rattle.name_laws.proofs.Based.{spanning}
+use Rattle.name_laws.proofs.Based.{spanning, plain-kept}
 use Rattle.name_laws.proofs.KeepsValues.{k-static_of_kind}
-use Rattle.name_laws.proofs.Makes.{Any, Makes, Maybe, joint, m-bind, m-fault, m-given, m-if, m-kept, m-pure, m-read, m-some, m-where_clean, mapped}
+use Rattle.name_laws.proofs.Makes.{Any, Makes, Maybe, joint, m-bind, m-fault, m-given, m-if, m-kept, m-pure, m-read, m-some, m-where_clean, mapped, m-rest}
 use Rattle.name_laws.proofs.MakesCalls.{AllFound, m-operands}
 use Rattle.name_laws.proofs.MakesExpressions.{LevelFits}
 use Rattle.name_laws.proofs.MakesNames.{m-wrong_call}
 use Rattle.name_laws.proofs.MakesScope.{DenotedOf, DenotesOf, PrefixOf}
-use Rattle.name_laws.proofs.MakesValues.{AskedOf, FoundOf, SpanOf, has-value, is-typed, m-asked}
+use Rattle.name_laws.proofs.MakesValues.{AskedOf, FoundOf, SpanOf, is-typed, m-asked, has-kept, has-plain}
 use Rattle.name_laws.specs.Based.{AreBased, AreSpans, ArraysBased, IsSpan}
 use Rattle.name_laws.specs.Classes.{ExprFits}
 
@@ -57,18 +57,24 @@ prefix-fits k x h = tt
 
 pub m-attribute_found : (d : Denoted) (at : ℕ) (a : Option Attribute) → DenotedOf d → Makes (Maybe DenotedOf) (attribute_found d at a)
 m-attribute_found d at None h = m-fault DenotedOf at Unknown
-m-attribute_found d at (Some a) h = m-some DenotedOf (denote (denoted.Attribute (denoted_first d.known) (prefix_of d.known) at a) d.part) (prefix-fits d.known d.part h)
+m-attribute_found d at (Some a) h =
+    m-rest (Maybe DenotedOf) (is_left_out (prefix_of d.known) a) (fault at Unknown) (some (denote (denoted.Attribute (denoted_first d.known) (prefix_of d.known) at a) d.part)) (m-fault DenotedOf at Unknown)
+    (λ e. m-some DenotedOf (denote (denoted.Attribute (denoted_first d.known) (prefix_of d.known) at a) d.part) (prefix-fits d.known d.part h, e))
 
 -- ---- First, Last, Length, Range
 
+bound-found : (first : ℕ) (k : Kind) (z : ℤ) (b : Bool) → is_modular k ≡ b → in_base k (kept k z) ≡ true → FoundOf (if b then scalar first k None (limit_of first z) else static first k z part.Nothing)
+bound-found first k z true e h = has-kept k z h
+bound-found first k z false e h = subst (λ w. in_base k w ≡ true) (plain-kept k z e) h
+
 m-scalar_bound : (first : ℕ) (s : Scalar) (a : Attribute) → SpanOf s → Makes (Maybe DenotedOf) (scalar_bound first s a)
-m-scalar_bound first s attribute'.First h = m-some DenotedOf (value_denoted (static first s.kind s.low part.Nothing)) h.first
-m-scalar_bound first s attribute'.Last h = m-some DenotedOf (value_denoted (static first s.kind s.high part.Nothing)) h.last
+m-scalar_bound first s attribute'.First h = m-some DenotedOf (value_denoted (bound_found first s.kind s.low)) (bound-found first s.kind s.low (is_modular s.kind) refl h.first)
+m-scalar_bound first s attribute'.Last h = m-some DenotedOf (value_denoted (bound_found first s.kind s.high)) (bound-found first s.kind s.high (is_modular s.kind) refl h.last)
 m-scalar_bound first s a h = m-fault DenotedOf first WrongType
 
 m-dimension_bound : (first : ℕ) (ms : TypedPart) (a : Attribute) (d : Dimension) → IsSpan d.kind d.low d.high → Makes (Maybe DenotedOf) (dimension_bound first ms a d)
-m-dimension_bound first ms attribute'.First d h = m-some DenotedOf (value_denoted (static first d.kind d.low ms)) h.first
-m-dimension_bound first ms attribute'.Last d h = m-some DenotedOf (value_denoted (static first d.kind d.high ms)) h.last
+m-dimension_bound first ms attribute'.First d h = m-some DenotedOf (value_denoted (static first d.kind d.low ms)) h.range.first
+m-dimension_bound first ms attribute'.Last d h = m-some DenotedOf (value_denoted (static first d.kind d.high ms)) h.range.last
 m-dimension_bound first ms attribute'.Length d h = m-some DenotedOf (value_denoted (universal first (pos (extent d)) false ms)) tt
 m-dimension_bound first ms attribute'.Range d h = m-some DenotedOf (denote (denoted.Range first d) ms) h
 m-dimension_bound first ms a d h = m-fault DenotedOf first WrongType
@@ -174,28 +180,33 @@ takes-image first k x h = ((λ ps r. (is-typed k, h, r)), tt)
 takes-extreme : (first : ℕ) (k : Kind) (o : Op) → TakesTwo k (extreme first k o)
 takes-extreme first k o x y g h = (is-typed k, g, inl h)
 
-one-based : (k : Kind) → in_base k (pos 1) ≡ true
-one-based kind.Boolean = refl
-one-based kind.Integer = refl
-one-based (kind.Own n) = refl
+one-based : (k : Kind) → is_modular k ≡ false → in_base k (pos 1) ≡ true
+one-based kind.Boolean e = refl
+one-based kind.Integer e = refl
+one-based (kind.Own n) e = refl
+one-based (kind.Modular n k) e = absurd cc
 
-takes-step : (first : ℕ) (k : Kind) (o : Op) → Takes k (step first k o)
-takes-step first k o x h = takes-extreme first k o x (limit_of first (pos 1)) h (has-value k (pos 1) (one-based k))
+takes-step : (first : ℕ) (k : Kind) (o : Op) → is_modular k ≡ false → Takes k (step first k o)
+takes-step first k o e x h = takes-extreme first k o x (limit_of first (pos 1)) h (has-plain k (pos 1) e (one-based k e))
 
-m-stepped : (names : Names) (inside : Inside) (here : Context) (first : ℕ) (s : Scalar) (o : Op) (bracket : ℕ) (as' : Args) → LevelFits inside → AreBased here.scope → Makes (Maybe DenotedOf) (stepped names inside here first s o bracket as')
-m-stepped names inside here first s o bracket as' l r =
-    m-if (Maybe DenotedOf) (is_integer s.kind) (one_argument names inside here bracket s.kind (step first s.kind o) as') (fault first WrongType) (m-one_argument names inside here bracket s.kind (step first s.kind o) as' l r (takes-step first s.kind o)) (m-fault DenotedOf first WrongType)
+m-stepped : (names : Names) (inside : Inside) (here : Context) (first : ℕ) (s : Scalar) (o : Op) (bracket : ℕ) (as' : Args) → LevelFits inside → AreBased here.scope → is_modular s.kind ≡ false → Makes (Maybe DenotedOf) (stepped names inside here first s o bracket as')
+m-stepped names inside here first s o bracket as' l r e =
+    m-if (Maybe DenotedOf) (is_integer s.kind) (one_argument names inside here bracket s.kind (step first s.kind o) as') (fault first WrongType) (m-one_argument names inside here bracket s.kind (step first s.kind o) as' l r (takes-step first s.kind o e)) (m-fault DenotedOf first WrongType)
 
 m-bound_called : (names : Names) (inside : Inside) (here : Context) (first : ℕ) (s : Scalar) (a : Attribute) (as' : Args) → LevelFits inside → SpanOf s → Makes (Maybe DenotedOf) (scalar_bound first s a >>= λ d. given d (λ x. wrong_call names inside here first as'))
 m-bound_called names inside here first s a as' l h = m-bind (Maybe DenotedOf) (Maybe DenotedOf) (scalar_bound first s a) _ (m-scalar_bound first s a h) (λ d q. m-given DenotedOf DenotedOf d _ q (λ x t. m-wrong_call names inside here first as' l))
 
-pub m-scalar_with : (names : Names) (inside : Inside) (here : Context) (first : ℕ) (s : Scalar) (a : Attribute) (bracket : ℕ) (as' : Args) → LevelFits inside → AreBased here.scope → SpanOf s → Makes (Maybe DenotedOf) (scalar_with names inside here first s a bracket as')
-m-scalar_with names inside here first s attribute'.Image bracket as' l r h = m-one_argument names inside here bracket s.kind (image_text first s.kind) as' l r (takes-image first s.kind)
-m-scalar_with names inside here first s attribute'.Max bracket as' l r h = m-two_arguments_of names inside here bracket s.kind (extreme first s.kind op.Max) as' l r (takes-extreme first s.kind op.Max)
-m-scalar_with names inside here first s attribute'.Min bracket as' l r h = m-two_arguments_of names inside here bracket s.kind (extreme first s.kind op.Min) as' l r (takes-extreme first s.kind op.Min)
-m-scalar_with names inside here first s attribute'.Succ bracket as' l r h = m-stepped names inside here first s op.Add bracket as' l r
-m-scalar_with names inside here first s attribute'.Pred bracket as' l r h = m-stepped names inside here first s op.Sub bracket as' l r
-m-scalar_with names inside here first s a bracket as' l r h = m-bound_called names inside here first s a as' l h
+not-left : (b : Bool) → (b && true) ≡ false → b ≡ false
+not-left true e = absurd (true≢false e)
+not-left false e = refl
+
+pub m-scalar_with : (names : Names) (inside : Inside) (here : Context) (first : ℕ) (s : Scalar) (a : Attribute) (bracket : ℕ) (as' : Args) → LevelFits inside → AreBased here.scope → SpanOf s → is_left_out (prefix.Type (subtype.Scalar s)) a ≡ false → Makes (Maybe DenotedOf) (scalar_with names inside here first s a bracket as')
+m-scalar_with names inside here first s attribute'.Image bracket as' l r h n = m-one_argument names inside here bracket s.kind (image_text first s.kind) as' l r (takes-image first s.kind)
+m-scalar_with names inside here first s attribute'.Max bracket as' l r h n = m-two_arguments_of names inside here bracket s.kind (extreme first s.kind op.Max) as' l r (takes-extreme first s.kind op.Max)
+m-scalar_with names inside here first s attribute'.Min bracket as' l r h n = m-two_arguments_of names inside here bracket s.kind (extreme first s.kind op.Min) as' l r (takes-extreme first s.kind op.Min)
+m-scalar_with names inside here first s attribute'.Succ bracket as' l r h n = m-stepped names inside here first s op.Add bracket as' l r (not-left (is_modular s.kind) n)
+m-scalar_with names inside here first s attribute'.Pred bracket as' l r h n = m-stepped names inside here first s op.Sub bracket as' l r (not-left (is_modular s.kind) n)
+m-scalar_with names inside here first s a bracket as' l r h n = m-bound_called names inside here first s a as' l h
 
 m-object_image : (first : ℕ) (p : ObjectName) (x : TypedPart) (t : Subtype) → PrefixOf (prefix.Object p) x → Makes (Maybe DenotedOf) (object_image first p x t)
 m-object_image first p x (subtype.Scalar s) h = m-one_given s.kind (image_text first s.kind) (record { known = known.Object p; part = x }) (takes-image first s.kind) h
@@ -220,7 +231,7 @@ m-alone first (prefix.Parameter s) x at attribute'.Image h = m-one_given s.kind 
 m-alone first p x at a h = m-others_alone first p x at a h
 
 m-settled_form : (k : KnownDenoted) (x : TypedPart) → DenotesOf k x → Makes (Maybe DenotedOf) (settled_form k x)
-m-settled_form (denoted.Attribute first p at a) x h = m-alone first p x at a h
+m-settled_form (denoted.Attribute first p at a) x h = m-alone first p x at a h.0
 m-settled_form k x h = m-some DenotedOf (denote k x) h
 
 pub m-settled_attribute : (d : Denoted) → DenotedOf d → Makes (Maybe DenotedOf) (settled_attribute d)

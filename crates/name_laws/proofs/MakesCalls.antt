@@ -17,7 +17,7 @@ use Rattle.name_rules.specs.Found.{Found}
 use Rattle.name_rules.specs.Judging.{◌>>=◌, fault, given, pure, read, some}
 use Rattle.name_rules.specs.TypedParts.{also, selections_of}
 use Rattle.name_rules.specs.Types.{is_integer, same, typed_scalar, wanted_of}
-use Rattle.name_rules.specs.Values.{first_of, is_number, settled_found}
+use Rattle.name_rules.specs.Values.{first_of, is_number, settled_found, own_kind}
 use Rattle.name_rules.specs.declared.found.Found.TheVariants as known
 use Rattle.name_rules.specs.declared.found.Found.{Found as Known}
 use Rattle.name_rules.specs.declared.found.ObjectName.{ObjectName}
@@ -154,7 +154,7 @@ m-operands names inside here made (syntax.AlsoArg (syntax.arg name e) as') l r g
 m-converted : (first : ℕ) (s : Scalar) (f : Found) → FoundOf f → Makes (Maybe DenotedOf) (converted first s f)
 m-converted first s f h =
     m-if (Maybe DenotedOf) (is_number f.known) _ (fault (first_of f.known) WrongType)
-    (m-bind (Maybe ExprOf) (Maybe DenotedOf) (settled_found f) _ (m-settled_found f h) (λ e q. m-given ExprOf DenotedOf e _ q (λ x r. m-some DenotedOf (conversion_of first s x) r)))
+    (m-bind (Maybe ExprOf) (Maybe DenotedOf) (settled_found f) _ (m-settled_found f h) (λ e q. m-given ExprOf DenotedOf e _ q (λ x r. m-some DenotedOf (conversion_of first (own_kind f.known) s x) r)))
     (m-fault DenotedOf (first_of f.known) WrongType)
 
 m-one_operand : (bracket first : ℕ) (s : Scalar) (ns : List (Option ℕ)) (fs : List Found) → AllFound fs → Makes (Maybe DenotedOf) (one_operand bracket first s ns fs)

@@ -1,5 +1,7 @@
 -- What is found fits: declarations, and what is around those behind them.
-use Rattle.std.proofs.Common.{◌≡◌, refl, subst, ℕ, ℤ, List, [], ◌∷◌, ◌++◌, length, Option, Some, None, Bool, true, false, if◌then◌else◌, option_map, ◌&&◌, ◌+◌, int_le, nat_le}
+use Rattle.std.proofs.Common.{◌≡◌, refl, subst, ℕ, ℤ, List, [], ◌∷◌, ◌++◌, length, Option, Some, None, Bool, true, false, if◌then◌else◌, option_map, ◌&&◌, ◌+◌, int_le, nat_le, true≢false, ◌||◌, le-leb, ◌-◌, sym, arith, pos}
+use Rattle.ada_base.proofs.Turning.{turned_twice}
+use Rattle.ada_base.specs.Operation.{turned as number_turned, modulus}
 use Rattle.std.proofs.lemmas.Bool.{and_parts}
 use Rattle.std.specs.Prelude.{is_some, not}
 use Rattle.ada_base.specs.declared.reason.Reason.TheVariants as reason
@@ -12,7 +14,7 @@ use Rattle.typed_tree.specs.Latest.{turned}
 use Rattle.typed_tree.specs.Syntax.{Decls}
 use Rattle.name_rules.specs.Declarations as d
 use Rattle.name_rules.specs.Declarations.{Building, Dimensions, Indicated, Initial, all_ids, indicated}
-use Rattle.name_rules.specs.Expressions.{Inside, expr, judged_alone}
+use Rattle.name_rules.specs.Expressions.{Inside, expr, judged_alone, simple}
 use Rattle.name_rules.specs.Found.{Found}
 use Rattle.name_rules.specs.Judging.{◌>>=◌, both, fault, given, joined, pure, read, some, unless}
 use Rattle.name_rules.specs.Names.{denoted_first}
@@ -22,8 +24,8 @@ use Rattle.name_rules.specs.Ranges.{Static, both_static, scalar_type, static_ran
 use Rattle.name_rules.specs.Scope.{as_scalar, declared, entry, free, hidden_where, subtype_named}
 use Rattle.name_rules.specs.Symbols.{symbol}
 use Rattle.name_rules.specs.TypedParts.{also_all}
-use Rattle.name_rules.specs.Types.{array_cells, cells_in, in_base, is_integer, lies_in, number_of, saturated, wanted_of, written_shape}
-use Rattle.name_rules.specs.Values.{asked, first_of, is_number, static_value, stored, suits, value_of}
+use Rattle.name_rules.specs.Types.{array_cells, cells_in, in_base, is_integer, lies_in, number_of, saturated, wanted_of, written_shape, is_modular, kept, base_of}
+use Rattle.name_rules.specs.Values.{asked, first_of, is_number, static_value, stored, suits, value_of, mentions_of}
 use Rattle.name_rules.specs.declared.found.Denoted.TheVariants as denoted
 use Rattle.name_rules.specs.declared.found.Denoted.{Denoted as KnownDenoted}
 use Rattle.name_rules.specs.Limits.{most_dimensions}
@@ -43,19 +45,19 @@ use Rattle.name_rules.specs.declared.types.Scalar.{Scalar}
 use Rattle.name_rules.specs.declared.types.Subtype.{Subtype}
 use Rattle.name_rules.specs.declared.types.Subtype.TheVariants as subtype
 use Rattle.name_rules.specs.declared.types.Wanted.TheVariants as wanted
-use Rattle.name_laws.proofs.Based.{constant-based, shape_more, spanning, spans_both, within-based}
+use Rattle.name_laws.proofs.Based.{constant-based, shape_more, spanning, spans_both, within-based, plain-span, kept-twice, both-true}
 use Rattle.name_laws.proofs.KeepsDeclarations.{k-cells_counted, k-new_exception, k-static_number, k-valued_constant}
 use Rattle.name_laws.proofs.KeepsRanges.{k-both_static}
 use Rattle.name_laws.proofs.KeepsScope.{k-free}
 use Rattle.name_laws.proofs.KeepsTypes.{k-number_of}
-use Rattle.name_laws.proofs.Makes.{Any, Each, Makes, Maybe, each-turned, joint, m-bind, m-both, m-fault, m-given, m-if, m-kept, m-none, m-pure, m-read, m-some, m-test, m-unless, mapped}
-use Rattle.name_laws.proofs.MakesExpressions.{Finding, LevelFits, m-expr, m-judged_alone}
+use Rattle.name_laws.proofs.Makes.{Any, Each, Makes, Maybe, each-turned, joint, m-bind, m-both, m-fault, m-given, m-if, m-kept, m-none, m-pure, m-read, m-some, m-test, m-unless, mapped, m-rest}
+use Rattle.name_laws.proofs.MakesExpressions.{Finding, LevelFits, m-expr, m-judged_alone, m-simple}
 use Rattle.name_laws.proofs.MakesPrimaries.{based-value}
 use Rattle.name_laws.proofs.MakesRanges.{AreFinding, any, are-based, m-scalar_type, m-two_bounds}
 use Rattle.name_laws.proofs.MakesScope.{DenotedOf, DenotesOf, m-as_scalar, m-subtype_named}
 use Rattle.name_laws.proofs.MakesValues.{FoundOf, SpanOf, ValueOf, m-stored}
 use Rattle.name_laws.proofs.Statics.{static_law}
-use Rattle.name_laws.specs.Based.{AreBased, AreSpans, IsBased, IsBasedWhat, IsSpan}
+use Rattle.name_laws.specs.Based.{AreBased, AreSpans, IsBased, IsBasedWhat, IsSpan, IsRange}
 use Rattle.name_laws.specs.Classes.{DeclsFit}
 
 -- ---- subtype indications
@@ -63,13 +65,16 @@ use Rattle.name_laws.specs.Classes.{DeclsFit}
 abbrev pub IndicatedOf : Indicated → Type 0
 IndicatedOf s = IsBased s.known
 
+kept-range : (k : Kind) (low high : ℤ) → IsRange k low high → IsRange k (kept k (kept k low)) (kept k (kept k high))
+kept-range k low high h = subst (λ z. IsRange k (kept k (kept k low)) z) (sym (kept-twice k high)) (subst (λ z. IsRange k z high) (sym (kept-twice k low)) h)
+
 m-indic_range : (s : Scalar) (first last : ℕ) (r : ℤ × ℤ) → SpanOf s → Makes (Maybe IsBased) (d.indic_range s first last r)
 m-indic_range s first last r h =
     m-bind Any (Maybe IsBased) (unless (lies_in s r.0) first StaticRange) _ (m-unless (lies_in s r.0) first StaticRange) (λ u p.
     m-bind Any (Maybe IsBased) (unless (lies_in s r.1) last StaticRange) _ (m-unless (lies_in s r.1) last StaticRange) (λ v q.
     m-bind Any (Maybe IsBased) (unless (int_le r.0 r.1) first StaticRange) _ (m-unless (int_le r.0 r.1) first StaticRange) (λ w t.
-    m-test (Maybe IsBased) (lies_in s r.0 && lies_in s r.1 && int_le r.0 r.1) (some (subtype.Scalar (record { kind = s.kind; low = r.0; high = r.1 }))) (pure None)
-    (λ e. m-some IsBased (subtype.Scalar (record { kind = s.kind; low = r.0; high = r.1 })) (within-based s r.0 r.1 h e)) (m-none IsBased))))
+    m-test (Maybe IsBased) (lies_in s r.0 && lies_in s r.1 && int_le r.0 r.1) (some (subtype.Scalar (record { kind = s.kind; low = kept s.kind r.0; high = kept s.kind r.1 }))) (pure None)
+    (λ e. m-some IsBased (subtype.Scalar (record { kind = s.kind; low = kept s.kind r.0; high = kept s.kind r.1 })) (kept-range s.kind r.0 r.1 (within-based s r.0 r.1 h e))) (m-none IsBased))))
 
 m-both_static : (s : Scalar) (a z : Found) → Makes (Maybe Any) (both_static s.kind a z)
 m-both_static s a z = record { at = λ log h. (((k-both_static spanning s.kind a z).at log).at h, any (both_static s.kind a z log).0) }
@@ -114,42 +119,53 @@ static-pair k a z log g h = by (asked k a log).0 refl (asked k z (asked k a log)
 m-pair : (k : Kind) (a z : Found) → FoundOf a → FoundOf z → Makes (Maybe (PairOf k)) (both_static k a z)
 m-pair k a z g h = record { at = λ log i. (((k-both_static spanning k a z).at log).at i, static-pair k a z log g h) }
 
-m-spanned : (first : ℕ) (k : Kind) (a z : Found) (r : ℤ × ℤ) → PairOf k r → Makes (Maybe StaticOf) (ranges.spanned first true k a z r)
-m-spanned first k a z r h = by (int_le r.0 r.1) refl
+or-last : (a b : Bool) → (a || b) ≡ false → b ≡ false
+or-last true b e = absurd (true≢false e)
+or-last false b e = e
+
+index-plain : (k : Kind) → ranges.is_index k ≡ true → is_modular k ≡ false
+index-plain k e = go (is_modular k) (and_parts (is_integer k) (not (is_modular k)) e).1
+  where
+    go : (b : Bool) → not b ≡ true → b ≡ false
+    go true h = absurd (true≢false (sym h))
+    go false h = refl
+
+m-spanned : (first : ℕ) (k : Kind) (a z : Found) (r : ℤ × ℤ) → is_modular k ≡ false → PairOf k r → Makes (Maybe StaticOf) (ranges.spanned first true k a z r)
+m-spanned first k a z r m h = by (int_le r.0 r.1) refl
   where
     by : (b : Bool) → int_le r.0 r.1 ≡ b → Makes (Maybe StaticOf) (if not b then fault first StaticRange else some (ranges.of_static a z (ranges.dimension k r)))
-    by true e = m-some StaticOf (ranges.of_static a z (ranges.dimension k r)) (record { some = e; first = h.0; last = h.1 })
+    by true e = m-some StaticOf (ranges.of_static a z (ranges.dimension k r)) (record { plain = m; range = record { some = e; first = h.0; last = h.1 } })
     by false e = m-fault StaticOf first StaticRange
 
 m-inside_subtype : (s : Scalar) (b : Found) (z : ℤ) → Makes Any (ranges.inside_subtype s b z)
 m-inside_subtype s b z = m-unless (lies_in s z) (first_of b.known) StaticRange
 
-m-checked_span : (first : ℕ) (s : Scalar) (a z : Found) (r : ℤ × ℤ) → PairOf s.kind r → Makes (Maybe StaticOf) (ranges.checked_span first true s a z r)
-m-checked_span first s a z r h =
-    m-if (Maybe StaticOf) (not (int_le r.0 r.1)) (ranges.spanned first true s.kind a z r) _ (m-spanned first s.kind a z r h)
+m-checked_span : (first : ℕ) (s : Scalar) (a z : Found) (r : ℤ × ℤ) → is_modular s.kind ≡ false → PairOf s.kind r → Makes (Maybe StaticOf) (ranges.checked_span first true s a z r)
+m-checked_span first s a z r m h =
+    m-if (Maybe StaticOf) (not (int_le r.0 r.1)) (ranges.spanned first true s.kind a z r) _ (m-spanned first s.kind a z r m h)
     (m-bind Any (Maybe StaticOf) (ranges.inside_subtype s a r.0) _ (m-inside_subtype s a r.0) (λ u p.
     m-bind Any (Maybe StaticOf) (ranges.inside_subtype s z r.1) _ (m-inside_subtype s z r.1) (λ v q.
-    m-if (Maybe StaticOf) (lies_in s r.0 && lies_in s r.1) (ranges.spanned first true s.kind a z r) (pure None) (m-spanned first s.kind a z r h) (m-none StaticOf))))
+    m-if (Maybe StaticOf) (lies_in s r.0 && lies_in s r.1) (ranges.spanned first true s.kind a z r) (pure None) (m-spanned first s.kind a z r m h) (m-none StaticOf))))
 
 m-static_bounds : (first : ℕ) (a z : Found) → FoundOf a → FoundOf z → Makes (Maybe StaticOf) (ranges.static_bounds first true None a z)
 unfolding ranges.static_bounds
 m-static_bounds first a z g h =
     let k = ranges.preferred None a.known z.known in
-    m-if (Maybe StaticOf) (not (is_number a.known)) (fault (first_of a.known) WrongType) _ (m-fault StaticOf (first_of a.known) WrongType)
-    (m-if (Maybe StaticOf) (not (suits k a.known && suits k z.known)) (fault (first_of z.known) WrongType) _ (m-fault StaticOf (first_of z.known) WrongType)
-    (m-bind (Maybe (PairOf k)) (Maybe StaticOf) (both_static k a z) _ (m-pair k a z g h) (λ v q. m-given (PairOf k) StaticOf v (ranges.spanned first true k a z) q (λ r p. m-spanned first k a z r p))))
+    m-rest (Maybe StaticOf) (not (is_number a.known) || is_modular k) (fault (first_of a.known) WrongType) _ (m-fault StaticOf (first_of a.known) WrongType) (λ e.
+    m-if (Maybe StaticOf) (not (suits k a.known && suits k z.known)) (fault (first_of z.known) WrongType) _ (m-fault StaticOf (first_of z.known) WrongType)
+    (m-bind (Maybe (PairOf k)) (Maybe StaticOf) (both_static k a z) _ (m-pair k a z g h) (λ v q. m-given (PairOf k) StaticOf v (ranges.spanned first true k a z) q (λ r p. m-spanned first k a z r (or-last (not (is_number a.known)) (is_modular k) e) p))))
 
 m-static_checked : (first : ℕ) (t : Scalar) (a z : Found) → FoundOf a → FoundOf z → Makes (Maybe StaticOf) (ranges.static_checked first true t a z)
 unfolding ranges.static_checked
 m-static_checked first t a z g h =
-    m-if (Maybe StaticOf) (is_integer t.kind) _ (fault first WrongType)
-    (m-bind (Maybe (PairOf t.kind)) (Maybe StaticOf) (both_static t.kind a z) _ (m-pair t.kind a z g h) (λ v q. m-given (PairOf t.kind) StaticOf v (ranges.checked_span first true t a z) q (λ r p. m-checked_span first t a z r p)))
+    m-test (Maybe StaticOf) (ranges.is_index t.kind) _ (fault first WrongType) (λ e.
+    m-bind (Maybe (PairOf t.kind)) (Maybe StaticOf) (both_static t.kind a z) _ (m-pair t.kind a z g h) (λ v q. m-given (PairOf t.kind) StaticOf v (ranges.checked_span first true t a z) q (λ r p. m-checked_span first t a z r (index-plain t.kind e) p)))
     (m-fault StaticOf first WrongType)
 
 m-static_scalar : (first : ℕ) (s : Scalar) → SpanOf s → Makes (Maybe StaticOf) (ranges.static_scalar first s)
 m-static_scalar first s h =
     let x : Static = record { known = record { kind = s.kind; low = s.low; high = s.high }; part = part.Nothing } in
-    m-if (Maybe StaticOf) (is_integer s.kind) (some x) (fault first WrongType) (m-some StaticOf x h) (m-fault StaticOf first WrongType)
+    m-test (Maybe StaticOf) (ranges.is_index s.kind) (some x) (fault first WrongType) (λ e. m-some StaticOf x (plain-span s.kind s.low s.high (index-plain s.kind e) h)) (m-fault StaticOf first WrongType)
 
 m-static_name : (first : ℕ) (k : KnownDenoted) (x : TypedPart) → DenotesOf k x → Makes (Maybe StaticOf) (ranges.static_name first k x)
 m-static_name first (denoted.Range at e) x h = m-some StaticOf (record { known = e; part = x }) h
@@ -280,7 +296,7 @@ m-record_of names level here cs l r =
 
 -- ---- types
 
-own-span : (token : ℕ) (a z : ℤ) → (in_base (kind.Own token) a && in_base (kind.Own token) z && int_le a z) ≡ true → IsSpan (kind.Own token) a z
+own-span : (token : ℕ) (a z : ℤ) → (in_base (kind.Own token) a && in_base (kind.Own token) z && int_le a z) ≡ true → IsRange (kind.Own token) a z
 own-span token a z e =
     let x = and_parts (in_base (kind.Own token) a && in_base (kind.Own token) z) (int_le a z) e in
     let y = and_parts (in_base (kind.Own token) a) (in_base (kind.Own token) z) x.0 in
@@ -306,8 +322,31 @@ m-own_type_of token r =
     (m-both Any Any IsBased a z (d.own_type token (d.first_or r.0) (d.first_or r.1)) p q (λ x y g h. m-own_type token (d.first_or r.0) (d.first_or r.1) x y)) (λ t s.
     m-pure (Maybe IndicatedOf) _ (mapped IsBased IndicatedOf (indicated (also_all (d.found_mentions r.0) (d.found_mentions r.1))) t s (λ x h. h)))))
 
+-- a modular type has a number at least
+modular-range : (token k m : ℕ) → modulus k - 1 ≡ m → IsRange (kind.Modular token k) (pos 0) (pos m)
+modular-range token k m e = record {
+  some = le-leb 0 m (omega arith);
+  first = both-true (int_le (pos 0) (pos 0)) (int_le (pos 0) (pos (modulus k - 1))) refl (le-leb 0 (modulus k - 1) (omega arith));
+  last = both-true (int_le (pos 0) (pos m)) (int_le (pos m) (pos (modulus k - 1))) (le-leb 0 m (omega arith)) (subst (λ n. int_le (pos m) (pos n) ≡ true) (sym e) (le-leb m m (omega arith)));
+}
+
+modular-based : (token k : ℕ) → IsBased (subtype.Scalar (base_of (kind.Modular token k)))
+modular-based token k = subst (λ z. IsRange (kind.Modular token k) (number_turned (pos 0)) z) (sym (turned_twice (pos (modulus k - 1)))) (modular-range token k (modulus k - 1) refl)
+
+m-modular_by : (token first : ℕ) (k : Option ℕ) → Makes (Maybe IsBased) (d.modular_by token first k)
+m-modular_by token first None = m-fault IsBased first StaticRange
+m-modular_by token first (Some k) = m-some IsBased (subtype.Scalar (base_of (kind.Modular token k))) (modular-based token k)
+
+m-modular_type : (token : ℕ) (f : Found) → Makes (Maybe IndicatedOf) (d.modular_type token f)
+m-modular_type token f =
+    m-bind (Maybe Any) (Maybe IndicatedOf) (d.static_number f) _ (m-static_number (Some f)) (λ m p.
+    m-bind (Maybe IsBased) (Maybe IndicatedOf) (given m (λ z. d.modular_by token (first_of f.known) (d.exponent_from 64 1 z))) _ (m-given Any IsBased m _ p (λ z q. m-modular_by token (first_of f.known) (d.exponent_from 64 1 z))) (λ t q.
+    m-pure (Maybe IndicatedOf) (option_map (indicated (mentions_of f)) t) (mapped IsBased IndicatedOf (indicated (mentions_of f)) t q (λ x h. h))))
+
 m-defined : (names : Names) (level : Inside) (here : Context) (token : ℕ) (x : Definition) → LevelFits level → AreBased here.scope → Makes (Maybe IndicatedOf) (d.defined names level here token x)
 unfolding d.defined
+m-defined names level here token (syntax.ModularType m) l r =
+    m-bind Finding (Maybe IndicatedOf) (simple level here wanted.Other m) _ (m-simple level here wanted.Other m l r) (λ x q. m-given FoundOf IndicatedOf x (d.modular_type token) q (λ f p. m-modular_type token f))
 m-defined names level here token (syntax.RangeType low high) l r = m-bind AreFinding (Maybe IndicatedOf) (two_bounds level here low high) (d.own_type_of token) (m-two_bounds level here low high l r) (λ x q. m-own_type_of token x)
 m-defined names level here token (syntax.ArrayType a) l r = m-array names level here a l r
 m-defined names level here token (syntax.RecordType c cs) l r = m-record_of names level here (c ∷ cs) l r

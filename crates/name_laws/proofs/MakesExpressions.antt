@@ -1,5 +1,8 @@
 -- What is found fits: what operators join, where what primaries and names are found to be fits.
 use Rattle.std.proofs.Common.{ℕ, Option, Some, None, Bool, true, false, option_map}
+use Rattle.syntax_tree.specs.declared.operators.Multiplicative.{Multiplicative}
+use Rattle.syntax_tree.specs.declared.operators.Multiplicative.TheVariants as multiplicative
+use Rattle.ada_base.specs.Operation.{IsNoPower}
 use Rattle.std.specs.Prelude.{is_some}
 use Rattle.ada_base.specs.declared.operation.Op.TheVariants as op
 use Rattle.ada_base.specs.declared.operation.Op.{Op}
@@ -55,9 +58,15 @@ m-factor level here want (syntax.Power b at e) l r =
 m-factor level here want (syntax.Abs at p) l r = m-bind Finding Finding (level.primary here p wanted.Other) (unary unary'.Abs at) (l.primary here p wanted.Other r) (λ x q. m-unary unary'.Abs at x q)
 m-factor level here want (syntax.Not at p) l r = m-bind Finding Finding (level.primary here p wanted.Other) (not_of at) (l.primary here p wanted.Other r) (λ x q. m-not_of at x q)
 
+no-power : (by : Multiplicative) → IsNoPower (multiplying_op by)
+no-power multiplicative.Times = tt
+no-power multiplicative.Over = tt
+no-power multiplicative.Mod = tt
+no-power multiplicative.Rem = tt
+
 m-multiplying : (level : Inside) (here : Context) (x : Option Found) (m : Multiplying) → LevelFits level → AreBased here.scope → Finding x → Makes Finding (multiplying level here x m)
 unfolding multiplying
-m-multiplying level here x (syntax.multiplying by at f) l r q = m-bind Finding Finding (factor level here wanted.Other f) (binary (multiplying_op by) at x) (m-factor level here wanted.Other f l r) (λ y s. m-binary (multiplying_op by) at x y q s)
+m-multiplying level here x (syntax.multiplying by at f) l r q = m-bind Finding Finding (factor level here wanted.Other f) (binary (multiplying_op by) at x) (m-factor level here wanted.Other f l r) (λ y s. m-binary (multiplying_op by) at x y (no-power by) q s)
 
 m-multiplied : (level : Inside) (here : Context) (x : Option Found) (ms : Multiplyings) → LevelFits level → AreBased here.scope → Finding x → Makes Finding (multiplied level here x ms)
 m-multiplied level here x syntax.NoMultiplying l r q = m-pure Finding x q
@@ -71,8 +80,8 @@ m-term level here want (syntax.Product f (syntax.AlsoMultiplying m ms)) l r =
 
 m-adding : (level : Inside) (here : Context) (x : Option Found) (a : Adding) → LevelFits level → AreBased here.scope → Finding x → Makes Finding (adding level here x a)
 unfolding adding
-m-adding level here x (syntax.adding additive.Plus at t) l r q = m-bind Finding Finding (term level here wanted.Other t) (binary op.Add at x) (m-term level here wanted.Other t l r) (λ y s. m-binary op.Add at x y q s)
-m-adding level here x (syntax.adding additive.Minus at t) l r q = m-bind Finding Finding (term level here wanted.Other t) (binary op.Sub at x) (m-term level here wanted.Other t l r) (λ y s. m-binary op.Sub at x y q s)
+m-adding level here x (syntax.adding additive.Plus at t) l r q = m-bind Finding Finding (term level here wanted.Other t) (binary op.Add at x) (m-term level here wanted.Other t l r) (λ y s. m-binary op.Add at x y tt q s)
+m-adding level here x (syntax.adding additive.Minus at t) l r q = m-bind Finding Finding (term level here wanted.Other t) (binary op.Sub at x) (m-term level here wanted.Other t l r) (λ y s. m-binary op.Sub at x y tt q s)
 m-adding level here x (syntax.adding additive.Joined at t) l r q = m-bind Finding Finding (term level here wanted.Text t) (joined_text at x) (m-term level here wanted.Text t l r) (λ y s. m-joined_text at x y q s)
 
 m-added : (level : Inside) (here : Context) (x : Option Found) (as' : Addings) → LevelFits level → AreBased here.scope → Finding x → Makes Finding (added level here x as')

@@ -1,5 +1,6 @@
 -- What is found fits: names as wholes, conditional expressions, brackets, primaries, at every level.
 use Rattle.std.proofs.Common.{◌≡◌, refl, ℕ, ℤ, zero, suc, List, [], ◌∷◌, Option, Some, None, Bool, true, false, option_map}
+use Rattle.typed_tree.specs.Classes.{beyond_digits}
 use Rattle.std.specs.Prelude.{is_some, not, ◌||◌}
 use Rattle.syntax_tree.specs.FirstTokens as first_token
 use Rattle.syntax_tree.specs.Syntax as syntax
@@ -11,7 +12,7 @@ use Rattle.typed_tree.specs.Syntax.{Selections}
 use Rattle.typed_tree.specs.declared.program.SiteKind.TheVariants as site
 use Rattle.typed_tree.specs.declared.scalars.Class.TheVariants as class
 use Rattle.name_rules.specs.Aggregates.{ByPosition, contents}
-use Rattle.name_rules.specs.Attributes.{attribute_at, bound_with, dimensions_in, is_array_object, is_bound, is_reduction, mentioned, prefix_subtype, settled_attribute}
+use Rattle.name_rules.specs.Attributes.{attribute_at, bound_with, dimensions_in, is_array_object, is_bound, is_reduction, mentioned, prefix_subtype, settled_attribute, is_left_out}
 use Rattle.name_rules.specs.Expressions.{Inside, condition, expr}
 use Rattle.name_rules.specs.Found.{Denoted, Found, denote, opened, parameter_found, scalar, static, value_denoted}
 use Rattle.name_rules.specs.Iterations.{Entered, entered, is_reduce, only_reduce_rules, reverse_rule, sequence, sequence_folded, sequence_given, sequence_rules}
@@ -62,7 +63,7 @@ use Rattle.name_laws.proofs.MakesAttributes.{m-attribute_found, m-bound_with, m-
 use Rattle.name_laws.proofs.MakesCalls.{m-conversion, m-sub_call}
 use Rattle.name_laws.proofs.MakesExpressions.{Finding, LevelFits, m-condition, m-expr, m-placed}
 use Rattle.name_laws.proofs.MakesNames.{m-field, m-object_call, m-wrong_call}
-use Rattle.name_laws.proofs.MakesOperators.{OpenOf, joint-none, open-found}
+use Rattle.name_laws.proofs.MakesOperators.{OpenOf, joint-none, open-found, sooner-none, same-none}
 use Rattle.name_laws.proofs.MakesOutput.{m-io_call}
 use Rattle.name_laws.proofs.MakesRanges.{EnteredOf, m-entered, through-fits}
 use Rattle.name_laws.proofs.MakesReducers.{ChunkOf, IterationOf, m-folded_by}
@@ -117,15 +118,15 @@ m-of_array names inside here first p x at a bracket as' l r =
     (record { at = λ log h. (m-bound_with names inside here first (mentioned p x) a bracket as' (dimensions_in log (prefix_subtype p)) l r (spans-in log (prefix_subtype p) h)).at log h })
     (m-wrong_call names inside here first as' l)
 
-m-other_with : (names : Names) (inside : Inside) (here : Context) (first : ℕ) (p : Prefix) (x : TypedPart) (at : ℕ) (a : Attribute) (bracket : ℕ) (as' : Args) → LevelFits inside → AreBased here.scope → PrefixOf p x → Makes (Maybe DenotedOf) (other_with names inside here first p x at a bracket as')
-m-other_with names inside here first (prefix.Type (subtype.Scalar s)) x at a bracket as' l r h = m-scalar_with names inside here first s a bracket as' l r h
-m-other_with names inside here first p x at a bracket as' l r h = m-of_array names inside here first p x at a bracket as' l r
+m-other_with : (names : Names) (inside : Inside) (here : Context) (first : ℕ) (p : Prefix) (x : TypedPart) (at : ℕ) (a : Attribute) (bracket : ℕ) (as' : Args) → LevelFits inside → AreBased here.scope → PrefixOf p x → is_left_out p a ≡ false → Makes (Maybe DenotedOf) (other_with names inside here first p x at a bracket as')
+m-other_with names inside here first (prefix.Type (subtype.Scalar s)) x at a bracket as' l r h n = m-scalar_with names inside here first s a bracket as' l r h n
+m-other_with names inside here first p x at a bracket as' l r h n = m-of_array names inside here first p x at a bracket as' l r
 
-m-attribute_with : (names : Names) (inside : Inside) (here : Context) (first : ℕ) (p : Prefix) (x : TypedPart) (at : ℕ) (a : Attribute) (bracket : ℕ) (as' : Args) → LevelFits inside → AreBased here.scope → PrefixOf p x → Makes (Maybe DenotedOf) (attribute_with names inside here first p x at a bracket as')
-m-attribute_with names inside here first p x at a bracket as' l r h =
+m-attribute_with : (names : Names) (inside : Inside) (here : Context) (first : ℕ) (p : Prefix) (x : TypedPart) (at : ℕ) (a : Attribute) (bracket : ℕ) (as' : Args) → LevelFits inside → AreBased here.scope → PrefixOf p x → is_left_out p a ≡ false → Makes (Maybe DenotedOf) (attribute_with names inside here first p x at a bracket as')
+m-attribute_with names inside here first p x at a bracket as' l r h n =
     m-if (Maybe DenotedOf) (is_reduction a) (read (λ log. is_array_object log p) >>= reduced_with names inside here first p x at a bracket as') (other_with names inside here first p x at a bracket as')
     (m-bind Any (Maybe DenotedOf) (read (λ log. is_array_object log p)) (reduced_with names inside here first p x at a bracket as') (m-read Any (λ log. is_array_object log p) (λ log g. tt)) (λ b q. m-reduced_with names inside here first p x at a bracket as' b l r h))
-    (m-other_with names inside here first p x at a bracket as' l r h)
+    (m-other_with names inside here first p x at a bracket as' l r h n)
 
 -- ---- whole names
 
@@ -134,7 +135,7 @@ m-call_form names inside here bracket as' (denoted.Value (known.Object p)) x l r
 m-call_form names inside here bracket as' (denoted.Type first s) x l r h = m-conversion names inside here bracket first s as' l r
 m-call_form names inside here bracket as' (denoted.Sub first last n) x l r h = m-sub_call names inside here bracket first last n as' l r
 m-call_form names inside here bracket as' (denoted.Io first last p reach) x l r h = m-io_call names inside here bracket first last p reach as' l r
-m-call_form names inside here bracket as' (denoted.Attribute first p at a) x l r h = m-attribute_with names inside here first p x at a bracket as' l r h
+m-call_form names inside here bracket as' (denoted.Attribute first p at a) x l r h = m-attribute_with names inside here first p x at a bracket as' l r h.0 h.1
 m-call_form names inside here bracket as' k x l r h = m-wrong_call names inside here (denoted_first k) as' l
 
 m-part_of : (names : Names) (inside : Inside) (here : Context) (x : syntax.NamePart) (d : Denoted) → LevelFits inside → AreBased here.scope → DenotedOf d → Makes (Maybe DenotedOf) (part_of names inside here x d)
@@ -237,7 +238,7 @@ m-composite_if bracket n w f g h =
     m-pure Finding (option_map (with_known (known.Composite bracket n)) c) (mapped CompositeOf FoundOf (with_known (known.Composite bracket n)) c s (λ x t. t))))
 
 open-part : (c : TypedPart) (v o : Limits × TypedPart) → ExprFits class.Boolean (as_expr c) → OpenOf v → OpenOf o → OpenOf (open_part c v o)
-open-part c v o g h i k s e = let n = joint-none k v.0 o.0 e in (g, h k s n.0, i k s n.1)
+open-part c v o g h i k s e = let n = joint-none k v.0 o.0 (typed.If (as_expr c) (as_expr v.1) (as_expr o.1)) (as_expr v.1) (as_expr o.1) (λ n q. sooner-none (beyond_digits n (as_expr v.1)) (beyond_digits n (as_expr o.1)) q) e in (g, h k s n.0, i k s n.1)
 
 open-ifs : (fs : List Known) (ps : TypedPart) (o : Option (Limits × TypedPart)) → Waits fs ps → Maybe OpenOf o → Maybe OpenOf (open_ifs fs ps o)
 open-ifs [] ps o g h = h
@@ -286,7 +287,7 @@ m-grouped_by bracket f None z e g h = m-grouped_scalar bracket f None (composite
 
 m-grouped_form : (bracket : ℕ) (f : Known) (x : TypedPart) → KnownOf f x → Makes Finding (grouped_form bracket f x)
 m-grouped_form bracket (known.Universal first z alone) x h = m-some FoundOf (with_known (known.Universal bracket z false) x) tt
-m-grouped_form bracket (known.Open first l) x h = m-some FoundOf (opened bracket l (typed.Group (as_expr x))) h
+m-grouped_form bracket (known.Open first l) x h = m-some FoundOf (opened bracket l (typed.Group (as_expr x))) (λ k i e. h k i (same-none k l (typed.Group (as_expr x)) (as_expr x) (λ n. refl) e))
 m-grouped_form bracket (known.Text first) x h = m-some FoundOf (with_known (known.Text bracket) x) h
 m-grouped_form bracket f x h = m-grouped_by bracket (with_known f x) (kind_of f) (value_of f) refl refl h
 

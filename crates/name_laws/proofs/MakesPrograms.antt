@@ -1,5 +1,5 @@
 -- What is found fits: subprograms and programs. So the static expressions of a typed program have values of their classes.
-use Rattle.std.proofs.Common.{◌≡◌, refl, sym, ap, ◌∙◌, subst, ℤ, pos, int_le, map, ℕ, zero, suc, List, [], ◌∷◌, ◌++◌, length, Option, Some, None, Bool, true, false, option_map, ◌-◌, drop, slice_get}
+use Rattle.std.proofs.Common.{◌≡◌, refl, sym, ap, ◌∙◌, subst, ℤ, pos, int_le, map, ℕ, zero, suc, List, [], ◌∷◌, ◌++◌, length, Option, Some, None, Bool, true, false, option_map, ◌-◌, drop, slice_get, true≢false}
 use Rattle.std.proofs.lemmas.Bool.{and_parts}
 use Rattle.std.proofs.lemmas.Option.{slice_get-map}
 use Rattle.ada_base.specs.Operation.{greatest_of, is_in_base, least_of}
@@ -22,7 +22,7 @@ use Rattle.syntax_tree.specs.Parsed.{depth_limit}
 use Rattle.name_rules.specs.Resolved.{dimension_bounds, fresh, judged, typed_subtype}
 use Rattle.name_rules.specs.Scope.{free, subtype_named}
 use Rattle.name_rules.specs.Statements.{around, body, no_decls, stmt}
-use Rattle.name_rules.specs.Types.{in_base}
+use Rattle.name_rules.specs.Types.{in_base, is_modular}
 use Rattle.name_rules.specs.declared.log.Dimension.{Dimension}
 use Rattle.name_rules.specs.declared.log.Shape.{Shape}
 use Rattle.name_rules.specs.declared.log.Shape.TheVariants as shape
@@ -234,14 +234,15 @@ judged-fits names text = (m-program names depth_limit text).at fresh (λ n ds c 
 
 -- ---- bounds of array types
 
-wide : (k : Kind) (z : ℤ) → in_base k z ≡ true → is_in_base Wide z ≡ true
-wide kind.Boolean z e = let x = and_parts (int_le (pos 0) z) (int_le z (pos 1)) e in base-between (kind.Own 0) (pos 0) (pos 1) z refl refl x.0 x.1
-wide kind.Integer z e = let x = and_parts (int_le (least_of Narrow) z) (int_le z (greatest_of Narrow)) e in base-between (kind.Own 0) (least_of Narrow) (greatest_of Narrow) z refl refl x.0 x.1
-wide (kind.Own n) z e = e
+wide : (k : Kind) (z : ℤ) → is_modular k ≡ false → in_base k z ≡ true → is_in_base Wide z ≡ true
+wide kind.Boolean z m e = let x = and_parts (int_le (pos 0) z) (int_le z (pos 1)) e in base-between (kind.Own 0) (pos 0) (pos 1) z refl refl x.0 x.1
+wide kind.Integer z m e = let x = and_parts (int_le (least_of Narrow) z) (int_le z (greatest_of Narrow)) e in base-between (kind.Own 0) (least_of Narrow) (greatest_of Narrow) z refl refl x.0 x.1
+wide (kind.Own n) z m e = e
+wide (kind.Modular n k) z m e = absurd (true≢false m)
 
 bounds-fit : (ds : List Dimension) → AreSpans ds → BoundsFit (map dimension_bounds ds)
 bounds-fit [] h = tt
-bounds-fit (d ∷ ds) h = (wide d.kind d.low h.0.first, wide d.kind d.high h.0.last, bounds-fit ds h.1)
+bounds-fit (d ∷ ds) h = (wide d.kind d.low h.0.plain h.0.range.first, wide d.kind d.high h.0.plain h.0.range.last, bounds-fit ds h.1)
 
 shape-bounds : (t : Option Shape) (bs : List Bounds) (component : ℕ) → ((ds : List Dimension) (c : Subtype) (k cells : ℕ) → t ≡ Some (shape.Array ds c k cells) → AreSpans ds)
     → option_map typed_subtype t ≡ Some (typed.Array bs component) → BoundsFit bs

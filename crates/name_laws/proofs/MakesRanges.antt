@@ -14,7 +14,7 @@ use Rattle.typed_tree.specs.declared.scalars.Class.TheVariants as class
 use Rattle.name_rules.specs.Expressions.{Inside, condition, simple}
 use Rattle.name_rules.specs.Found.{Bounded, Denoted, Found}
 use Rattle.name_rules.specs.Iterations.{Chunked, Entered, Walked, array_walked, chunk_count, chunked_by, counted, each_chunk, entered, entered_with, filter_where, filtered, in_construct, item_what, no_array, over_denoted, over_form, over_place, parallel_at, parameter_what, range_made, walked, with_chunk, with_filter, with_walked}
-use Rattle.name_rules.specs.Judging.{◌>>=◌, breaks, fault, given, joined, pure, unless}
+use Rattle.name_rules.specs.Judging.{◌>>=◌, breaks, fault, given, joined, pure, unless, some}
 use Rattle.name_rules.specs.Names.{denoted_first, is_array}
 use Rattle.name_rules.specs.Operators.{common_kind}
 use Rattle.name_rules.specs.Parts.{array_shape, new_parameter, new_site, through}
@@ -22,7 +22,7 @@ use Rattle.name_rules.specs.Ranges.{bounded_by, bounds_of, checked_range, named_
 use Rattle.name_rules.specs.Scope.{entry, is_taken, with_entry}
 use Rattle.name_rules.specs.Symbols.{symbol}
 use Rattle.name_rules.specs.TypedParts.{high_of, low_of, selections_of}
-use Rattle.name_rules.specs.Types.{base_of, class_of, component_of}
+use Rattle.name_rules.specs.Types.{base_of, class_of, component_of, is_modular}
 use Rattle.name_rules.specs.Values.{any_integer, asked, first_of, is_scalar, kind_of, suits}
 use Rattle.name_rules.specs.declared.found.Denoted.TheVariants as denoted
 use Rattle.name_rules.specs.declared.found.Denoted.{Denoted as KnownDenoted}
@@ -41,14 +41,14 @@ use Rattle.name_rules.specs.declared.types.Scalar.{Scalar}
 use Rattle.name_rules.specs.declared.types.Subtype.{Subtype}
 use Rattle.name_rules.specs.declared.types.Subtype.TheVariants as subtype
 use Rattle.name_rules.specs.declared.types.Wanted.TheVariants as wanted
-use Rattle.name_laws.proofs.Based.{spanning}
+use Rattle.name_laws.proofs.Based.{spanning, plain-span}
 use Rattle.name_laws.proofs.KeepsParts.{k-new_parameter, k-new_site}
 use Rattle.name_laws.proofs.KeepsRanges.{k-scalar_type}
-use Rattle.name_laws.proofs.Makes.{Any, Makes, Maybe, joint, m-bind, m-both, m-breaks, m-fault, m-given, m-if, m-kept, m-pure, m-some, m-unless, mapped}
+use Rattle.name_laws.proofs.Makes.{Any, Makes, Maybe, joint, m-bind, m-both, m-breaks, m-fault, m-given, m-if, m-kept, m-pure, m-some, m-unless, mapped, m-rest}
 use Rattle.name_laws.proofs.MakesExpressions.{Finding, LevelFits, m-condition, m-simple}
 use Rattle.name_laws.proofs.MakesReducers.{ChunkOf, IterationOf}
 use Rattle.name_laws.proofs.MakesScope.{DenotedOf, DenotesOf}
-use Rattle.name_laws.proofs.MakesValues.{AskedOf, ExprOf, FoundOf, has-value, m-any_integer, m-asked, selections-fit}
+use Rattle.name_laws.proofs.MakesValues.{AskedOf, ExprOf, FoundOf, m-any_integer, m-asked, selections-fit, has-plain}
 use Rattle.name_laws.specs.Based.{AreBased, IsBasedWhat, IsSpan}
 use Rattle.name_laws.specs.Classes.{ExprFits, IterationFits, OptionalFits, SelectionsFit}
 
@@ -86,19 +86,23 @@ unfolding own_bounds
 m-own_bounds first a z g h =
     let k = common_kind (kind_of a.known) (kind_of z.known) in
     m-if (Maybe BoundedOf) (not (is_scalar a.known)) (fault (first_of a.known) WrongType) _ (m-fault BoundedOf (first_of a.known) WrongType)
-    (m-if (Maybe BoundedOf) (not (suits k a.known)) (fault (first_of z.known) WrongType) (own_range first a z k) (m-fault BoundedOf (first_of z.known) WrongType) (m-own_range first a z k g h))
+    (m-if (Maybe BoundedOf) (not (suits k a.known)) (fault (first_of z.known) WrongType) _ (m-fault BoundedOf (first_of z.known) WrongType)
+    (m-if (Maybe BoundedOf) (is_modular k) (fault (first_of a.known) WrongType) (own_range first a z k) (m-fault BoundedOf (first_of a.known) WrongType) (m-own_range first a z k g h)))
 
 m-checked_range : (first : ℕ) (s : Scalar) (a z : Found) → FoundOf a → FoundOf z → Makes (Maybe BoundedOf) (checked_range first s a z)
 unfolding checked_range
 m-checked_range first s a z g h =
-    m-bind (Maybe RangeOf) (Maybe BoundedOf) (bounds_of s.kind a z) _ (m-bounds_of s.kind a z g h) (λ x q. m-pure (Maybe BoundedOf) (option_map (bounded_by first s (Some s) a z) x) (mapped RangeOf BoundedOf (bounded_by first s (Some s) a z) x q (λ y t. t)))
+    m-if (Maybe BoundedOf) (is_modular s.kind) (fault first WrongType) _ (m-fault BoundedOf first WrongType)
+    (m-bind (Maybe RangeOf) (Maybe BoundedOf) (bounds_of s.kind a z) _ (m-bounds_of s.kind a z g h) (λ x q. m-pure (Maybe BoundedOf) (option_map (bounded_by first s (Some s) a z) x) (mapped RangeOf BoundedOf (bounded_by first s (Some s) a z) x q (λ y t. t))))
 
 whole-range : (first : ℕ) (k : Kind) (low high : ℤ) (ms : TypedPart) → IsSpan k low high → BoundedOf (whole_range first k low high ms)
-whole-range first k low high ms h = (class_of k, has-value k low h.first, has-value k high h.last)
+whole-range first k low high ms h = (class_of k, has-plain k low h.plain h.range.first, has-plain k high h.plain h.range.last)
 
 m-named_range : (k : KnownDenoted) (x : TypedPart) → DenotesOf k x → Makes (Maybe BoundedOf) (named_range k x)
 m-named_range (denoted.Range first d) x h = m-some BoundedOf (whole_range first d.kind d.low d.high x) (whole-range first d.kind d.low d.high x h)
-m-named_range (denoted.Type first (subtype.Scalar s)) x h = m-some BoundedOf (whole_range first s.kind s.low s.high part.Nothing) (whole-range first s.kind s.low s.high part.Nothing h)
+m-named_range (denoted.Type first (subtype.Scalar s)) x h =
+    m-rest (Maybe BoundedOf) (is_modular s.kind) (fault first WrongType) (some (whole_range first s.kind s.low s.high part.Nothing)) (m-fault BoundedOf first WrongType)
+    (λ e. m-some BoundedOf (whole_range first s.kind s.low s.high part.Nothing) (whole-range first s.kind s.low s.high part.Nothing (plain-span s.kind s.low s.high e h)))
 m-named_range k x h = m-fault BoundedOf (denoted_first k) WrongType
 
 pub any : {A : Type 0} (x : Option A) → Maybe Any x

@@ -1,5 +1,6 @@
 -- What is found fits: reductions.
 use Rattle.std.proofs.Common.{◌≡◌, refl, sym, subst, ℕ, List, [], ◌∷◌, Option, Some, None, ◌&&◌}
+use Rattle.typed_tree.specs.Classes.{beyond_digits}
 use Rattle.std.specs.Prelude.{is_some, not, ◌||◌}
 use Rattle.ada_base.specs.declared.operation.Op.{Op}
 use Rattle.typed_tree.specs.Decoded.{TypedPart, as_chunk, as_expr, as_iteration}
@@ -9,7 +10,7 @@ use Rattle.name_rules.specs.Calls.{gives_in, profile_in, takes_in}
 use Rattle.name_rules.specs.Found.{Found, scalar}
 use Rattle.name_rules.specs.Judging.{fault, joined, read}
 use Rattle.name_rules.specs.Operators.{open_of}
-use Rattle.name_rules.specs.Reducers.{by_function, by_operator, by_subtypes, folded_by, is_logical, numeric, of_kind, open_reduction, reduced, reduction}
+use Rattle.name_rules.specs.Reducers.{by_function, by_operator, by_subtypes, folded_by, is_logical, numeric, of_kind, open_reduction, reduced, reduction, logical_kind}
 use Rattle.name_rules.specs.Types.{class_of, same, typed_scalar}
 use Rattle.name_rules.specs.Values.{asked, is_number, kind_of, suits}
 use Rattle.name_rules.specs.declared.found.Folding.{Folding}
@@ -19,12 +20,11 @@ use Rattle.name_rules.specs.declared.found.Limits.{Limits}
 use Rattle.name_rules.specs.declared.log.Rule.TheVariants.{ReduceRule}
 use Rattle.name_rules.specs.declared.log.Taken.{Taken}
 use Rattle.name_rules.specs.declared.types.Kind.{Kind}
-use Rattle.name_rules.specs.declared.types.Kind.TheVariants as kind
 use Rattle.name_rules.specs.declared.types.Scalar.{Scalar}
 use Rattle.name_rules.specs.declared.types.Subtype.{Subtype}
 use Rattle.name_rules.specs.declared.types.Subtype.TheVariants as subtype
 use Rattle.name_laws.proofs.Makes.{Any, Makes, Maybe, joint, m-bind, m-both, m-fault, m-if, m-pure, m-read, m-some}
-use Rattle.name_laws.proofs.MakesOperators.{OpenOf, joint-none, open-found}
+use Rattle.name_laws.proofs.MakesOperators.{OpenOf, joint-none, open-found, sooner-none}
 use Rattle.name_laws.proofs.MakesValues.{AskedOf, FoundOf, is-typed, m-asked}
 use Rattle.name_laws.specs.Classes.{ChunkFits, ExprFits, IsTyped, IterationFits, initial_class, value_class}
 
@@ -45,7 +45,7 @@ m-reduced g c i k j r x v p q a b s t =
     (subst IsTyped (sym a) (is-typed k), subst (λ d. ExprFits d (as_expr initial)) (sym b) n, p, q, subst (λ d. ExprFits d (as_expr value)) (sym a) m))))
 
 open-reduction : (g : Going) (c i : TypedPart) (at : ℕ) (o : Op) (x v : Limits × TypedPart) → ChunkOf c → IterationOf i → OpenOf x → OpenOf v → FoundOf (open_reduction g c i at o x v)
-open-reduction g c i at o x v p q s t k h e = let n = joint-none k x.0 v.0 e in (is-typed k, t k h n.1, p, q, s k h n.0)
+open-reduction g c i at o x v p q s t k h e = let n = joint-none k x.0 v.0 _ (as_expr x.1) (as_expr v.1) (λ n q. let z = sooner-none (beyond_digits n (as_expr x.1)) (beyond_digits n (as_expr v.1)) q in z) e in (is-typed k, t k h n.1, p, q, s k h n.0)
 
 m-of_kind : (g : Going) (c i : TypedPart) (at : ℕ) (o : Op) (k : Kind) (x v : Found) → ChunkOf c → IterationOf i → FoundOf x → FoundOf v → Makes (Maybe FoundOf) (of_kind g c i at o k x v)
 m-of_kind g c i at o k x v p q s t =
@@ -60,7 +60,7 @@ m-numeric g c i at o x v None (Some k) p q s t = m-of_kind g c i at o k x v p q 
 
 m-by_operator : (g : Going) (c i : TypedPart) (at : ℕ) (o : Op) (x v : Found) → ChunkOf c → IterationOf i → FoundOf x → FoundOf v → Makes (Maybe FoundOf) (by_operator g c i at o x v)
 m-by_operator g c i at o x v p q s t =
-    m-if (Maybe FoundOf) (is_logical o) (of_kind g c i at o kind.Boolean x v) _ (m-of_kind g c i at o kind.Boolean x v p q s t)
+    m-if (Maybe FoundOf) (is_logical o) (of_kind g c i at o (logical_kind (kind_of x.known) (kind_of v.known)) x v) _ (m-of_kind g c i at o (logical_kind (kind_of x.known) (kind_of v.known)) x v p q s t)
     (m-if (Maybe FoundOf) (is_number x.known && is_number v.known) (numeric g c i at o x v (kind_of x.known) (kind_of v.known)) (fault at ReduceRule) (m-numeric g c i at o x v (kind_of x.known) (kind_of v.known) p q s t) (m-fault FoundOf at ReduceRule))
 
 m-by_subtypes : (g : Going) (c i : TypedPart) (at n : ℕ) (result : Kind) (a b : Subtype) (x v : Found) → ChunkOf c → IterationOf i → FoundOf x → FoundOf v → Makes (Maybe FoundOf) (by_subtypes g c i at n result a b x v)

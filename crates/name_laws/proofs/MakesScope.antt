@@ -1,5 +1,6 @@
 -- What is found fits: what a name denotes by its declaration.
-use Rattle.std.proofs.Common.{refl, sym, subst, ◌⊎◌, inl, inr, ℕ, List, [], ◌∷◌, ◌++◌, Some, Bool, true, false, if◌then◌else◌, ◌==◌, ◌&&◌}
+use Rattle.std.proofs.Common.{refl, sym, subst, ◌⊎◌, inl, inr, ℕ, List, [], ◌∷◌, ◌++◌, Some, Bool, true, false, if◌then◌else◌, ◌==◌, ◌&&◌, ◌≡◌}
+use Rattle.name_rules.specs.Attributes.{is_left_out}
 use Rattle.std.specs.Prelude.{not, ◌||◌}
 use Rattle.ada_base.specs.declared.reason.Reason.TheVariants as reason
 use Rattle.typed_tree.specs.Decoded as part
@@ -44,7 +45,7 @@ DenotesOf (denoted.Value f) x = KnownOf f x
 DenotesOf (denoted.Parameter first s) x = (c : Class) → ExprFits c (as_expr x)
 DenotesOf (denoted.Type first t) x = IsBased t
 DenotesOf (denoted.Done first) x = StmtFits (as_stmt x)
-DenotesOf (denoted.Attribute first p at a) x = PrefixOf p x
+DenotesOf (denoted.Attribute first p at a) x = PrefixOf p x × (is_left_out p a ≡ false)
 DenotesOf (denoted.Range first d) x = IsSpan d.kind d.low d.high
 DenotesOf d x = Unit {0}
 

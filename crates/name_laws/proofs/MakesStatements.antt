@@ -1,5 +1,5 @@
 -- What is found fits: statements.
-use Rattle.std.proofs.Common.{ℕ, zero, suc, List, [], ◌∷◌, length, Option, Some, None, Bool, false, option_map, ◌==◌, ◌-◌}
+use Rattle.std.proofs.Common.{ℕ, zero, suc, List, [], ◌∷◌, length, Option, Some, None, Bool, false, option_map, ◌==◌, ◌-◌, ◌&&◌}
 use Rattle.std.specs.Prelude.{not}
 use Rattle.ada_base.specs.declared.reason.Reason.{Reason}
 use Rattle.syntax_tree.specs.FirstTokens as first_token
@@ -26,7 +26,7 @@ use Rattle.name_rules.specs.Statements as s
 use Rattle.name_rules.specs.Statements.{Around, Selector, around, stmt}
 use Rattle.name_rules.specs.TypedParts.{nested_stmts, selections_of, left_of, right_of}
 use Rattle.name_rules.specs.Types.{wanted_of}
-use Rattle.name_rules.specs.Values.{first_of, is_scalar, settled_found, stored}
+use Rattle.name_rules.specs.Values.{first_of, is_scalar, settled_found, stored, is_modular_kind, kind_of}
 use Rattle.name_rules.specs.declared.found.Denoted.TheVariants as denoted
 use Rattle.name_rules.specs.declared.found.Denoted.{Denoted as KnownDenoted}
 use Rattle.name_rules.specs.declared.found.Found.TheVariants as known
@@ -261,7 +261,7 @@ SelectorOf x = ExprOf x.part
 
 m-selector : (f : Found) → FoundOf f → Makes (Maybe SelectorOf) (s.selector f)
 m-selector f h =
-    m-if (Maybe SelectorOf) (is_scalar f.known) _ (fault (first_of f.known) WrongType)
+    m-if (Maybe SelectorOf) (is_scalar f.known && not (is_modular_kind (kind_of f.known))) _ (fault (first_of f.known) WrongType)
     (m-bind (Maybe ExprOf) (Maybe SelectorOf) (settled_found f) _ (m-settled_found f h) (λ e q. m-pure (Maybe SelectorOf) (option_map (s.selector_of (s.selecting f.known)) e) (mapped ExprOf SelectorOf (s.selector_of (s.selecting f.known)) e q (λ x t. t))))
     (m-fault SelectorOf (first_of f.known) WrongType)
 

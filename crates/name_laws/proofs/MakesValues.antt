@@ -1,5 +1,6 @@
 -- What is found fits: values, and expressions that take the type of their place.
-use Rattle.std.proofs.Common.{◌≡◌, refl, sym, ap, subst, ◌∙◌, ◌⊎◌, inl, inr, ℕ, ℤ, Option, Some, None, Bool, true, false, ◌==◌}
+use Rattle.std.proofs.Common.{◌≡◌, refl, sym, ap, subst, ◌∙◌, ◌⊎◌, inl, inr, ℕ, ℤ, Option, Some, None, Bool, true, false, ◌==◌, int_le, ◌&&◌, ◌-◌, pos}
+use Rattle.std.specs.Prelude.{not}
 use Rattle.ada_base.specs.declared.operation.Op.TheVariants as op
 use Rattle.typed_tree.specs.Classes.{class_or, with_class}
 use Rattle.typed_tree.specs.Decoded as part
@@ -13,8 +14,8 @@ use Rattle.typed_tree.specs.declared.scalars.Class.TheVariants as class
 use Rattle.name_rules.specs.Found.{Found}
 use Rattle.name_rules.specs.Judging.{fault, some}
 use Rattle.name_rules.specs.TypedParts.{selections_of}
-use Rattle.name_rules.specs.Types.{check_at, class_of, in_base, is_integer, same}
-use Rattle.name_rules.specs.Values.{any_integer, any_scalar, asked, asked_form, beyond, composite_asked, composite_form, first_of, is_number, is_scalar, literal, object_expr, object_value, own_kind, place_asked, settled, settled_by, settled_found, stored, valued, whole_object, whole_of}
+use Rattle.name_rules.specs.Types.{check_at, class_of, in_base, is_integer, same, kept, is_modular}
+use Rattle.name_rules.specs.Values.{any_integer, any_scalar, asked, asked_form, beyond, composite_asked, composite_form, first_of, is_number, is_scalar, literal, object_expr, object_value, own_kind, place_asked, settled, settled_by, settled_found, stored, valued, whole_object, whole_of, is_word_kind, kind_of}
 use Rattle.name_rules.specs.declared.found.Found.TheVariants as known
 use Rattle.name_rules.specs.declared.found.Found.{Found as Known}
 use Rattle.name_rules.specs.declared.found.Limits.{Limits}
@@ -26,15 +27,20 @@ use Rattle.name_rules.specs.declared.types.Scalar.{Scalar}
 use Rattle.name_rules.specs.declared.types.Subtype.{Subtype}
 use Rattle.name_rules.specs.declared.types.Subtype.TheVariants as subtype
 use Rattle.name_laws.proofs.Makes.{Each, Makes, Maybe, each-turned, m-bind, m-fault, m-given, m-if, m-some, m-test}
-use Rattle.name_laws.proofs.Statics.{same-base}
-use Rattle.name_laws.specs.Based.{HasBased, IsSpan}
+use Rattle.name_laws.proofs.Statics.{same-base, same-kept, nat-same}
+use Rattle.name_laws.specs.Based.{HasBased, IsRange}
+use Rattle.name_laws.proofs.Based.{kept-twice, plain-kept}
+use Rattle.ada_base.specs.Operation.{modulus}
+use Rattle.ada_base.specs.declared.operation.Base.TheVariants.{Modulo}
+use Rattle.ada_base.proofs.Turning.{turned_twice}
+use Rattle.std.proofs.lemmas.Bool.{and_parts}
 use Rattle.name_laws.specs.Classes.{CompositeFits, ExprFits, exponent, HasValue, IsTyped, PiecesFit, SelectionsFit, ValueFits}
 
 -- ---- what is asked of what is found
 
 -- a universal expression fits once it takes a type
 abbrev pub IsOpen : Limits → TypedExpr → Type 0
-IsOpen l e = (k : Kind) → is_integer k ≡ true → beyond k l ≡ None → ExprFits (class_of k) (with_class (class_of k) e)
+IsOpen l e = (k : Kind) → is_integer k ≡ true → beyond k l e ≡ None → ExprFits (class_of k) (with_class (class_of k) e)
 
 abbrev pub IsSelection : TypedPart → Type 0
 IsSelection p = (ss : Selections) → SelectionsFit ss → SelectionsFit (as_selection p ss)
@@ -69,19 +75,28 @@ abbrev pub ValueOf : TypedPart → Type 0
 ValueOf x = ValueFits (as_value x)
 
 abbrev pub SpanOf : Scalar → Type 0
-SpanOf s = IsSpan s.kind s.low s.high
+SpanOf s = IsRange s.kind (kept s.kind s.low) (kept s.kind s.high)
 
 -- ---- classes
 
-pub has-value : (k : Kind) (z : ℤ) → in_base k z ≡ true → HasValue (class_of k) z
+pub has-value : (k : Kind) (z : ℤ) → in_base k z ≡ true → HasValue (class_of k) (kept k z)
 has-value kind.Boolean z h = h
 has-value kind.Integer z h = h
 has-value (kind.Own n) z h = h
+has-value (kind.Modular n k) z h = ap (λ w. int_le (pos 0) w && int_le w (pos (modulus k - 1))) (turned_twice z) ∙ h
+
+-- the same of what a cell keeps, and of a type that isn't modular
+pub has-kept : (k : Kind) (z : ℤ) → in_base k (kept k z) ≡ true → HasValue (class_of k) z
+has-kept k z h = subst (HasValue (class_of k)) (kept-twice k z) (has-value k (kept k z) h)
+
+pub has-plain : (k : Kind) (z : ℤ) → is_modular k ≡ false → in_base k z ≡ true → HasValue (class_of k) z
+has-plain k z e h = subst (HasValue (class_of k)) (plain-kept k z e) (has-value k z h)
 
 pub is-typed : (k : Kind) → IsTyped (class_of k)
 is-typed kind.Boolean = tt
 is-typed kind.Integer = tt
 is-typed (kind.Own n) = tt
+is-typed (kind.Modular n k) = tt
 
 pub same-class : (j k : Kind) → same j k ≡ true → class_of j ≡ class_of k
 same-class kind.Boolean kind.Boolean e = refl
@@ -93,6 +108,13 @@ same-class kind.Integer (kind.Own n) e = absurd cc
 same-class (kind.Own m) kind.Boolean e = absurd cc
 same-class (kind.Own m) kind.Integer e = absurd cc
 same-class (kind.Own m) (kind.Own n) e = refl
+same-class kind.Boolean (kind.Modular n k) e = absurd cc
+same-class kind.Integer (kind.Modular n k) e = absurd cc
+same-class (kind.Own m) (kind.Modular n k) e = absurd cc
+same-class (kind.Modular m j) kind.Boolean e = absurd cc
+same-class (kind.Modular m j) kind.Integer e = absurd cc
+same-class (kind.Modular m j) (kind.Own n) e = absurd cc
+same-class (kind.Modular m j) (kind.Modular n k) e = ap (λ i. class.Integer (Modulo i)) (nat-same j k (and_parts (m == n) (j == k) e).1)
 
 class-same : (c d : Class) → IsTyped d → class_or c d ≡ d
 class-same c class.Boolean h = refl
@@ -148,7 +170,7 @@ pieces-fit x h = pieces-list (turned x) (each-turned IsPiece x h)
 
 m-valued : (k : Kind) (first : ℕ) (z : ℤ) (alone : Bool) (x : TypedPart) → Makes (Maybe (AskedOf k)) (valued k first z alone x)
 unfolding valued
-m-valued k first z alone x = m-test (Maybe (AskedOf k)) (in_base k z) (some (literal first z alone x)) (fault first StaticRange) (λ e. m-some (AskedOf k) (literal first z alone x) (has-value k z e)) (m-fault (AskedOf k) first StaticRange)
+m-valued k first z alone x = m-test (Maybe (AskedOf k)) (in_base k z) (some (literal first (kept k z) alone x)) (fault first StaticRange) (λ e. m-some (AskedOf k) (literal first (kept k z) alone x) (has-value k z e)) (m-fault (AskedOf k) first StaticRange)
 
 m-settled_by : (k : Kind) (e : TypedExpr) (at : Option ℕ) → (at ≡ None → ExprFits (class_of k) (with_class (class_of k) e)) → Makes (Maybe (AskedOf k)) (settled_by k e at)
 m-settled_by k e None h = m-some (AskedOf k) (part.AnExpr (with_class (class_of k) e)) (h refl)
@@ -156,31 +178,28 @@ m-settled_by k e (Some at) h = m-fault (AskedOf k) at StaticRange
 
 m-settled : (k : Kind) (l : Limits) (e : TypedExpr) → is_integer k ≡ true → IsOpen l e → Makes (Maybe (AskedOf k)) (settled k l e)
 unfolding settled
-m-settled k l e i h = m-settled_by k e (beyond k l) (h k i)
+m-settled k l e i h = m-settled_by k e (beyond k l e) (h k i)
 
-object-fits : (k : Kind) (p : ObjectName) (ss : Selections) (s : Scalar) (v : Option ℤ) → SelectionsFit ss → ((z : ℤ) → v ≡ Some z → in_base k z ≡ true) → AskedOf k (object_value p ss s v)
-object-fits k p ss s (Some z) h m = has-value k z (m z refl)
-object-fits k p ss s None h m = by p.variable
+m-object_value : (k : Kind) (p : ObjectName) (ss : Selections) (s : Scalar) (v : Option ℤ) → SelectionsFit ss → Makes (Maybe (AskedOf k)) (object_value k p ss s v)
+m-object_value k p ss s (Some z) h = m-valued k p.first z false part.Nothing
+m-object_value k p ss s None h = m-some (AskedOf k) (part.AnExpr (object_expr p ss s p.variable)) (by p.variable)
   where
     by : (b : Bool) → ExprFits (class_of k) (object_expr p ss s b)
     by true = h
     by false = h
 
-m-place_asked : (k : Kind) (p : ObjectName) (x : TypedPart) (s : Subtype) → p.subtype ≡ s → HasBased p.subtype p.value → Each IsSelection x → Makes (Maybe (AskedOf k)) (place_asked k p (selections_of x) s)
-m-place_asked k p x (subtype.Scalar s) e h i =
-    m-test (Maybe (AskedOf k)) (same s.kind k) (some (object_value p (selections_of x) s p.value)) (fault p.first WrongType)
-    (λ q. m-some (AskedOf k) (object_value p (selections_of x) s p.value)
-    (object-fits k p (selections_of x) s p.value (selections-fit x i) (λ z v. sym (same-base s.kind k z q) ∙ subst (λ t. HasBased t p.value) e h s.kind z refl v)))
-    (m-fault (AskedOf k) p.first WrongType)
-m-place_asked k p x (subtype.Composite n) e h i = m-fault (AskedOf k) p.first WrongType
+m-place_asked : (k : Kind) (p : ObjectName) (x : TypedPart) (s : Subtype) → Each IsSelection x → Makes (Maybe (AskedOf k)) (place_asked k p (selections_of x) s)
+m-place_asked k p x (subtype.Scalar s) i =
+    m-if (Maybe (AskedOf k)) (same s.kind k) (object_value k p (selections_of x) s p.value) (fault p.first WrongType)
+    (m-object_value k p (selections_of x) s p.value (selections-fit x i)) (m-fault (AskedOf k) p.first WrongType)
+m-place_asked k p x (subtype.Composite n) i = m-fault (AskedOf k) p.first WrongType
 
 m-asked_form : (k : Kind) (f : Known) (x : TypedPart) → KnownOf f x → Makes (Maybe (AskedOf k)) (asked_form k f x)
 m-asked_form k (known.Universal first z alone) x h = m-if (Maybe (AskedOf k)) (is_integer k) (valued k first z alone x) (fault first WrongType) (m-valued k first z alone x) (m-fault (AskedOf k) first WrongType)
 m-asked_form k (known.Open first l) x h = m-test (Maybe (AskedOf k)) (is_integer k) (settled k l (as_expr x)) (fault first WrongType) (λ i. m-settled k l (as_expr x) i h) (m-fault (AskedOf k) first WrongType)
 m-asked_form k (known.Static first j z) x h =
-    m-test (Maybe (AskedOf k)) (same j k) (some (literal first z false x)) (fault first WrongType)
-    (λ q. m-some (AskedOf k) (literal first z false x) (has-value k z (sym (same-base j k z q) ∙ h))) (m-fault (AskedOf k) first WrongType)
-m-asked_form k (known.Object p) x h = m-place_asked k p x p.subtype refl h.0 h.1
+    m-if (Maybe (AskedOf k)) (same j k) (valued k first z false x) (fault first WrongType) (m-valued k first z false x) (m-fault (AskedOf k) first WrongType)
+m-asked_form k (known.Object p) x h = m-place_asked k p x p.subtype h.1
 m-asked_form k (known.Scalar first j n) x h =
     m-test (Maybe (AskedOf k)) (same j k) (some x) (fault first WrongType) (λ q. m-some (AskedOf k) x (subst (λ c. ExprFits c (as_expr x)) (same-class j k q) h)) (m-fault (AskedOf k) first WrongType)
 m-asked_form k f x h = m-fault (AskedOf k) (first_of f) WrongType
@@ -199,7 +218,7 @@ m-settled_found f h = record { at = λ log g. let m = (m-asked (own_kind f.known
 
 pub m-any_integer : (f : Found) → FoundOf f → Makes (Maybe ExprOf) (any_integer f)
 unfolding any_integer
-m-any_integer f h = m-if (Maybe ExprOf) (is_number f.known) (settled_found f) (fault (first_of f.known) WrongType) (m-settled_found f h) (m-fault ExprOf (first_of f.known) WrongType)
+m-any_integer f h = m-if (Maybe ExprOf) (is_number f.known && not (is_word_kind (kind_of f.known))) (settled_found f) (fault (first_of f.known) WrongType) (m-settled_found f h) (m-fault ExprOf (first_of f.known) WrongType)
 
 pub m-any_scalar : (f : Found) → FoundOf f → Makes (Maybe ExprOf) (any_scalar f)
 unfolding any_scalar

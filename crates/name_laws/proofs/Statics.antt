@@ -1,5 +1,8 @@
 -- Static results are exact and in their base range.
-use Rattle.std.proofs.Common.{◌≡◌, ℕ, ℤ, Option, Some, None, Bool, true, false, refl, sym, ap, subst, ◌∙◌, if◌then◌else◌, ◌&&◌}
+use Rattle.std.proofs.Common.{◌≡◌, ℕ, ℤ, Option, Some, None, Bool, true, false, refl, sym, ap, subst, ◌∙◌, if◌then◌else◌, ◌&&◌, ◌==◌, arith}
+use Rattle.std.proofs.lemmas.Bool.Decides.{nat_tests}
+use Rattle.std.proofs.lemmas.Bool.{and_parts}
+use Rattle.typed_tree.specs.Decoded as part
 use Rattle.ada_base.specs.Operation.{unbounded}
 use Rattle.ada_base.specs.declared.operation.Op.TheVariants as op
 use Rattle.ada_base.specs.declared.operation.Op.{Op}
@@ -10,7 +13,7 @@ use Rattle.typed_tree.specs.Decoded.{TypedPart, as_expr}
 use Rattle.name_rules.specs.Found.{Found, opened, scalar, static, universal}
 use Rattle.name_rules.specs.Judging.{Judging, both, fault, given, joined, pure, some}
 use Rattle.name_rules.specs.Operators.{both_mentions, by_kinds, open_binary, open_of, open_plain, open_power, open_two, open_unary, operand_blamed, operation, operation_by, operation_on, plain, plain_by, plain_open, plain_typed, power, power_to, signed, static_of, static_operation, static_power, static_universal, typed_operation, unary, unary_by, unary_open, unary_typed, universal_by, universal_operation, universal_power, universal_to}
-use Rattle.name_rules.specs.Types.{class_of, in_base, is_integer, same}
+use Rattle.name_rules.specs.Types.{class_of, in_base, is_integer, same, kept}
 use Rattle.name_rules.specs.Values.{asked, asked_form, bounded, exact, first_of, fitting, in_universal, is_number, joint, kind_in, kind_of, literal, object_value, place_asked, place_scalar, suits, value_of, valued}
 use Rattle.name_rules.specs.TypedParts.{exprs_of, selections_of}
 use Rattle.name_rules.specs.declared.found.Found.TheVariants as known
@@ -272,6 +275,9 @@ g-plain at a = g-if (Stays a) (is_number a.known) (plain_by at a (kind_of a.know
 
 -- ---- places that ask for a type
 
+pub nat-same : (j k : ℕ) → (j == k) ≡ true → j ≡ k
+nat-same j k e = grind (arith, nat_tests)
+
 pub same-base : (j k : Kind) (z : ℤ) → same j k ≡ true → in_base j z ≡ in_base k z
 same-base kind.Boolean kind.Boolean z e = refl
 same-base kind.Integer kind.Integer z e = refl
@@ -282,22 +288,47 @@ same-base kind.Integer kind.Boolean z e = absurd cc
 same-base kind.Integer (kind.Own n) z e = absurd cc
 same-base (kind.Own m) kind.Boolean z e = absurd cc
 same-base (kind.Own m) kind.Integer z e = absurd cc
+same-base kind.Boolean (kind.Modular n k) z e = absurd cc
+same-base kind.Integer (kind.Modular n k) z e = absurd cc
+same-base (kind.Own m) (kind.Modular n k) z e = absurd cc
+same-base (kind.Modular m j) kind.Boolean z e = absurd cc
+same-base (kind.Modular m j) kind.Integer z e = absurd cc
+same-base (kind.Modular m j) (kind.Own n) z e = absurd cc
+same-base (kind.Modular m j) (kind.Modular n k) z e = ap (λ i. in_base (kind.Modular n i) z) (nat-same j k (and_parts (m == n) (j == k) e).1)
+
+pub same-kept : (j k : Kind) (z : ℤ) → same j k ≡ true → kept j z ≡ kept k z
+same-kept kind.Boolean kind.Boolean z e = refl
+same-kept kind.Integer kind.Integer z e = refl
+same-kept (kind.Own m) (kind.Own n) z e = refl
+same-kept kind.Boolean kind.Integer z e = absurd cc
+same-kept kind.Boolean (kind.Own n) z e = absurd cc
+same-kept kind.Integer kind.Boolean z e = absurd cc
+same-kept kind.Integer (kind.Own n) z e = absurd cc
+same-kept (kind.Own m) kind.Boolean z e = absurd cc
+same-kept (kind.Own m) kind.Integer z e = absurd cc
+same-kept kind.Boolean (kind.Modular n k) z e = absurd cc
+same-kept kind.Integer (kind.Modular n k) z e = absurd cc
+same-kept (kind.Own m) (kind.Modular n k) z e = absurd cc
+same-kept (kind.Modular m j) kind.Boolean z e = absurd cc
+same-kept (kind.Modular m j) kind.Integer z e = absurd cc
+same-kept (kind.Modular m j) (kind.Own n) z e = absurd cc
+same-kept (kind.Modular m j) (kind.Modular n k) z e = refl
 
 abbrev Kept : Kind → ℤ → TypedPart → Type 0
 Kept k z x = IsKept k x z
 
-of-literal : (k : Kind) (first : ℕ) (z : ℤ) (alone : Bool) (ms : TypedPart) → in_base k z ≡ true → Kept k z (literal first z alone ms)
+of-literal : (k : Kind) (first : ℕ) (z : ℤ) (alone : Bool) (ms : TypedPart) → in_base k z ≡ true → Kept k z (literal first (kept k z) alone ms)
 of-literal k first z alone ms r = record { value = record { at = first; alone = alone; mentions = exprs_of ms; same = refl }; ranged = r }
 
 g-valued : (k : Kind) (first : ℕ) (z : ℤ) (alone : Bool) (ms : TypedPart) → Gives (Kept k z) (valued k first z alone ms)
 unfolding valued
-g-valued k first z alone ms = g-if (Kept k z) (in_base k z) (some (literal first z alone ms)) (fault first StaticRange) (λ r. g-some (Kept k z) (literal first z alone ms) (of-literal k first z alone ms r)) (g-fault (Kept k z) first StaticRange)
+g-valued k first z alone ms = g-if (Kept k z) (in_base k z) (some (literal first (kept k z) alone ms)) (fault first StaticRange) (λ r. g-some (Kept k z) (literal first (kept k z) alone ms) (of-literal k first z alone ms r)) (g-fault (Kept k z) first StaticRange)
 
-g-place : (k : Kind) (p : ObjectName) (ss : Selections) (s : Subtype) (z : ℤ) → p.value ≡ Some z → p.subtype ≡ s → InBase (known.Object p) → Gives (Kept k z) (place_asked k p ss s)
-g-place k p ss (subtype.Composite n) z v e h = g-fault (Kept k z) p.first WrongType
-g-place k p ss (subtype.Scalar s) z v e h =
-    g-if (Kept k z) (same s.kind k) (some (object_value p ss s p.value)) (fault p.first WrongType)
-    (λ q. g-some (Kept k z) (object_value p ss s p.value) (subst (λ w. Kept k z (object_value p ss s w)) (sym v) (of-literal k p.first z false _ (sym (same-base s.kind k z q) ∙ h s.kind z (ap (λ t. kind_in (place_scalar t)) e) v))))
+g-place : (k : Kind) (p : ObjectName) (ss : Selections) (s : Subtype) (z : ℤ) → p.value ≡ Some z → Gives (Kept k z) (place_asked k p ss s)
+g-place k p ss (subtype.Composite n) z v = g-fault (Kept k z) p.first WrongType
+g-place k p ss (subtype.Scalar s) z v =
+    g-if (Kept k z) (same s.kind k) (object_value k p ss s p.value) (fault p.first WrongType)
+    (λ _. subst (λ w. Gives (Kept k z) (object_value k p ss s w)) (sym v) (g-valued k p.first z false part.Nothing))
     (g-fault (Kept k z) p.first WrongType)
 
 g-form : (k : Kind) (f : Known) (x : TypedPart) (z : ℤ) → InBase f → value_of f ≡ Some z → Gives (Kept k z) (asked_form k f x)
@@ -308,10 +339,8 @@ g-form k (known.Universal first y alone) x z h v =
 g-form k (known.Static first j y) x z h v =
     let two : y ≡ z = cc in
     subst (λ w. Gives (Kept k w) (asked_form k (known.Static first j y) x)) two
-    (g-if (Kept k y) (same j k) (some (literal first y false x)) (fault first WrongType)
-    (λ q. g-some (Kept k y) (literal first y false x) (of-literal k first y false x (sym (same-base j k y q) ∙ h j y refl refl)))
-    (g-fault (Kept k y) first WrongType))
-g-form k (known.Object p) x z h v = g-place k p (selections_of x) p.subtype z v refl h
+    (g-if (Kept k y) (same j k) (valued k first y false x) (fault first WrongType) (λ _. g-valued k first y false x) (g-fault (Kept k y) first WrongType))
+g-form k (known.Object p) x z h v = g-place k p (selections_of x) p.subtype z v
 g-form k (known.Open first l) x z h v = absurd cc
 g-form k (known.Scalar first j n) x z h v = absurd cc
 g-form k (known.Composite first n) x z h v = absurd cc

@@ -6,7 +6,7 @@ use Rattle.name_laws.specs.Statics.{InBase, IsKept}
 use Rattle.name_rules.specs.Expressions.{expr}
 use Rattle.name_rules.specs.Found.{Found}
 use Rattle.name_rules.specs.Primaries.{inside}
-use Rattle.name_rules.specs.Types.{in_base}
+use Rattle.name_rules.specs.Types.{in_base, is_modular, kept}
 use Rattle.name_rules.specs.Values.{asked, kind_in, place_scalar, value_of}
 use Rattle.name_rules.specs.declared.log.Dimension.{Dimension}
 use Rattle.name_rules.specs.declared.log.Log.{Log}
@@ -21,20 +21,24 @@ use Rattle.name_rules.specs.declared.types.Kind.{Kind}
 use Rattle.name_rules.specs.declared.types.Subtype.{Subtype}
 use Rattle.name_rules.specs.declared.types.Subtype.TheVariants as subtype
 use Rattle.name_rules.specs.declared.types.Wanted.{Wanted}
-use Rattle.std.specs.Prelude.{List, Option, Some, [], int_le, slice_get, true, ℕ, ℤ, ◌∷◌, ◌≡◌}
+use Rattle.std.specs.Prelude.{List, Option, Some, [], false, int_le, slice_get, true, ℕ, ℤ, ◌∷◌, ◌≡◌}
 
--- a range that isn't empty, of the base range of its type
-pub record IsSpan (k : Kind) (low high : ℤ) : Type 0 where
+-- a range that isn't empty, of the base range of its type; the same of a type that isn't modular
+pub record IsRange (k : Kind) (low high : ℤ) : Type 0 where
   pub some : int_le low high ≡ true
   pub first : in_base k low ≡ true
   pub last : in_base k high ≡ true
+
+pub record IsSpan (k : Kind) (low high : ℤ) : Type 0 where
+  pub plain : is_modular k ≡ false
+  pub range : IsRange k low high
 
 abbrev pub AreSpans : List Dimension → Type 0
 AreSpans [] = Unit {0}
 AreSpans (d ∷ ds) = IsSpan d.kind d.low d.high × AreSpans ds
 
 abbrev pub IsBased : Subtype → Type 0
-IsBased (subtype.Scalar s) = IsSpan s.kind s.low s.high
+IsBased (subtype.Scalar s) = IsRange s.kind (kept s.kind s.low) (kept s.kind s.high)
 IsBased (subtype.Composite n) = Unit {0}
 
 -- a value of an object of a subtype, where it is static

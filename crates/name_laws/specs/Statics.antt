@@ -11,7 +11,7 @@ use Rattle.typed_tree.specs.declared.expressions.Sign.TheVariants as sign
 use Rattle.typed_tree.specs.declared.expressions.Sign.{Sign}
 use Rattle.name_rules.specs.Found.{Found}
 use Rattle.name_rules.specs.Operators.{operation, plain, power, unary}
-use Rattle.name_rules.specs.Types.{in_base}
+use Rattle.name_rules.specs.Types.{in_base, kept}
 use Rattle.name_rules.specs.Values.{asked, kind_of, value_of}
 use Rattle.name_rules.specs.declared.found.Found.{Found as Known}
 use Rattle.name_rules.specs.declared.log.Log.{Log}
@@ -63,12 +63,12 @@ pub record IsValue (x : TypedPart) (z : ℤ) : Type 0 where
   pub same : x ≡ part.AnExpr (typed.Static at z alone mentions)
 
 pub record IsKept (k : Kind) (x : TypedPart) (z : ℤ) : Type 0 where
-  pub value : IsValue x z
+  pub value : IsValue x (kept k z)
   pub ranged : in_base k z ≡ true
 
 -- Whatever an operator finds for its operands has, where it is static, the exact value of the operation, in its base range.
--- A static expression that takes the type of its place leaves its value alone, in that type's base range; one that had a type
--- before does so where its value lay in that, as it does behind every operator.
+-- A static expression that takes the type of its place leaves its value alone, as a cell of that type keeps it, in that
+-- type's base range; one that had a type before does so where its value lay in that, as it does behind every operator.
 pub record StaticLaw : Type 0 where
   pub operators : (o : Op) (at : ℕ) (a b f : Found) (log : Log) → (operation o at a b log).0 ≡ Some f → IsExact o a.known b.known f.known
   pub powers : (at : ℕ) (a b f : Found) (log : Log) → (power at (Some a) (Some b) log).0 ≡ Some f → IsExact op.Pow a.known b.known f.known

@@ -1,5 +1,7 @@
 pub mod Contexts
+mod Exponents
 mod FromPlaces
+mod KeptTwice
 mod Lists
 mod Mentions
 pub mod Nested

@@ -33,7 +33,9 @@ use name_values::coverage::{Choosing, Covering, choices_part, closed};
 use name_values::judge::{Giving, Judge};
 use name_values::logs::breaks;
 use name_values::types::base_of;
-use name_values::values::{first_of, is_scalar, nominal_of, own_kind, settled_found};
+use name_values::values::{
+    first_of, is_modular_kind, is_scalar, nominal_of, own_kind, settled_found,
+};
 use std::alloc::AllocError;
 use syntax_nodes::Tree;
 use typed_parts::Parts;
@@ -48,11 +50,12 @@ fn selecting(given: Found) -> Scalar
     }
 }
 
-/// The subtype of a selecting expression, which is the latest part: WrongType at its first token where it is no scalar.
+/// The subtype of a selecting expression, which is the latest part: WrongType at its first token where it is no scalar, or
+/// of a modular type.
 fn selector(judge: &mut Judge, value: Found) -> Result<Option<Scalar>, AllocError>
     ensures { JudgesOne spec.selector (found value) judge.old result judge.new }
 {
-    if !is_scalar(value) {
+    if !is_scalar(value) || is_modular_kind(name_values::values::kind_of(value)) {
         attempt!(breaks(&mut judge.log, first_of(value), Rule::WrongType));
         return Ok(None);
     }

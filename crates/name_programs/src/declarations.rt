@@ -23,7 +23,7 @@ use crate::declaration_lists::{all_ended, all_ids, begun_names, ended_name, with
 use crate::objects::objects;
 use crate::records::record_of;
 use crate::scene_at;
-use crate::subtypes::{indic, own_type_of, static_bound};
+use crate::subtypes::{indic, modular_type, own_type_of, static_bound};
 use crate::text::Text;
 use ada_base::{Items, Reason};
 use name_expressions::expressions::{expr, simple};
@@ -171,6 +171,10 @@ fn defined(
             let x = attempt!(simple(judge, scene, Wanted::Other, low));
             let y = attempt!(simple(judge, scene, Wanted::Other, high));
             own_type_of(judge, token, x, y)
+        }
+        Definition::ModularType(modulus) => {
+            let x = attempt!(simple(judge, scene, Wanted::Other, modulus));
+            modular_type(judge, token, x)
         }
         Definition::ArrayType(definition) => array(judge, scene, definition),
         Definition::RecordType { first, more } => record_of(judge, scene, first, more),

@@ -33,7 +33,7 @@ use name_values::judge::Judge;
 use name_values::logs::breaks;
 use name_values::names::cells_in;
 use name_values::scope::copied;
-use name_values::types::{is_integer, lies_in, number_of, wanted_of};
+use name_values::types::{is_integer, is_modular, lies_in, number_of, wanted_of};
 use name_values::values::{stored, value_of};
 use std::alloc::AllocError;
 use syntax_nodes::{ObjectType, Tree};
@@ -167,14 +167,15 @@ pub fn new_object(
     Ok(Some(object))
 }
 
-/// The value of an integer constant whose initial value is static and lies in its subtype (4.9).
+/// The value of an integer constant, but for modular types, whose initial value is static and lies in its subtype (4.9).
+#[tactic(auto, using(name_expressions::proofs::Plain::plain_kept))]
 fn static_in(subtype: Subtype, value: Option<i128>) -> Option<i64>
     ensures { result ≡ spec.static_in subtype value }
 {
     match subtype {
         Subtype::Scalar(scalar) => match value {
             Some(value) => {
-                if is_integer(scalar.kind) && lies_in(scalar, value) {
+                if is_integer(scalar.kind) && !is_modular(scalar.kind) && lies_in(scalar, value) {
                     Some(value as i64)
                 } else {
                     None

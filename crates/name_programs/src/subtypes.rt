@@ -1,6 +1,6 @@
 //! Subtype indications (3.2.2) and integer types (3.5.4). What bounds mention is their part.
 
-ghost use Rattle.std.specs.Prelude.{◌≡◌, OnOk};
+ghost use Rattle.std.specs.Prelude.{◌≡◌, OnOk, pos};
 ghost use Rattle.name_programs.specs.DeclarationSteps as step;
 ghost use Rattle.name_rules.specs.Declarations as spec;
 ghost use Rattle.name_rules.specs.Judges.{Says, found, found_of};
@@ -8,7 +8,8 @@ ghost use Rattle.name_rules.specs.Judging as judging;
 ghost use Rattle.syntax_nodes.specs.Parts.{the_indic};
 ghost use Rattle.typed_tree.specs.Latest.{pop, second, top};
 ghost use Rattle.typed_parts.specs.Stack.{parts};
-ghost use Rattle.name_values.specs.Judged.{Judges, JudgesOn, JudgesTwo};
+ghost use Rattle.name_values.specs.Bounds.{ends};
+ghost use Rattle.name_values.specs.Judged.{Judges, JudgesOn, JudgesOne, JudgesTwo};
 ghost use Rattle.name_expressions.specs.Scenes.{named_at, node_at};
 
 use crate::rules::unless;
@@ -20,52 +21,72 @@ use name_rules::types::{Kind, Scalar, Subtype, Wanted};
 use name_values::attempt;
 use name_values::bounds::both_static;
 use name_values::judge::Judge;
-use name_values::logs::{also_all, cleared};
+use name_values::logs::{also_all, breaks, cleared};
 use name_values::operators::both_mentions;
 use name_values::scope::{scalar_named, subtype_named};
-use name_values::types::{in_base, lies_in};
+use name_values::types::{base_of, in_base, lies_in, number};
 use name_values::values::{first_of, mentions, static_integer};
 use std::alloc::AllocError;
 use syntax_nodes::Indic;
 use typed_parts::Parts;
+use typed_tree::Span;
 
-/// The subtype of a range, if it is one of another subtype and isn't empty.
-fn range_within(
-    log: &Log,
-    scalar: Scalar,
-    low: i128,
-    high: i128,
-) -> Result<Option<Subtype>, AllocError>
-    ensures { Says (step.range_within scalar low high log.now) result log.now }
+/// Whether a range, whose bounds are as cells keep them, is one of a subtype and isn't empty.
+fn is_within(scalar: Scalar, span: Span) -> bool
+    ensures { result ≡ step.is_within scalar (ends scalar.kind span) }
+{
+    let low = number(scalar.kind, span.low);
+    let high = number(scalar.kind, span.high);
+    if !lies_in(scalar, low) {
+        return false;
+    }
+    if !lies_in(scalar, high) {
+        return false;
+    }
+    low <= high
+}
+
+/// The subtype of a range, whose bounds are as cells keep them.
+#[tactic(auto, using(crate::proofs::KeptTwice::kept_twice))]
+fn scalar_of(kind: Kind, span: Span) -> Scalar
+    ensures { result ≡ step.scalar_of kind (ends kind span) }
+{
+    Scalar {
+        kind,
+        low: span.low,
+        high: span.high,
+    }
+}
+
+/// The subtype of a range, whose bounds are as cells keep them, if it is one of another subtype and isn't empty.
+fn range_within(log: &Log, scalar: Scalar, span: Span) -> Result<Option<Subtype>, AllocError>
+    ensures { Says (step.range_within scalar (ends scalar.kind span) log.now) result log.now }
 {
     let _log = log;
-    if lies_in(scalar, low) && lies_in(scalar, high) && low <= high {
-        Ok(Some(Subtype::Scalar(Scalar {
-            kind: scalar.kind,
-            low: low as i64,
-            high: high as i64,
-        })))
+    if is_within(scalar, span) {
+        Ok(Some(Subtype::Scalar(scalar_of(scalar.kind, span))))
     } else {
         Ok(None)
     }
 }
 
 /// The subtype of a range that narrows another one: StaticRange at a bound that isn't in that one, and at the first where
-/// the range is empty.
+/// the range is empty. The bounds are as cells keep them.
 fn indic_range(
     log: &mut Log,
     scalar: Scalar,
     first: u32,
     last: u32,
-    low: i128,
-    high: i128,
+    span: Span,
 ) -> Result<Option<Subtype>, AllocError>
-    ensures { Says (spec.indic_range scalar first last (low, high) log.old) result log.new }
+    ensures { Says (spec.indic_range scalar first last (ends scalar.kind span) log.old) result log.new }
 {
+    let low = number(scalar.kind, span.low);
+    let high = number(scalar.kind, span.high);
     attempt!(unless(log, lies_in(scalar, low), first, Rule::StaticRange));
     attempt!(unless(log, lies_in(scalar, high), last, Rule::StaticRange));
     attempt!(unless(log, low <= high, first, Rule::StaticRange));
-    let found = attempt!(range_within(log, scalar, low, high));
+    let found = attempt!(range_within(log, scalar, span));
     Ok(found)
 }
 
@@ -79,22 +100,11 @@ fn indic_bounds(
 ) -> Result<Option<Subtype>, AllocError>
     ensures { JudgesTwo (spec.indic_bounds scalar) (found low) (found high) judge.old result judge.new }
 {
-    let bounds = attempt!(both_static(&mut judge.log, &judge.out, scalar.kind, low, high));
+    let bounds = attempt!(both_static(judge, scalar.kind, low, high));
     attempt!(both_mentions(&mut judge.out, low, high));
     match bounds {
         None => Ok(None),
-        Some(span) => {
-            let first = first_of(low);
-            let last = first_of(high);
-            indic_range(
-                &mut judge.log,
-                scalar,
-                first,
-                last,
-                i128::from(span.low),
-                i128::from(span.high),
-            )
-        }
+        Some(span) => indic_range(&mut judge.log, scalar, first_of(low), first_of(high), span),
     }
 }
 
@@ -203,4 +213,79 @@ pub fn own_type_of(
         return Ok(None);
     };
     own_type(&mut judge.log, token, first, last, a, z)
+}
+
+/// The exponent of a power of two, from 2 to 2^64.
+fn exponent_of(modulus: u128) -> Option<u8>
+    ensures { result ≡ step.exponent (pos modulus) }
+{
+    let mut k: u8 = 1;
+    let mut power: u128 = 2;
+    'exponents: while k < 65 {
+        if modulus == power {
+            return Some(k);
+        }
+        power += power;
+        k += 1;
+    }
+    None
+}
+
+/// The same of any number: a negative one is no power of two.
+fn exponent(modulus: i128) -> Option<u8>
+    ensures { result ≡ step.exponent modulus }
+{
+    if modulus < 0 {
+        return None;
+    }
+    exponent_of(modulus.unsigned_abs())
+}
+
+/// The type of a modulus, which the token of its name tells from others: StaticRange where it is no power of two from 2 to
+/// 2^64.
+fn modular_by(
+    log: &mut Log,
+    token: u32,
+    first: u32,
+    digits: Option<u8>,
+) -> Result<Option<Subtype>, AllocError>
+    ensures { Says (spec.modular_by token first digits log.old) result log.new }
+{
+    match digits {
+        Some(digits) => Ok(Some(Subtype::Scalar(base_of(Kind::Modular(token, digits))))),
+        None => {
+            attempt!(breaks(log, first, Rule::StaticRange));
+            Ok(None)
+        }
+    }
+}
+
+/// The type of a modulus, the latest part: WrongType, NotStatic.
+#[tactic(auto, using(crate::proofs::Options::indicated_found))]
+fn modular_found(
+    judge: &mut Judge,
+    token: u32,
+    modulus: Found,
+) -> Result<Option<Subtype>, AllocError>
+    ensures { JudgesOne (step.modular_type token) (found modulus) judge.old result judge.new }
+{
+    attempt!(mentions(&mut judge.out, modulus));
+    match attempt!(static_integer(&mut judge.log, modulus)) {
+        None => Ok(None),
+        Some(value) => modular_by(&mut judge.log, token, first_of(modulus), exponent(value)),
+    }
+}
+
+/// The type of a modulus (3.5.4), the latest part, where that has no fault.
+pub fn modular_type(
+    judge: &mut Judge,
+    token: u32,
+    modulus: Option<Found>,
+) -> Result<Option<Subtype>, AllocError>
+    ensures { JudgesOne (λ x. judging.given x (spec.modular_type token)) (found_of modulus) judge.old result judge.new }
+{
+    match modulus {
+        None => Ok(None),
+        Some(modulus) => modular_found(judge, token, modulus),
+    }
 }

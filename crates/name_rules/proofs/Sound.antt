@@ -17,6 +17,7 @@ use Rattle.name_rules.specs.declared.found.ObjectName.{ObjectName}
 use Rattle.name_rules.specs.declared.log.Log.{Log}
 use Rattle.name_rules.specs.declared.log.Rule.{Rule}
 use Rattle.name_rules.specs.declared.types.Kind.{Kind}
+use Rattle.name_rules.specs.declared.types.Scalar.{Scalar}
 use Rattle.name_rules.specs.declared.types.Subtype.{Subtype}
 use Rattle.name_rules.specs.declared.types.Subtype.TheVariants as subtype
 
@@ -74,16 +75,20 @@ settled-by k e (Some at) = sound-fault _ at _
 
 pub sound-settled : (k : Kind) (l : Limits) (e : Expr) → Sound (v.settled k l e)
 unfolding v.settled
-sound-settled k l e = settled-by k e (v.beyond k l)
+sound-settled k l e = settled-by k e (v.beyond k l e)
+
+object_value : (k : Kind) (p : ObjectName) (ss : Selections) (s : Scalar) (z : Option ℤ) → Sound (v.object_value k p ss s z)
+object_value k p ss s None = sound-some _
+object_value k p ss s (Some z) = sound-valued k p.first z false _
 
 place_asked : (k : Kind) (p : ObjectName) (ss : Selections) (s : Subtype) → Sound (v.place_asked k p ss s)
-place_asked k p ss (subtype.Scalar s) = sound-if (same s.kind k) _ _ (sound-some _) (sound-fault _ p.first _)
+place_asked k p ss (subtype.Scalar s) = sound-if (same s.kind k) _ _ (object_value k p ss s p.value) (sound-fault _ p.first _)
 place_asked k p ss (subtype.Composite n) = sound-fault _ p.first _
 
 asked-form : (k : Kind) (f : Known) (x : TypedPart) → Sound (v.asked_form k f x)
 asked-form k (known.Universal first z alone) x = sound-if (is_integer k) _ _ (sound-valued k first z alone _) (sound-fault _ first _)
 asked-form k (known.Open first l) x = sound-if (is_integer k) _ _ (sound-settled k l _) (sound-fault _ first _)
-asked-form k (known.Static first j z) x = sound-if (same j k) _ _ (sound-some _) (sound-fault _ first _)
+asked-form k (known.Static first j z) x = sound-if (same j k) _ _ (sound-valued k first z false _) (sound-fault _ first _)
 asked-form k (known.Object p) x = place_asked k p _ p.subtype
 asked-form k (known.Scalar first j n) x = sound-if (same j k) _ _ (sound-some _) (sound-fault _ first _)
 asked-form k (known.Composite first n) x = sound-fault _ first _

@@ -8,7 +8,7 @@ use Rattle.name_rules.specs.Judging.{Judging, fault, given, joined, pure, read, 
 use Rattle.name_rules.specs.Names.{denoted_first, wrong_call}
 use Rattle.name_rules.specs.Operators.{limit_of}
 use Rattle.name_rules.specs.Symbols.{first_name, image_name, last_name, length_name, max_name, min_name, parallel_reduce_name, pred_name, reduce_name, succ_name}
-use Rattle.name_rules.specs.Types.{class_of, dimensions_of, extent, is_integer, shape_in}
+use Rattle.name_rules.specs.Types.{class_of, dimensions_of, extent, is_integer, is_modular, shape_in}
 use Rattle.name_rules.specs.Values.{asked, first_of, is_number, mentions_of, own_kind, static_of_kind}
 use Rattle.name_rules.specs.declared.found.Attribute.TheVariants as attribute'
 use Rattle.name_rules.specs.declared.found.Attribute.{Attribute}
@@ -53,16 +53,30 @@ prefix_of (denoted.Type first s) = prefix.Type s
 prefix_of (denoted.Sub first last n) = prefix.Function n
 prefix_of d = prefix.Other
 
+-- numbers of a modular type have no Succ and Pred
+abbrev pub is_step : Attribute → Bool
+is_step attribute'.Succ = true
+is_step attribute'.Pred = true
+is_step _ = false
+
+abbrev pub is_left_out : Prefix → Attribute → Bool
+is_left_out (prefix.Type (subtype.Scalar s)) a = is_modular s.kind && is_step a
+is_left_out p a = false
+
 -- E05 Unknown: an attribute that the language doesn't have
 abbrev pub attribute_found : Denoted → ℕ → Option Attribute → Judging (Option Denoted)
 attribute_found d at None = fault at Unknown
-attribute_found d at (Some a) = some (denote (denoted.Attribute (denoted_first d.known) (prefix_of d.known) at a) d.part)
+attribute_found d at (Some a) = if is_left_out (prefix_of d.known) a then fault at Unknown else some (denote (denoted.Attribute (denoted_first d.known) (prefix_of d.known) at a) d.part)
 
 -- ---- First, Last, Length, Range of a scalar subtype or of an array
 
+-- no expression of a modular type is static
+abbrev pub bound_found : ℕ → Kind → ℤ → Found
+bound_found first k z = if is_modular k then scalar first k None (limit_of first z) else static first k z part.Nothing
+
 abbrev pub scalar_bound : ℕ → Scalar → Attribute → Judging (Option Denoted)
-scalar_bound first s attribute'.First = some (value_denoted (static first s.kind s.low part.Nothing))
-scalar_bound first s attribute'.Last = some (value_denoted (static first s.kind s.high part.Nothing))
+scalar_bound first s attribute'.First = some (value_denoted (bound_found first s.kind s.low))
+scalar_bound first s attribute'.Last = some (value_denoted (bound_found first s.kind s.high))
 scalar_bound first s a = fault first WrongType
 
 -- 'First and 'Last are of the index type, 'Length is universal

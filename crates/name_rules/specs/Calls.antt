@@ -6,8 +6,8 @@ use Rattle.name_rules.specs.Judging.{Judging, fault, given, joined, pure, read, 
 use Rattle.name_rules.specs.Names.{count, wrong_call}
 use Rattle.name_rules.specs.Scope.{named}
 use Rattle.name_rules.specs.Symbols.{symbol}
-use Rattle.name_rules.specs.Types.{check_at, is_integer, same, typed_scalar, wanted_of}
-use Rattle.name_rules.specs.Values.{first_of, is_number, settled_found}
+use Rattle.name_rules.specs.Types.{check_at, converted_from, is_integer, same, typed_scalar, wanted_of}
+use Rattle.name_rules.specs.Values.{first_of, is_number, own_kind, settled_found}
 use Rattle.name_rules.specs.declared.found.Denoted.TheVariants as denoted
 use Rattle.name_rules.specs.declared.found.Found.TheVariants as known
 use Rattle.name_rules.specs.declared.found.Found.{Found as Known}
@@ -18,6 +18,7 @@ use Rattle.name_rules.specs.declared.log.Rule.TheVariants.{Twice, Unknown, Wrong
 use Rattle.name_rules.specs.declared.log.Taken.{Taken}
 use Rattle.name_rules.specs.declared.scope.Context.{Context}
 use Rattle.name_rules.specs.declared.scope.Names.{Names}
+use Rattle.name_rules.specs.declared.types.Kind.{Kind}
 use Rattle.name_rules.specs.declared.types.Scalar.{Scalar}
 use Rattle.name_rules.specs.declared.types.Subtype.TheVariants as subtype
 use Rattle.name_rules.specs.declared.types.Subtype.{Subtype}
@@ -174,11 +175,11 @@ arg_names (syntax.AlsoArg (syntax.arg name e) as') = name ∷ arg_names as'
 
 -- ---- conversions (4.6) go between integer types
 
-abbrev pub conversion_of : ℕ → Scalar → TypedPart → Denoted
-conversion_of first s e = value_denoted (scalar first s.kind (Some s) (typed.Convert (check_at first s) (as_expr e)))
+abbrev pub conversion_of : ℕ → Kind → Scalar → TypedPart → Denoted
+conversion_of first k s e = value_denoted (scalar first s.kind (Some s) (typed.Convert (record { at = first; scalar = converted_from k s }) (as_expr e)))
 
 abbrev pub converted : ℕ → Scalar → Found → Judging (Option Denoted)
-converted first s f = if is_number f.known then (settled_found f >>= λ e. given e (λ x. some (conversion_of first s x))) else fault (first_of f.known) WrongType
+converted first s f = if is_number f.known then (settled_found f >>= λ e. given e (λ x. some (conversion_of first (own_kind f.known) s x))) else fault (first_of f.known) WrongType
 
 -- E06: more operands than one, at the bracket; one with a name, at the name
 abbrev pub one_operand : ℕ → ℕ → Scalar → List (Option ℕ) → List Found → Judging (Option Denoted)

@@ -1,6 +1,7 @@
 -- The rules of declarations (3.1 to 3.8, 11.1).
 use Rattle.ada_base.specs.declared.reason.Reason.TheVariants as reason
-use Rattle.name_rules.specs.Expressions.{Inside, expr, judged_alone}
+use Rattle.name_rules.specs.Expressions.{Inside, expr, judged_alone, simple}
+use Rattle.std.specs.Ordering.{int_eq}
 use Rattle.syntax_tree.specs.FirstTokens as first_token
 use Rattle.name_rules.specs.Found.{Found, With}
 use Rattle.name_rules.specs.Judging.{Judging, both, breaks, fault, given, joined, pure, read, some, unless, ◌>>=◌}
@@ -8,7 +9,7 @@ use Rattle.name_rules.specs.Operators.{both_mentions}
 use Rattle.name_rules.specs.Ranges.{Static, both_static, static_range, two_bounds}
 use Rattle.name_rules.specs.Scope.{as_scalar, declared, free, hidden_where, subtype_named}
 use Rattle.name_rules.specs.Symbols.{symbol}
-use Rattle.name_rules.specs.Types.{array_cells, cells_in, in_base, is_integer, lies_in, number_of, saturated, wanted_of, written_shape}
+use Rattle.name_rules.specs.Types.{array_cells, base_of, cells_in, in_base, is_integer, is_modular, kept, lies_in, number_of, saturated, wanted_of, written_shape}
 use Rattle.name_rules.specs.Values.{first_of, mentions_of, static_integer, stored, value_of}
 use Rattle.name_rules.specs.declared.found.Found.{Found as Known}
 use Rattle.name_rules.specs.Limits.{most_cells, most_dimensions, most_objects}
@@ -31,7 +32,7 @@ use Rattle.syntax_tree.specs.Syntax.{Array, Comp, Decl, Definition, Expr, Ids, I
 use Rattle.typed_tree.specs.Decoded as part
 use Rattle.typed_tree.specs.Syntax as typed
 use Rattle.typed_tree.specs.declared.program.Object.{Object}
-use Rattle.std.specs.Prelude.{Bool, List, None, Option, Some, [], false, if◌then◌else◌, int_le, is_some, length, nat_le, nat_lt, not, option_map, true, ℕ, ℤ, ◌&&◌, ◌++◌, ◌+◌, ◌==◌, ◌||◌, ◌∷◌}
+use Rattle.std.specs.Prelude.{Bool, List, None, Option, Some, [], false, if◌then◌else◌, int_le, is_some, length, nat_le, nat_lt, not, option_map, pos, suc, zero, true, ℕ, ℤ, ◌^◌, ◌&&◌, ◌++◌, ◌+◌, ◌==◌, ◌||◌, ◌∷◌}
 use Rattle.name_rules.specs.TypedParts.{also, also_all, exprs_of}
 use Rattle.typed_tree.specs.Decoded.{TypedPart}
 
@@ -58,7 +59,7 @@ indic_range s first last r = do
   u ← unless (lies_in s r.0) first StaticRange
   v ← unless (lies_in s r.1) last StaticRange
   w ← unless (int_le r.0 r.1) first StaticRange
-  if lies_in s r.0 && lies_in s r.1 && int_le r.0 r.1 then some (subtype.Scalar (record { kind = s.kind; low = r.0; high = r.1 })) else pure None
+  if lies_in s r.0 && lies_in s r.1 && int_le r.0 r.1 then some (subtype.Scalar (record { kind = s.kind; low = kept s.kind r.0; high = kept s.kind r.1 })) else pure None
 
 -- a subtype, with what its bounds mention
 abbrev pub Indicated : Type 0
@@ -197,7 +198,22 @@ own_type_of token r = do
   t ← both a z (own_type token (first_or r.0) (first_or r.1))
   pure (option_map (indicated (also_all (found_mentions r.0) (found_mentions r.1))) t)
 
+-- the exponent of a power of two, from one number on
+abbrev pub exponent_from : (left k : ℕ) → ℤ → Option ℕ
+exponent_from zero k z = None
+exponent_from (suc n) k z = if int_eq z (pos (2 ^ k)) then Some k else exponent_from n (suc k) z
+
+-- E07 StaticRange: a modulus that is no power of two from 2 to 2^64, at its first token
+abbrev pub modular_by : ℕ → ℕ → Option ℕ → Judging (Option Subtype)
+modular_by token first None = fault first StaticRange
+modular_by token first (Some k) = some (subtype.Scalar (base_of (kind.Modular token k)))
+
+-- E07 NotStatic: a modulus
+abbrev pub modular_type : ℕ → Found → Judging (Option Indicated)
+modular_type token f = static_number f >>= λ m. given m (λ z. modular_by token (first_of f.known) (exponent_from 64 1 z)) >>= λ t. pure (option_map (indicated (mentions_of f)) t)
+
 unfoldable pub defined : Names → Inside → Context → ℕ → Definition → Judging (Option Indicated)
+defined names level here token (syntax.ModularType m) = simple level here wanted.Other m >>= λ x. given x (modular_type token)
 defined names level here token (syntax.RangeType low high) = two_bounds level here low high >>= own_type_of token
 defined names level here token (syntax.ArrayType a) = array names level here a
 defined names level here token (syntax.RecordType c cs) = record_of names level here (c ∷ cs)
@@ -232,9 +248,9 @@ new_object names here token s constant value = do
   n ← number_of s
   if fits then (object_written names here token n cells constant value >>= λ m. some m) else pure None
 
--- an integer constant whose initial value is static and lies in its subtype is static (4.9)
+-- an integer constant, but for modular types, whose initial value is static and lies in its subtype is static (4.9)
 abbrev pub static_in : Subtype → Option ℤ → Option ℤ
-static_in (subtype.Scalar s) (Some z) = if is_integer s.kind && lies_in s z then Some z else None
+static_in (subtype.Scalar s) (Some z) = if is_integer s.kind && not (is_modular s.kind) && lies_in s z then Some z else None
 static_in _ _ = None
 
 -- an initial value: what is stored, with its static value

@@ -1,11 +1,11 @@
 -- The rules of operators (4.5). A wrong operand is blamed at the operator.
-use Rattle.ada_base.specs.Operation.{is_in_base}
+use Rattle.ada_base.specs.Operation.{is_in_base, turned}
 use Rattle.ada_base.specs.declared.operation.Base.TheVariants.{Narrow, Wide}
 use Rattle.ada_base.specs.declared.operation.Op.TheVariants as op
 use Rattle.ada_base.specs.declared.operation.Op.{Op}
 use Rattle.name_rules.specs.Found.{Found, opened, scalar, static, text_found, universal}
 use Rattle.name_rules.specs.Judging.{Judging, both, fault, given, joined, pure, some, ◌>>=◌}
-use Rattle.name_rules.specs.Types.{class_of, in_base, same}
+use Rattle.name_rules.specs.Types.{class_of, in_base, is_modular, same}
 use Rattle.name_rules.specs.Values.{asked, bounded, exact, first_of, fitting, is_kind, is_number, is_scalar, joint, kind_of, mentions_of, suits, value_of}
 use Rattle.name_rules.specs.declared.found.Found.TheVariants as known
 use Rattle.name_rules.specs.declared.found.Found.{Found as Known}
@@ -21,7 +21,7 @@ use Rattle.typed_tree.specs.declared.expressions.Sign.TheVariants as unary'
 use Rattle.typed_tree.specs.declared.expressions.Sign.{Sign as Unary}
 use Rattle.typed_tree.specs.declared.scalars.Class.TheVariants as class
 use Rattle.ada_base.specs.declared.operation.Comparison.{Comparison}
-use Rattle.std.specs.Prelude.{Bool, None, Option, Some, false, if◌then◌else◌, neg_ℤ, not, option_map, pos, unsigned_abs, ℕ, ℤ, ◌&&◌}
+use Rattle.std.specs.Prelude.{Bool, None, Option, Some, false, if◌then◌else◌, int_le, neg_ℤ, negsuc, not, option_map, pos, true, unsigned_abs, ℕ, ℤ, ◌&&◌}
 use Rattle.name_rules.specs.TypedParts.{also_all, exprs_of}
 use Rattle.typed_tree.specs.Decoded.{TypedPart, as_expr}
 
@@ -64,12 +64,19 @@ typed_operation o at k j a b = operation_by o at k j a b (value_of a.known) (val
 
 -- ---- on universal values
 
+abbrev pub is_digits : ℤ → Bool
+is_digits z = int_le (pos 0) z && int_le z (pos 18446744073709551615)
+
+-- a number of 64 binary digits is kept as in a cell of a modular type
+abbrev pub leaf_kept : ℤ → ℤ
+leaf_kept z = if is_in_base Wide z then z else if is_digits z then turned z else negsuc 0
+
 -- a static part of a universal expression: one that no type has is a fault wherever it takes a type
 abbrev pub leaf : ℕ → ℤ → TypedPart → TypedExpr
-leaf first z ms = typed.Static first (if is_in_base Wide z then z else pos 0) false (exprs_of ms)
+leaf first z ms = typed.Static first (leaf_kept z) false (exprs_of ms)
 
 abbrev pub leaf_limits : ℕ → ℤ → Limits
-leaf_limits first z = record { narrow = if is_in_base Narrow z then None else Some first; wide = if is_in_base Wide z then None else Some first }
+leaf_limits first z = record { narrow = if is_in_base Narrow z then None else Some first; wide = if is_in_base Wide z then None else Some first; word = if is_digits z then None else Some first }
 
 abbrev pub open_form : Known → TypedPart → Option (Limits × TypedPart)
 open_form (known.Universal first z alone) x = Some (leaf_limits first z, part.AnExpr (leaf first z x))
@@ -188,8 +195,16 @@ plain at x = given x (λ a. if is_number a.known then plain_by at a (kind_of a.k
 abbrev pub negation : ℕ → Found → Judging (Option Found)
 negation at a = asked kind.Boolean a >>= λ x. given x (λ e. some (scalar at kind.Boolean None (typed.Unary at unary'.Not class.Boolean (as_expr e))))
 
+-- or a number of a modular type
+abbrev pub complement : ℕ → Found → Kind → Judging (Option Found)
+complement at a k = asked k a >>= λ x. given x (λ e. some (scalar at k None (typed.Unary at unary'.Not (class_of k) (as_expr e))))
+
+abbrev pub not_by : ℕ → Found → Option Kind → Judging (Option Found)
+not_by at a None = fault at WrongType
+not_by at a (Some k) = if same k kind.Boolean then negation at a else if is_modular k then complement at a k else fault at WrongType
+
 unfoldable pub not_of : ℕ → Option Found → Judging (Option Found)
-not_of at x = given x (λ a. if is_kind kind.Boolean (kind_of a.known) then negation at a else fault at WrongType)
+not_of at x = given x (λ a. not_by at a (kind_of a.known))
 
 -- ---- `&` joins strings (4.5.3)
 
@@ -199,11 +214,6 @@ joined_texts at _ ps _ qs = fault at WrongType
 
 unfoldable pub joined_text : ℕ → Option Found → Option Found → Judging (Option Found)
 joined_text at x y = both x y (λ a b. joined_texts at a.known a.part b.known b.part)
-
--- ---- logical operators (4.5.1) take Booleans
-
-unfoldable pub logical : Op → ℕ → Option Found → Option Found → Judging (Option Found)
-logical o at x y = both x y (λ a b. if is_kind kind.Boolean (kind_of a.known) && is_kind kind.Boolean (kind_of b.known) then operation_on o at kind.Boolean kind.Boolean a b else fault at WrongType)
 
 -- ---- relations (4.5.2) take scalars of one type
 
@@ -224,6 +234,18 @@ compared_by c at a b k = if suits k a.known && suits k b.known then compared_at 
 
 unfoldable pub compared : Comparison → ℕ → Option Found → Option Found → Judging (Option Found)
 compared c at x y = both x y (λ a b. compared_by c at a b (common_kind (kind_of a.known) (kind_of b.known)))
+
+-- ---- logical operators (4.5.1) take Booleans, or numbers of one modular type
+
+abbrev pub is_logical_kind : Kind → Bool
+is_logical_kind kind.Boolean = true
+is_logical_kind k = is_modular k
+
+abbrev pub logical_by : Op → ℕ → Found → Found → Kind → Judging (Option Found)
+logical_by o at a b k = if is_logical_kind k && (suits k a.known && suits k b.known) then operation_on o at k k a b else fault at WrongType
+
+unfoldable pub logical : Op → ℕ → Option Found → Option Found → Judging (Option Found)
+logical o at x y = both x y (λ a b. logical_by o at a b (common_kind (kind_of a.known) (kind_of b.known)))
 
 -- ---- membership (4.5.2)
 

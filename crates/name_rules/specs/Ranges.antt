@@ -5,7 +5,7 @@ use Rattle.name_rules.specs.Found.{Bounded, Found, With}
 use Rattle.name_rules.specs.Judging.{Judging, both, fault, given, joined, pure, some, unless, ◌>>=◌}
 use Rattle.name_rules.specs.Names.{denoted_first}
 use Rattle.name_rules.specs.Operators.{both_mentions, common_kind}
-use Rattle.name_rules.specs.Types.{base_of, is_integer, lies_in}
+use Rattle.name_rules.specs.Types.{base_of, is_integer, is_modular, kept, lies_in}
 use Rattle.name_rules.specs.Values.{asked, first_of, is_number, is_scalar, kind_of, mentions_of, static_of_kind, static_value, suits, value_of, literal}
 use Rattle.name_rules.specs.declared.found.Denoted.TheVariants as denoted
 use Rattle.name_rules.specs.declared.found.Denoted.{Denoted as KnownDenoted}
@@ -20,7 +20,7 @@ use Rattle.name_rules.specs.declared.types.Wanted.TheVariants as wanted
 use Rattle.syntax_tree.specs.Syntax as syntax
 use Rattle.syntax_tree.specs.Syntax.{Range, Simple}
 use Rattle.typed_tree.specs.Decoded as part
-use Rattle.std.specs.Prelude.{Bool, None, Option, Some, false, if◌then◌else◌, int_le, not, option_map, ℕ, ℤ, ◌&&◌}
+use Rattle.std.specs.Prelude.{Bool, None, Option, Some, false, if◌then◌else◌, int_le, not, option_map, ℕ, ℤ, ◌&&◌, ◌||◌}
 use Rattle.name_rules.specs.TypedParts.{pair}
 use Rattle.typed_tree.specs.Decoded.{TypedPart}
 
@@ -42,11 +42,13 @@ bounds_of k a z = do
   y ← asked k z
   pure (joined range_part x y)
 
--- of their own type; a bound that is no scalar, or of another type than the first, is blamed at its first token
+-- of their own type; a bound that is no scalar, or of another type than the first, is blamed at its first token, and one of
+-- a modular type
 abbrev pub of_one_type : {A : Type 0} → Known → Known → Kind → (Kind → Judging (Option A)) → Judging (Option A)
 of_one_type a z k f =
     if not (is_scalar a) then fault (first_of a) WrongType else
-    if not (suits k a) then fault (first_of z) WrongType else f k
+    if not (suits k a) then fault (first_of z) WrongType else
+    if is_modular k then fault (first_of a) WrongType else f k
 
 -- the subtype of a parameter is that of its range: static bounds that aren't an empty range, or the subtype around
 abbrev pub narrowed : Scalar → Option ℤ → Option ℤ → Scalar
@@ -64,7 +66,7 @@ own_bounds first a z = of_one_type a.known z.known (common_kind (kind_of a.known
 
 -- with a subtype the bounds are of its type, and checked against it
 unfoldable pub checked_range : ℕ → Scalar → Found → Found → Judging (Option Bounded)
-checked_range first s a z = bounds_of s.kind a z >>= λ x. pure (option_map (bounded_by first s (Some s) a z) x)
+checked_range first s a z = if is_modular s.kind then fault first WrongType else bounds_of s.kind a z >>= λ x. pure (option_map (bounded_by first s (Some s) a z) x)
 
 -- a name that is a range, or a scalar subtype
 abbrev pub whole_range : ℕ → Kind → ℤ → ℤ → TypedPart → Bounded
@@ -72,7 +74,7 @@ whole_range first k low high ms = record { known = record { scalar = record { ki
 
 abbrev pub named_range : KnownDenoted → TypedPart → Judging (Option Bounded)
 named_range (denoted.Range first d) x = some (whole_range first d.kind d.low d.high x)
-named_range (denoted.Type first (subtype.Scalar s)) x = some (whole_range first s.kind s.low s.high part.Nothing)
+named_range (denoted.Type first (subtype.Scalar s)) x = if is_modular s.kind then fault first WrongType else some (whole_range first s.kind s.low s.high part.Nothing)
 named_range d x = fault (denoted_first d) WrongType
 
 abbrev pub scalar_type : KnownDenoted → Judging (Option Scalar)
@@ -131,15 +133,19 @@ preferred (Some k) a z = preferred_or k (kind_of a) (kind_of z)
 
 abbrev pub static_by : ℕ → Bool → Found → Found → Kind → Judging (Option Static)
 static_by first must_hold a z k =
-    if not (is_number a.known) then fault (first_of a.known) WrongType else
+    if not (is_number a.known) || is_modular k then fault (first_of a.known) WrongType else
     if not (suits k a.known && suits k z.known) then fault (first_of z.known) WrongType else
     (both_static k a z >>= λ s. given s (spanned first must_hold k a z))
 
 unfoldable pub static_bounds : ℕ → Bool → Option Kind → Found → Found → Judging (Option Static)
 static_bounds first must_hold want a z = static_by first must_hold a z (preferred want a.known z.known)
 
+-- the type of an index
+abbrev pub is_index : Kind → Bool
+is_index k = is_integer k && not (is_modular k)
+
 abbrev pub static_scalar : ℕ → Scalar → Judging (Option Static)
-static_scalar first s = if is_integer s.kind then some (record { known = record { kind = s.kind; low = s.low; high = s.high }; part = part.Nothing }) else fault first WrongType
+static_scalar first s = if is_index s.kind then some (record { known = record { kind = s.kind; low = s.low; high = s.high }; part = part.Nothing }) else fault first WrongType
 
 abbrev pub static_name : ℕ → KnownDenoted → TypedPart → Judging (Option Static)
 static_name first (denoted.Range at d) x = some (record { known = d; part = x })
@@ -148,7 +154,7 @@ static_name first d x = fault (denoted_first d) WrongType
 
 unfoldable pub static_checked : ℕ → Bool → Scalar → Found → Found → Judging (Option Static)
 static_checked first must_hold t a z =
-    if is_integer t.kind then (both_static t.kind a z >>= λ v. given v (checked_span first must_hold t a z)) else fault first WrongType
+    if is_index t.kind then (both_static t.kind a z >>= λ v. given v (checked_span first must_hold t a z)) else fault first WrongType
 
 -- E07: a bound of an array or iterated association that isn't static
 unfoldable pub static_range : Inside → Context → Bool → Option Kind → Range → Judging (Option Static)
@@ -160,7 +166,7 @@ static_range level here must_hold want (syntax.Constrained n low high) = do
   r ← two_bounds level here low high
   given s (λ t. both r.0 r.1 (static_checked (first_token.of_name n) must_hold t))
 
--- ---- choices of static values: what they mention is their part
+-- ---- choices of static values, as cells keep them: what they mention is their part
 
 pub record Span' : Type 0 where
   pub at : ℕ
@@ -171,11 +177,11 @@ abbrev pub Chosen : Type 0
 Chosen = With Span'
 
 abbrev pub one_value : Kind → Found → Judging (Option Chosen)
-one_value k f = static_of_kind k f >>= λ v. given v (λ z. some (record { known = record { at = first_of f.known; low = z; high = z }; part = mentions_of f }))
+one_value k f = static_of_kind k f >>= λ v. given v (λ z. some (record { known = record { at = first_of f.known; low = kept k z; high = kept k z }; part = mentions_of f }))
 
 abbrev pub two_values : Kind → Found → Found → Judging (Option Chosen)
 two_values k a z = static_of_kind k a >>= λ u. static_of_kind k z >>= λ v.
-    both u v (λ x y. some (record { known = record { at = first_of a.known; low = x; high = y }; part = both_mentions a z }))
+    both u v (λ x y. some (record { known = record { at = first_of a.known; low = kept k x; high = kept k y }; part = both_mentions a z }))
 
 -- E07 NotStatic: a choice that isn't static; of a type that isn't known it is judged for itself
 abbrev pub values_of : Option Kind → Option Found → Judging (Option Chosen)

@@ -11,7 +11,7 @@ use Rattle.name_rules.specs.Operators.{open_of}
 use Rattle.name_rules.specs.Scope.{stands_for}
 use Rattle.name_rules.specs.Shapes.{primary_of_expr}
 use Rattle.name_rules.specs.Symbols.{max_name, min_name, symbol, text}
-use Rattle.name_rules.specs.Types.{class_of, same, typed_scalar}
+use Rattle.name_rules.specs.Types.{class_of, is_modular, same, typed_scalar}
 use Rattle.name_rules.specs.Values.{asked, is_number, joint, kind_of, suits}
 use Rattle.name_rules.specs.declared.found.Denoted.TheVariants as denoted
 use Rattle.name_rules.specs.declared.found.Denoted.{Denoted as KnownDenoted}
@@ -122,9 +122,17 @@ numeric g c i at o x v None None = pure (joined (open_reduction g c i at o) (ope
 numeric g c i at o x v (Some k) _ = of_kind g c i at o k x v
 numeric g c i at o x v None (Some k) = of_kind g c i at o k x v
 
+abbrev pub modular_or : Option Kind → Kind → Kind
+modular_or None j = j
+modular_or (Some k) j = if is_modular k then k else j
+
+-- logical operators take Booleans, or numbers of one modular type
+abbrev pub logical_kind : Option Kind → Option Kind → Kind
+logical_kind k j = modular_or k (modular_or j kind.Boolean)
+
 abbrev pub by_operator : Going → TypedPart → TypedPart → ℕ → Op → Found → Found → Judging (Option Found)
 by_operator g c i at o x v =
-    if is_logical o then of_kind g c i at o kind.Boolean x v else
+    if is_logical o then of_kind g c i at o (logical_kind (kind_of x.known) (kind_of v.known)) x v else
     if is_number x.known && is_number v.known then numeric g c i at o x v (kind_of x.known) (kind_of v.known) else fault at ReduceRule
 
 -- a function takes an accumulator, which is its result, and a value; where it is parallel both are of one type

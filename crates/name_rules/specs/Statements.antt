@@ -12,7 +12,7 @@ use Rattle.name_rules.specs.Parts.{name, new_site, valued_by}
 use Rattle.name_rules.specs.Primaries.{inside, level_above}
 use Rattle.name_rules.specs.Symbols.{symbol}
 use Rattle.name_rules.specs.Types.{base_of, wanted_of}
-use Rattle.name_rules.specs.Values.{first_of, is_scalar, nominal_of, own_kind, settled_found, stored}
+use Rattle.name_rules.specs.Values.{first_of, is_modular_kind, is_scalar, kind_of, nominal_of, own_kind, settled_found, stored}
 use Rattle.name_rules.specs.declared.found.Denoted.TheVariants as denoted
 use Rattle.name_rules.specs.declared.found.Denoted.{Denoted as KnownDenoted}
 use Rattle.name_rules.specs.declared.found.Found.TheVariants as known
@@ -39,7 +39,7 @@ use Rattle.typed_tree.specs.Syntax as typed
 use Rattle.typed_tree.specs.Syntax.{Selections, Handled as TypedHandled}
 use Rattle.typed_tree.specs.declared.program.SiteKind.TheVariants as site
 use Rattle.std.specs.List.{find}
-use Rattle.std.specs.Prelude.{Bool, List, None, Option, Some, [], false, if◌then◌else◌, length, nat_le, not, option_map, reverse, slice_get, suc, true, zero, ℕ, ◌++◌, ◌+◌, ◌-◌, ◌==◌, ◌∷◌}
+use Rattle.std.specs.Prelude.{Bool, List, None, Option, Some, [], false, if◌then◌else◌, length, nat_le, not, option_map, reverse, slice_get, suc, true, zero, ℕ, ◌++◌, ◌+◌, ◌-◌, ◌==◌, ◌∷◌, ◌&&◌}
 use Rattle.name_rules.specs.TypedParts.{pair, also, exprs_of, selections_of, nested_stmts}
 use Rattle.typed_tree.specs.Decoded.{TypedPart, as_expr, as_optional, as_iteration, as_chunk, as_decls, as_stmts, as_alternatives, as_arms, as_handlers, as_body}
 use Rattle.typed_tree.specs.Latest.{turned}
@@ -261,7 +261,7 @@ selector_of s x = record { known = s; part = x }
 
 -- E06: a selecting expression that is no scalar
 abbrev pub selector : Found → Judging (Option Selector)
-selector f = if is_scalar f.known then (settled_found f >>= λ e. pure (option_map (selector_of (selecting f.known)) e)) else fault (first_of f.known) WrongType
+selector f = if is_scalar f.known && not (is_modular_kind (kind_of f.known)) then (settled_found f >>= λ e. pure (option_map (selector_of (selecting f.known)) e)) else fault (first_of f.known) WrongType
 
 abbrev pub closed_where : ℕ → Option Selector → Covering → Judging (Unit {0})
 closed_where at None c = pure tt

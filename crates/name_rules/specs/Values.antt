@@ -3,7 +3,7 @@ use Rattle.ada_base.specs.Operation.{unbounded}
 use Rattle.ada_base.specs.declared.operation.Op.{Op}
 use Rattle.name_rules.specs.Found.{Found}
 use Rattle.name_rules.specs.Judging.{Judging, fault, given, pure, some, unless, ◌>>=◌}
-use Rattle.name_rules.specs.Types.{check_at, class_of, in_base, is_integer, same, typed_scalar}
+use Rattle.name_rules.specs.Types.{check_at, class_of, in_base, is_integer, is_modular, is_word, kept, same, typed_scalar}
 use Rattle.name_rules.specs.declared.found.Found.TheVariants as known
 use Rattle.name_rules.specs.declared.found.Found.{Found as Known}
 use Rattle.name_rules.specs.declared.found.Limits.{Limits}
@@ -17,8 +17,9 @@ use Rattle.name_rules.specs.declared.types.Subtype.{Subtype}
 use Rattle.typed_tree.specs.Decoded as part
 use Rattle.typed_tree.specs.Syntax as typed
 use Rattle.typed_tree.specs.Syntax.{Composite, Selections, Expr as TypedExpr}
-use Rattle.typed_tree.specs.Classes.{with_class}
-use Rattle.std.specs.Prelude.{Bool, None, Option, Some, false, if◌then◌else◌, int_le, is_some, negsuc, option_map, pos, true, ℕ, ℤ, ◌&&◌, ◌==◌, ◌||◌}
+use Rattle.typed_tree.specs.Classes.{beyond_digits, with_class}
+pub use Rattle.typed_tree.specs.Classes.{sooner}
+use Rattle.std.specs.Prelude.{Bool, None, Option, Some, false, if◌then◌else◌, int_le, is_some, nat_lt, negsuc, not, option_map, pos, true, ℕ, ℤ, ◌&&◌, ◌==◌, ◌||◌}
 use Rattle.name_rules.specs.TypedParts.{exprs_of, selections_of}
 use Rattle.typed_tree.specs.Decoded.{TypedPart, as_expr}
 
@@ -110,7 +111,7 @@ literal at z alone ms = part.AnExpr (typed.Static at z alone (exprs_of ms))
 
 -- E07 StaticRange: a static expression without a value in its range
 unfoldable pub valued : Kind → ℕ → ℤ → Bool → TypedPart → Judging (Option TypedPart)
-valued k first z alone ms = if in_base k z then some (literal first z alone ms) else fault first StaticRange
+valued k first z alone ms = if in_base k z then some (literal first (kept k z) alone ms) else fault first StaticRange
 
 -- the same where the value alone is used
 unfoldable pub fitting : Kind → ℕ → ℤ → Judging Bool
@@ -119,26 +120,26 @@ fitting k first z = unless (in_base k z) first StaticRange >>= λ u. pure (in_ba
 -- ---- a universal expression takes a type
 
 -- the first static part that isn't in the type's base range
-abbrev pub beyond : Kind → Limits → Option ℕ
-beyond (kind.Own n) l = l.wide
-beyond _ l = l.narrow
+abbrev pub beyond_range : Kind → Limits → Option ℕ
+beyond_range (kind.Own n) l = l.wide
+beyond_range _ l = l.narrow
+
+abbrev pub beyond : Kind → Limits → TypedExpr → Option ℕ
+beyond (kind.Modular n k) l e = if nat_lt k 64 then beyond_digits k e else l.word
+beyond k l e = beyond_range k l
 
 abbrev pub no_limits : Limits
-no_limits = record { narrow = None; wide = None }
-
-abbrev pub sooner : Option ℕ → Option ℕ → Option ℕ
-sooner None b = b
-sooner (Some a) b = Some a
+no_limits = record { narrow = None; wide = None; word = None }
 
 abbrev pub joint : Limits → Limits → Limits
-joint l m = record { narrow = sooner l.narrow m.narrow; wide = sooner l.wide m.wide }
+joint l m = record { narrow = sooner l.narrow m.narrow; wide = sooner l.wide m.wide; word = sooner l.word m.word }
 
 abbrev pub settled_by : Kind → TypedExpr → Option ℕ → Judging (Option TypedPart)
 settled_by k e None = some (part.AnExpr (with_class (class_of k) e))
 settled_by k e (Some at) = fault at StaticRange
 
 unfoldable pub settled : Kind → Limits → TypedExpr → Judging (Option TypedPart)
-settled k l e = settled_by k e (beyond k l)
+settled k l e = settled_by k e (beyond k l e)
 
 -- ---- an expression whose place asks for a type
 
@@ -146,18 +147,18 @@ abbrev pub object_expr : ObjectName → Selections → Scalar → Bool → Typed
 object_expr p ss s true = typed.Variable p.first p.root ss (typed_scalar s)
 object_expr p ss s false = typed.Constant p.first p.root ss (typed_scalar s)
 
-abbrev pub object_value : ObjectName → Selections → Scalar → Option ℤ → TypedPart
-object_value p ss s (Some z) = literal p.first z false part.Nothing
-object_value p ss s None = part.AnExpr (object_expr p ss s p.variable)
+abbrev pub object_value : Kind → ObjectName → Selections → Scalar → Option ℤ → Judging (Option TypedPart)
+object_value k p ss s (Some z) = valued k p.first z false part.Nothing
+object_value k p ss s None = some (part.AnExpr (object_expr p ss s p.variable))
 
 abbrev pub place_asked : Kind → ObjectName → Selections → Subtype → Judging (Option TypedPart)
-place_asked k p ss (subtype.Scalar s) = if same s.kind k then some (object_value p ss s p.value) else fault p.first WrongType
+place_asked k p ss (subtype.Scalar s) = if same s.kind k then object_value k p ss s p.value else fault p.first WrongType
 place_asked k p ss (subtype.Composite n) = fault p.first WrongType
 
 abbrev pub asked_form : Kind → Known → TypedPart → Judging (Option TypedPart)
 asked_form k (known.Universal first z alone) x = if is_integer k then valued k first z alone x else fault first WrongType
 asked_form k (known.Open first l) x = if is_integer k then settled k l (as_expr x) else fault first WrongType
-asked_form k (known.Static first j z) x = if same j k then some (literal first z false x) else fault first WrongType
+asked_form k (known.Static first j z) x = if same j k then valued k first z false x else fault first WrongType
 asked_form k (known.Object p) x = place_asked k p (selections_of x) p.subtype
 asked_form k (known.Scalar first j n) x = if same j k then some x else fault first WrongType
 asked_form k f x = fault (first_of f) WrongType
@@ -179,9 +180,17 @@ settled_found f = asked (own_kind f.known) f
 
 -- ---- an expression whose place asks for an integer (any, or Integer where it is universal)
 
--- E06, where it is no integer
+abbrev pub is_modular_kind : Option Kind → Bool
+is_modular_kind None = false
+is_modular_kind (Some k) = is_modular k
+
+abbrev pub is_word_kind : Option Kind → Bool
+is_word_kind None = false
+is_word_kind (Some k) = is_word k
+
+-- E06, where it is no integer, or of a modular type with 64 binary digits
 unfoldable pub any_integer : Found → Judging (Option TypedPart)
-any_integer f = if is_number f.known then settled_found f else fault (first_of f.known) WrongType
+any_integer f = if is_number f.known && not (is_word_kind (kind_of f.known)) then settled_found f else fault (first_of f.known) WrongType
 
 unfoldable pub any_scalar : Found → Judging (Option TypedPart)
 any_scalar f = if is_scalar f.known then settled_found f else fault (first_of f.known) WrongType

@@ -16,12 +16,13 @@ pub struct ObjectName {
     pub value: Option<i64>,
 }
 
-/// The first static part of a universal expression that isn't a value of 32 bits, and the first that isn't one of
-/// 64 bits.
+/// The first static part of a universal expression that isn't a value of 32 bits, the first that isn't one of 64 bits, and
+/// the first that is no number of 64 binary digits.
 #[derive(Clone, Copy)]
 pub struct Limits {
     pub narrow: Option<u32>,
     pub wide: Option<u32>,
+    pub word: Option<u32>,
 }
 
 /// What an expression was found to be, with its first token.
@@ -42,7 +43,7 @@ pub enum Found {
     Static {
         first: u32,
         kind: Kind,
-        value: i64,
+        value: i128,
     },
     /// The name of an object.
     Object(ObjectName),

@@ -1,8 +1,7 @@
 -- What names give of a program's text.
-use Rattle.std.proofs.Common.{◌≡◌, ℕ, zero, suc, ◌+◌, ◌*◌, ◌<◌, ◌≤◌, ℤ, pos, negsuc, ◌+ℤ◌, ◌-ℤ◌, List, [], ◌∷◌, slice_get, Some, true, int_le, refl, subst, arith}
+use Rattle.std.proofs.Common.{◌≡◌, ℕ, zero, suc, ◌*◌, ◌≤◌, ℤ, pos, negsuc, ◌+ℤ◌, ◌-ℤ◌, List, [], ◌∷◌, true, int_le, refl, subst, arith}
 use Rattle.std.proofs.lemmas.Int.{ints}
 use Rattle.std.proofs.lemmas.Option.{none-some}
-use Rattle.typed_tree.specs.Syntax as typed
 use Rattle.typed_tree.specs.Syntax.{Array, Subtype}
 use Rattle.typed_tree.specs.declared.program.Bounds.{Bounds}
 use Rattle.ada_meaning.specs.Values.{components, count, to_nat}

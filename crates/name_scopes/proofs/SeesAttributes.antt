@@ -7,15 +7,15 @@ use Rattle.syntax_tree.specs.Syntax.{Args}
 use Rattle.typed_tree.specs.Decoded as part
 use Rattle.typed_tree.specs.Decoded.{TypedPart, as_expr}
 use Rattle.typed_tree.specs.Syntax.{Expr as TypedExpr}
-use Rattle.name_rules.specs.Attributes.{alone, attribute_found, bound_alone, bound_in, bound_with, dimension_at, dimension_bound, dimension_given, dimensions_in, extreme, first_named, image_text, is_array_object, is_bound, is_reduction, mentioned, object_image, one_argument, one_dimension, one_given, one_named, prefix_of, prefix_subtype, reduced_alone, scalar_bound, scalar_with, settled_attribute, settled_form, step, stepped, two_arguments_of, two_given, two_named}
+use Rattle.name_rules.specs.Attributes.{alone, attribute_found, bound_alone, bound_in, bound_with, dimension_at, dimension_bound, dimension_given, dimensions_in, extreme, first_named, image_text, is_array_object, is_bound, is_reduction, mentioned, object_image, one_argument, one_dimension, one_given, one_named, prefix_of, prefix_subtype, reduced_alone, scalar_bound, scalar_with, settled_attribute, settled_form, step, stepped, two_arguments_of, two_given, two_named, is_left_out, bound_found}
 use Rattle.name_rules.specs.Calls.{arg_names, operands}
 use Rattle.name_rules.specs.Expressions.{Inside}
-use Rattle.name_rules.specs.Found.{Denoted, Found, denote, parameter_found, static, universal, value_denoted}
-use Rattle.name_rules.specs.Judging.{◌>>=◌, fault, given, joined, read}
+use Rattle.name_rules.specs.Found.{Denoted, Found, denote, parameter_found, static, universal, value_denoted, scalar}
+use Rattle.name_rules.specs.Judging.{◌>>=◌, fault, given, joined, read, some}
 use Rattle.name_rules.specs.Names.{denoted_first, wrong_call}
 use Rattle.name_rules.specs.Operators.{limit_of}
 use Rattle.name_rules.specs.TypedParts.{also_all}
-use Rattle.name_rules.specs.Types.{extent, is_integer}
+use Rattle.name_rules.specs.Types.{extent, is_integer, is_modular}
 use Rattle.name_rules.specs.Values.{asked, first_of, is_number, mentions_of, own_kind, static_of_kind}
 use Rattle.name_rules.specs.declared.found.Attribute.TheVariants as attribute'
 use Rattle.name_rules.specs.declared.found.Attribute.{Attribute}
@@ -51,13 +51,22 @@ module _ (W : World) (V : Sight) where
 
   pub v-attribute_found : (d : Denoted) (at : ℕ) (a : Option Attribute) → DenotedOf W V d → Sees W V (Maybe (DenotedOf W V)) (attribute_found d at a)
   v-attribute_found d at None h = v-fault W V (DenotedOf W V) at Unknown
-  v-attribute_found d at (Some a) h = v-some W V (DenotedOf W V) (denote (denoted.Attribute (denoted_first d.known) (prefix_of d.known) at a) d.part) (prefix-formed d.known d.part h)
+  v-attribute_found d at (Some a) h =
+      v-if W V (Maybe (DenotedOf W V)) (is_left_out (prefix_of d.known) a) (fault at Unknown) (some (denote (denoted.Attribute (denoted_first d.known) (prefix_of d.known) at a) d.part)) (v-fault W V (DenotedOf W V) at Unknown)
+      (v-some W V (DenotedOf W V) (denote (denoted.Attribute (denoted_first d.known) (prefix_of d.known) at a) d.part) (prefix-formed d.known d.part h))
 
   -- ---- First, Last, Length, Range
 
+  bound-seen : (first : ℕ) (k : Kind) (z : ℤ) → FoundOf W V (bound_found first k z)
+  bound-seen first k z = by (is_modular k)
+    where
+      by : (b : Bool) → FoundOf W V (if b then scalar first k None (limit_of first z) else static first k z part.Nothing)
+      by true = tt
+      by false = tt
+
   v-scalar_bound : (first : ℕ) (s : Scalar) (a : Attribute) → Sees W V (Maybe (DenotedOf W V)) (scalar_bound first s a)
-  v-scalar_bound first s attribute'.First = v-some W V (DenotedOf W V) (value_denoted (static first s.kind s.low part.Nothing)) tt
-  v-scalar_bound first s attribute'.Last = v-some W V (DenotedOf W V) (value_denoted (static first s.kind s.high part.Nothing)) tt
+  v-scalar_bound first s attribute'.First = v-some W V (DenotedOf W V) (value_denoted (bound_found first s.kind s.low)) (bound-seen first s.kind s.low)
+  v-scalar_bound first s attribute'.Last = v-some W V (DenotedOf W V) (value_denoted (bound_found first s.kind s.high)) (bound-seen first s.kind s.high)
   v-scalar_bound first s a = v-fault W V (DenotedOf W V) first WrongType
 
   v-dimension_bound : (first : ℕ) (ms : TypedPart) (a : Attribute) (d : Dimension) → MentionsOf W V ms → Sees W V (Maybe (DenotedOf W V)) (dimension_bound first ms a d)

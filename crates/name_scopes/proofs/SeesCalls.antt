@@ -16,7 +16,7 @@ use Rattle.name_rules.specs.Found.{Found}
 use Rattle.name_rules.specs.Judging.{◌>>=◌, fault, given, pure, read, some, joined, where_clean}
 use Rattle.name_rules.specs.TypedParts.{also, selections_of}
 use Rattle.name_rules.specs.Types.{is_integer, same, typed_scalar, wanted_of}
-use Rattle.name_rules.specs.Values.{first_of, is_number, settled_found}
+use Rattle.name_rules.specs.Values.{first_of, is_number, settled_found, own_kind}
 use Rattle.name_rules.specs.declared.found.Found.TheVariants as known
 use Rattle.name_rules.specs.declared.found.Found.{Found as Known}
 use Rattle.name_rules.specs.declared.found.ObjectName.{ObjectName}
@@ -280,7 +280,7 @@ module _ (W : World) (V : Sight) where
   v-converted : (first : ℕ) (s : Scalar) (f : Found) → FoundOf W V f → Sees W V (Maybe (DenotedOf W V)) (converted first s f)
   v-converted first s f h =
       v-if W V (Maybe (DenotedOf W V)) (is_number f.known) _ (fault (first_of f.known) WrongType)
-      (v-bind W V (Maybe (ExprOf W V)) (Maybe (DenotedOf W V)) (settled_found f) _ (v-settled_found W V f h) (λ e q. v-given W V (ExprOf W V) (DenotedOf W V) e _ q (λ x r. v-some W V (DenotedOf W V) (conversion_of first s x) r)))
+      (v-bind W V (Maybe (ExprOf W V)) (Maybe (DenotedOf W V)) (settled_found f) _ (v-settled_found W V f h) (λ e q. v-given W V (ExprOf W V) (DenotedOf W V) e _ q (λ x r. v-some W V (DenotedOf W V) (conversion_of first (own_kind f.known) s x) r)))
       (v-fault W V (DenotedOf W V) (first_of f.known) WrongType)
 
   v-one_operand : (bracket first : ℕ) (s : Scalar) (ns : List (Option ℕ)) (fs : List Found) → AllFound fs → Sees W V (Maybe (DenotedOf W V)) (one_operand bracket first s ns fs)

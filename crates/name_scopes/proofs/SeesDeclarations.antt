@@ -16,7 +16,7 @@ use Rattle.typed_tree.specs.Syntax.{Program}
 use Rattle.typed_tree.specs.declared.program.Object.{Object}
 use Rattle.name_rules.specs.Declarations as d
 use Rattle.name_rules.specs.Declarations.{Building, Dimensions, Indicated, Initial, all_ids, indicated}
-use Rattle.name_rules.specs.Expressions.{Inside, expr}
+use Rattle.name_rules.specs.Expressions.{Inside, expr, simple}
 use Rattle.name_rules.specs.Found.{Found}
 use Rattle.name_rules.specs.Judging.{◌>>=◌, fault, given, joined, pure, read, some}
 use Rattle.name_rules.specs.Limits.{most_cells, most_dimensions, most_objects}
@@ -44,7 +44,7 @@ use Rattle.name_rules.specs.declared.types.Wanted.TheVariants as wanted
 use Rattle.name_laws.proofs.CellsSound.{NumberIn, number_in, number_kept}
 use Rattle.name_laws.proofs.Fitting.{Fits, fits_constant, is_number}
 use Rattle.name_laws.proofs.KeepsDeclarations as k
-use Rattle.name_laws.proofs.KeepsExpressions.{k-expr}
+use Rattle.name_laws.proofs.KeepsExpressions.{k-expr, k-simple}
 use Rattle.name_laws.proofs.KeepsRanges.{k-two_bounds}
 use Rattle.name_laws.proofs.KeepsScope.{k-free}
 use Rattle.name_laws.proofs.KeepsTypes.{k-number_of, k-written_shape}
@@ -58,7 +58,7 @@ use Rattle.name_scopes.proofs.SeesBack.{And, Back, Leads, Near, b-any, b-bind, b
 use Rattle.name_scopes.proofs.SeesFound.{AreOf, Around, Each, LevelSees, TargetOf, ValueOf, WhatOf, each-all, entity}
 use Rattle.name_scopes.proofs.SeesIterations.{Wider, around-wider, either, wider-joined, wider-same, with-entry}
 use Rattle.name_scopes.proofs.SeesShapes.{Facts, object-size}
-use Rattle.name_scopes.proofs.SeesTypes.{InitialOf, IsStored, v-dimensions_from, v-indic, v-initial, v-number, v-range_type}
+use Rattle.name_scopes.proofs.SeesTypes.{InitialOf, IsStored, v-dimensions_from, v-indic, v-initial, v-number, v-range_type, v-modulus}
 use Rattle.name_scopes.proofs.SeesValues.{exprs-within}
 
 -- what is judged in brackets
@@ -291,6 +291,11 @@ module _ (P : Program) (shown : ℕ → Entity → Bool) (L : Log) (F : Facts P 
       let x = two_bounds level here low high >>= d.own_type_of token in
       b-lift P shown L F V G (Maybe (IndicatedIn V)) x (k-bind leading.walk (two_bounds level here low high) (d.own_type_of token) (k-two_bounds leading.walk level here low high l.keeps) (λ y. k.k-own_type_of leading.walk token y))
       (λ log m g. v-range_type (now P shown L F log m) V level here token low high (l.sees (now P shown L F log m)) (r g log m))
+  b-defined V G names level here token (syntax.ModularType m) l r =
+      let x = simple level here wanted.Other m >>= λ y. given y (d.modular_type token) in
+      b-lift P shown L F V G (Maybe (IndicatedIn V)) x
+      (k-bind leading.walk (simple level here wanted.Other m) (λ y. given y (d.modular_type token)) (k-simple leading.walk level here wanted.Other m l.keeps) (λ y. k-given leading.walk y (d.modular_type token) (λ f. k.k-modular_type leading.walk token f)))
+      (λ log n g. v-modulus (now P shown L F log n) V level here token m (l.sees (now P shown L F log n)) (r g log n))
   b-defined V G names level here token (syntax.ArrayType a) l r = b-array V G names level here a l r
   b-defined V G names level here token (syntax.RecordType c cs) l r = b-record_of V G names level here (c ∷ cs) l r
 

@@ -1,6 +1,6 @@
 -- What is found is in scope: ranges and choices.
 use Rattle.std.proofs.Common.{ℕ, ℤ, Option, Some, None, Bool, option_map, int_le, ◌&&◌}
-use Rattle.std.specs.Prelude.{not}
+use Rattle.std.specs.Prelude.{not, ◌||◌}
 use Rattle.name_scopes.proofs.Seen.{SeenExpr}
 use Rattle.syntax_tree.specs.FirstTokens as first_token
 use Rattle.syntax_tree.specs.Syntax as syntax
@@ -12,9 +12,9 @@ use Rattle.name_rules.specs.Found.{Bounded, Denoted, Found}
 use Rattle.name_rules.specs.Judging.{fault, given, joined, pure, some}
 use Rattle.name_rules.specs.Names.{denoted_first}
 use Rattle.name_rules.specs.Operators.{both_mentions, common_kind}
-use Rattle.name_rules.specs.Ranges.{Chosen, Static, both_static, bounded_by, bounds_of, checked_range, checked_span, chosen_span, chosen_value, dimension, inside_subtype, named_range, of_static, one_value, own_bounds, own_range, preferred, range, range_part, range_values, scalar_type, spanned, static_bounds, static_checked, static_name, static_range, static_scalar, two_bounds, two_values, values_of, whole_range}
+use Rattle.name_rules.specs.Ranges.{Chosen, Static, both_static, bounded_by, bounds_of, checked_range, checked_span, chosen_span, chosen_value, dimension, inside_subtype, named_range, of_static, one_value, own_bounds, own_range, preferred, range, range_part, range_values, scalar_type, spanned, static_bounds, static_checked, static_name, static_range, static_scalar, two_bounds, two_values, values_of, whole_range, is_index}
 use Rattle.name_rules.specs.TypedParts.{high_of, low_of}
-use Rattle.name_rules.specs.Types.{base_of, is_integer, lies_in}
+use Rattle.name_rules.specs.Types.{base_of, lies_in, is_modular, kept}
 use Rattle.name_rules.specs.Values.{asked, first_of, is_number, is_scalar, kind_of, mentions_of, static_of_kind, static_value, suits, value_of}
 use Rattle.name_rules.specs.declared.found.Denoted.TheVariants as denoted
 use Rattle.name_rules.specs.declared.found.Denoted.{Denoted as KnownDenoted}
@@ -65,19 +65,23 @@ module _ (W : World) (V : Sight) where
   v-own_bounds first a z g h =
       let k = common_kind (kind_of a.known) (kind_of z.known) in
       v-if W V (Maybe BoundedOf) (not (is_scalar a.known)) (fault (first_of a.known) WrongType) _ (v-fault W V BoundedOf (first_of a.known) WrongType)
-      (v-if W V (Maybe BoundedOf) (not (suits k a.known)) (fault (first_of z.known) WrongType) (own_range first a z k) (v-fault W V BoundedOf (first_of z.known) WrongType) (v-own_range first a z k g h))
+      (v-if W V (Maybe BoundedOf) (not (suits k a.known)) (fault (first_of z.known) WrongType) _ (v-fault W V BoundedOf (first_of z.known) WrongType)
+      (v-if W V (Maybe BoundedOf) (is_modular k) (fault (first_of a.known) WrongType) (own_range first a z k) (v-fault W V BoundedOf (first_of a.known) WrongType) (v-own_range first a z k g h)))
 
   v-checked_range : (first : ℕ) (s : Scalar) (a z : Found) → FoundOf W V a → FoundOf W V z → Sees W V (Maybe BoundedOf) (checked_range first s a z)
   unfolding checked_range
   v-checked_range first s a z g h =
-      v-bind W V (Maybe RangeOf) (Maybe BoundedOf) (bounds_of s.kind a z) _ (v-bounds_of s.kind a z g h) (λ x q. v-pure W V (Maybe BoundedOf) (option_map (bounded_by first s (Some s) a z) x) (mapped RangeOf BoundedOf (bounded_by first s (Some s) a z) x q (λ y t. t)))
+      v-if W V (Maybe BoundedOf) (is_modular s.kind) (fault first WrongType) _ (v-fault W V BoundedOf first WrongType)
+      (v-bind W V (Maybe RangeOf) (Maybe BoundedOf) (bounds_of s.kind a z) _ (v-bounds_of s.kind a z g h) (λ x q. v-pure W V (Maybe BoundedOf) (option_map (bounded_by first s (Some s) a z) x) (mapped RangeOf BoundedOf (bounded_by first s (Some s) a z) x q (λ y t. t))))
 
   whole-range : (first : ℕ) (k : Kind) (low high : ℤ) (ms : TypedPart) → MentionsOf W V ms → BoundedOf (whole_range first k low high ms)
   whole-range first k low high ms h = (exprs-seen W V ms h, exprs-seen W V part.Nothing tt)
 
   v-named_range : (k : KnownDenoted) (x : TypedPart) → DenotesOf W V k x → Sees W V (Maybe BoundedOf) (named_range k x)
   v-named_range (denoted.Range first d) x h = v-some W V BoundedOf (whole_range first d.kind d.low d.high x) (whole-range first d.kind d.low d.high x h)
-  v-named_range (denoted.Type first (subtype.Scalar s)) x h = v-some W V BoundedOf (whole_range first s.kind s.low s.high part.Nothing) (whole-range first s.kind s.low s.high part.Nothing tt)
+  v-named_range (denoted.Type first (subtype.Scalar s)) x h =
+      v-if W V (Maybe BoundedOf) (is_modular s.kind) (fault first WrongType) (some (whole_range first s.kind s.low s.high part.Nothing)) (v-fault W V BoundedOf first WrongType)
+      (v-some W V BoundedOf (whole_range first s.kind s.low s.high part.Nothing) (whole-range first s.kind s.low s.high part.Nothing tt))
   v-named_range k x h = v-fault W V BoundedOf (denoted_first k) WrongType
 
   v-scalar_type_of : (k : KnownDenoted) → Sees W V (Maybe Any) (scalar_type k)
@@ -132,7 +136,7 @@ module _ (W : World) (V : Sight) where
   unfolding static_bounds
   v-static_bounds first must want a z g h =
       let k = preferred want a.known z.known in
-      v-if W V (Maybe StaticOf) (not (is_number a.known)) (fault (first_of a.known) WrongType) _ (v-fault W V StaticOf (first_of a.known) WrongType)
+      v-if W V (Maybe StaticOf) (not (is_number a.known) || is_modular k) (fault (first_of a.known) WrongType) _ (v-fault W V StaticOf (first_of a.known) WrongType)
       (v-if W V (Maybe StaticOf) (not (suits k a.known && suits k z.known)) (fault (first_of z.known) WrongType) _ (v-fault W V StaticOf (first_of z.known) WrongType)
       (v-bind W V (Maybe (λ r. MentionsOf W V (both_mentions a z))) (Maybe StaticOf) (both_static k a z) _ (v-both_static k a z g h) (λ v q.
       v-given W V (λ r. MentionsOf W V (both_mentions a z)) StaticOf v (spanned first must k a z) q (λ r p. v-spanned first must k a z r p))))
@@ -140,7 +144,7 @@ module _ (W : World) (V : Sight) where
   v-static_checked : (first : ℕ) (must : Bool) (t : Scalar) (a z : Found) → FoundOf W V a → FoundOf W V z → Sees W V (Maybe StaticOf) (static_checked first must t a z)
   unfolding static_checked
   v-static_checked first must t a z g h =
-      v-if W V (Maybe StaticOf) (is_integer t.kind) _ (fault first WrongType)
+      v-if W V (Maybe StaticOf) (is_index t.kind) _ (fault first WrongType)
       (v-bind W V (Maybe (λ r. MentionsOf W V (both_mentions a z))) (Maybe StaticOf) (both_static t.kind a z) _ (v-both_static t.kind a z g h) (λ v q.
       v-given W V (λ r. MentionsOf W V (both_mentions a z)) StaticOf v (checked_span first must t a z) q (λ r p. v-checked_span first must t a z r p)))
       (v-fault W V StaticOf first WrongType)
@@ -148,7 +152,7 @@ module _ (W : World) (V : Sight) where
   v-static_scalar : (first : ℕ) (s : Scalar) → Sees W V (Maybe StaticOf) (static_scalar first s)
   v-static_scalar first s =
       let x : Static = record { known = record { kind = s.kind; low = s.low; high = s.high }; part = part.Nothing } in
-      v-if W V (Maybe StaticOf) (is_integer s.kind) (some x) (fault first WrongType) (v-some W V StaticOf x tt) (v-fault W V StaticOf first WrongType)
+      v-if W V (Maybe StaticOf) (is_index s.kind) (some x) (fault first WrongType) (v-some W V StaticOf x tt) (v-fault W V StaticOf first WrongType)
 
   v-static_name : (first : ℕ) (k : KnownDenoted) (x : TypedPart) → DenotesOf W V k x → Sees W V (Maybe StaticOf) (static_name first k x)
   v-static_name first (denoted.Range at e) x h = v-some W V StaticOf (record { known = e; part = x }) h
@@ -176,13 +180,13 @@ module _ (W : World) (V : Sight) where
   v-one_value : (k : Kind) (f : Found) → FoundOf W V f → Sees W V (Maybe ChosenOf) (one_value k f)
   v-one_value k f h =
       v-bind W V (Maybe (StaticValue W V f)) (Maybe ChosenOf) (static_of_kind k f) _ (v-static_of_kind W V k f h) (λ v q.
-      v-given W V (StaticValue W V f) ChosenOf v _ q (λ z e. v-some W V ChosenOf (record { known = record { at = first_of f.known; low = z; high = z }; part = mentions_of f }) (static-mentions W V f.known f.part z h e)))
+      v-given W V (StaticValue W V f) ChosenOf v _ q (λ z e. v-some W V ChosenOf (record { known = record { at = first_of f.known; low = kept k z; high = kept k z }; part = mentions_of f }) (static-mentions W V f.known f.part z h e)))
 
   v-two_values : (k : Kind) (a z : Found) → FoundOf W V a → FoundOf W V z → Sees W V (Maybe ChosenOf) (two_values k a z)
   v-two_values k a z g h =
       v-bind W V (Maybe (StaticValue W V a)) (Maybe ChosenOf) (static_of_kind k a) _ (v-static_of_kind W V k a g) (λ u p.
       v-bind W V (Maybe (StaticValue W V z)) (Maybe ChosenOf) (static_of_kind k z) _ (v-static_of_kind W V k z h) (λ v q.
-      v-both W V (StaticValue W V a) (StaticValue W V z) ChosenOf u v _ p q (λ i j c d. v-some W V ChosenOf (record { known = record { at = first_of a.known; low = i; high = j }; part = both_mentions a z }) (both-mentions W V a z i j g h c d))))
+      v-both W V (StaticValue W V a) (StaticValue W V z) ChosenOf u v _ p q (λ i j c d. v-some W V ChosenOf (record { known = record { at = first_of a.known; low = kept k i; high = kept k j }; part = both_mentions a z }) (both-mentions W V a z i j g h c d))))
 
   v-values_of : (k : Option Kind) (x : Option Found) → Finding W V x → Sees W V (Maybe ChosenOf) (values_of k x)
   v-values_of None x h = v-none W V ChosenOf

@@ -17,7 +17,7 @@ use Rattle.name_rules.specs.Statements as s
 use Rattle.name_rules.specs.Statements.{Selector}
 use Rattle.name_rules.specs.TypedParts.{selections_of}
 use Rattle.name_rules.specs.Types.{wanted_of}
-use Rattle.name_rules.specs.Values.{first_of, is_scalar, settled_found, stored}
+use Rattle.name_rules.specs.Values.{first_of, is_scalar, settled_found, stored, is_modular_kind, kind_of}
 use Rattle.name_rules.specs.declared.found.Denoted.TheVariants as denoted
 use Rattle.name_rules.specs.declared.found.Denoted.{Denoted as KnownDenoted}
 use Rattle.name_rules.specs.declared.found.Found.TheVariants as known
@@ -149,7 +149,7 @@ module _ (W : World) (V : Sight) where
 
   v-selector : (f : Found) → FoundOf W V f → Sees W V (Maybe SelectorOf) (s.selector f)
   v-selector f h =
-      v-if W V (Maybe SelectorOf) (is_scalar f.known) _ (fault (first_of f.known) WrongType)
+      v-if W V (Maybe SelectorOf) (is_scalar f.known && not (is_modular_kind (kind_of f.known))) _ (fault (first_of f.known) WrongType)
       (v-bind W V (Maybe (ExprOf W V)) (Maybe SelectorOf) (settled_found f) _ (v-settled_found W V f h)
       (λ e q. v-pure W V (Maybe SelectorOf) (option_map (s.selector_of (s.selecting f.known)) e) (mapped (ExprOf W V) SelectorOf (s.selector_of (s.selecting f.known)) e q (λ x t. t))))
       (v-fault W V SelectorOf (first_of f.known) WrongType)

@@ -7,15 +7,15 @@ use Rattle.typed_tree.specs.Decoded as part
 use Rattle.typed_tree.specs.Decoded.{TypedPart}
 use Rattle.name_rules.specs.Declarations as d
 use Rattle.name_rules.specs.Declarations.{Dimensions, Indicated, Initial, indicated}
-use Rattle.name_rules.specs.Expressions.{Inside, expr, judged_alone}
+use Rattle.name_rules.specs.Expressions.{Inside, expr, judged_alone, simple}
 use Rattle.name_rules.specs.Found.{Found}
 use Rattle.name_rules.specs.Judging.{both, given, joined, pure, some, unless, ◌>>=◌}
 use Rattle.name_rules.specs.Operators.{both_mentions}
 use Rattle.name_rules.specs.Ranges.{Static, both_static, static_range, two_bounds}
 use Rattle.name_rules.specs.Scope.{as_scalar, subtype_named}
 use Rattle.name_rules.specs.TypedParts.{also_all}
-use Rattle.name_rules.specs.Types.{in_base, lies_in, wanted_of}
-use Rattle.name_rules.specs.Values.{first_of, stored}
+use Rattle.name_rules.specs.Types.{in_base, lies_in, wanted_of, kept, base_of}
+use Rattle.name_rules.specs.Values.{first_of, stored, mentions_of}
 use Rattle.name_rules.specs.declared.log.Rule.TheVariants.{StaticRange}
 use Rattle.name_rules.specs.declared.scope.Context.{Context}
 use Rattle.name_rules.specs.declared.scope.Names.{Names}
@@ -24,8 +24,8 @@ use Rattle.name_rules.specs.declared.types.Scalar.{Scalar}
 use Rattle.name_rules.specs.declared.types.Subtype.{Subtype}
 use Rattle.name_rules.specs.declared.types.Subtype.TheVariants as subtype
 use Rattle.name_rules.specs.declared.types.Wanted.TheVariants as wanted
-use Rattle.name_scopes.proofs.Sees.{Any, Sees, Maybe, Sight, World, v-bind, v-both, v-given, v-if, v-none, v-pure, v-some, v-unless, joint, mapped}
-use Rattle.name_scopes.proofs.SeesExpressions.{v-expr, v-judged_alone}
+use Rattle.name_scopes.proofs.Sees.{Any, Sees, Maybe, Sight, World, v-bind, v-both, v-given, v-if, v-none, v-pure, v-some, v-unless, joint, mapped, v-fault}
+use Rattle.name_scopes.proofs.SeesExpressions.{v-expr, v-judged_alone, v-simple}
 use Rattle.name_scopes.proofs.SeesFound.{Around, ExprOf, Finding, FoundOf, LevelSees, MentionsOf, ValueOf, each-all}
 use Rattle.name_scopes.proofs.SeesRanges.{AreFinding, StaticOf, v-both_static, v-static_range, v-two_bounds}
 use Rattle.name_scopes.proofs.SeesScope.{v-as_scalar, v-subtype_named}
@@ -48,8 +48,8 @@ module _ (W : World) (V : Sight) where
       v-bind W V Any (Maybe Any) (unless (lies_in s r.0) first StaticRange) _ (v-unless W V (lies_in s r.0) first StaticRange) (λ u p.
       v-bind W V Any (Maybe Any) (unless (lies_in s r.1) last StaticRange) _ (v-unless W V (lies_in s r.1) last StaticRange) (λ v q.
       v-bind W V Any (Maybe Any) (unless (int_le r.0 r.1) first StaticRange) _ (v-unless W V (int_le r.0 r.1) first StaticRange) (λ w t.
-      v-if W V (Maybe Any) (lies_in s r.0 && lies_in s r.1 && int_le r.0 r.1) (some (subtype.Scalar (record { kind = s.kind; low = r.0; high = r.1 }))) (pure None)
-      (v-some W V Any (subtype.Scalar (record { kind = s.kind; low = r.0; high = r.1 })) tt) (v-none W V Any))))
+      v-if W V (Maybe Any) (lies_in s r.0 && lies_in s r.1 && int_le r.0 r.1) (some (subtype.Scalar (record { kind = s.kind; low = kept s.kind r.0; high = kept s.kind r.1 }))) (pure None)
+      (v-some W V Any (subtype.Scalar (record { kind = s.kind; low = kept s.kind r.0; high = kept s.kind r.1 })) tt) (v-none W V Any))))
 
   v-indic_bounds : (s : Scalar) (a z : Found) → FoundOf W V a → FoundOf W V z → Sees W V (Maybe IndicatedOf) (d.indic_bounds s a z)
   v-indic_bounds s a z g h =
@@ -123,6 +123,23 @@ module _ (W : World) (V : Sight) where
   pub v-range_type : (level : Inside) (here : Context) (token : ℕ) (low high : Simple) → LevelSees W level → Around W V here → Sees W V (Maybe IndicatedOf) (two_bounds level here low high >>= d.own_type_of token)
   v-range_type level here token low high l r =
       v-bind W V (AreFinding W V) (Maybe IndicatedOf) (two_bounds level here low high) (d.own_type_of token) (v-two_bounds W V level here low high l r) (λ x q. v-own_type_of token x q.0 q.1)
+
+  -- ---- modular types
+
+  v-modular_by : (f : Found) (token first : ℕ) (k : Option ℕ) → MentionsOf W V (mentions_of f) → Sees W V (Maybe (λ t. MentionsOf W V (mentions_of f))) (d.modular_by token first k)
+  v-modular_by f token first None h = v-fault W V (λ t. MentionsOf W V (mentions_of f)) first StaticRange
+  v-modular_by f token first (Some k) h = v-some W V (λ t. MentionsOf W V (mentions_of f)) (subtype.Scalar (base_of (kind.Modular token k))) h
+
+  v-modular_type : (token : ℕ) (f : Found) → FoundOf W V f → Sees W V (Maybe IndicatedOf) (d.modular_type token f)
+  v-modular_type token f h =
+      v-bind W V (Maybe (λ z. MentionsOf W V (mentions_of f))) (Maybe IndicatedOf) (d.static_number f) _ (v-static_number (Some f) h) (λ m p.
+      v-bind W V (Maybe (λ t. MentionsOf W V (mentions_of f))) (Maybe IndicatedOf) (given m (λ z. d.modular_by token (first_of f.known) (d.exponent_from 64 1 z))) _
+      (v-given W V (λ z. MentionsOf W V (mentions_of f)) (λ t. MentionsOf W V (mentions_of f)) m (λ z. d.modular_by token (first_of f.known) (d.exponent_from 64 1 z)) p (λ z q. v-modular_by f token (first_of f.known) (d.exponent_from 64 1 z) q)) (λ t q.
+      v-pure W V (Maybe IndicatedOf) (option_map (indicated (mentions_of f)) t) (mapped (λ t. MentionsOf W V (mentions_of f)) IndicatedOf (indicated (mentions_of f)) t q (λ x r. r))))
+
+  pub v-modulus : (level : Inside) (here : Context) (token : ℕ) (m : Simple) → LevelSees W level → Around W V here → Sees W V (Maybe IndicatedOf) (simple level here wanted.Other m >>= λ x. given x (d.modular_type token))
+  v-modulus level here token m l r =
+      v-bind W V (Finding W V) (Maybe IndicatedOf) (simple level here wanted.Other m) _ (v-simple W V level here wanted.Other m l r) (λ x q. v-given W V (FoundOf W V) IndicatedOf x (d.modular_type token) q (λ f p. v-modular_type token f p))
 
   -- ---- initial values, and named numbers
 

@@ -17,8 +17,8 @@ use Rattle.typed_tree.specs.declared.scalars.Class.{Class}
 use Rattle.name_rules.specs.Found.{Found}
 use Rattle.name_rules.specs.Judging.{fault, some, unless}
 use Rattle.name_rules.specs.TypedParts.{exprs_of, selections_of}
-use Rattle.name_rules.specs.Types.{check_at, class_of, in_base, is_integer, same}
-use Rattle.name_rules.specs.Values.{any_integer, any_scalar, asked, asked_form, beyond, composite_asked, composite_form, first_of, fitting, is_number, is_scalar, literal, mentions_of, object_expr, object_value, own_kind, place_asked, settled, settled_by, settled_found, static_integer, static_of_kind, static_value, stored, value_of, valued, whole_object, whole_of}
+use Rattle.name_rules.specs.Types.{check_at, class_of, in_base, is_integer, same, kept}
+use Rattle.name_rules.specs.Values.{any_integer, any_scalar, asked, asked_form, beyond, composite_asked, composite_form, first_of, fitting, is_number, is_scalar, literal, mentions_of, object_expr, object_value, own_kind, place_asked, settled, settled_by, settled_found, static_integer, static_of_kind, static_value, stored, value_of, valued, whole_object, whole_of, is_word_kind, kind_of}
 use Rattle.name_rules.specs.declared.found.Found.TheVariants as known
 use Rattle.name_rules.specs.declared.found.Found.{Found as Known}
 use Rattle.name_rules.specs.declared.found.Limits.{Limits}
@@ -30,6 +30,7 @@ use Rattle.name_rules.specs.declared.types.Subtype.{Subtype}
 use Rattle.name_rules.specs.declared.types.Subtype.TheVariants as subtype
 use Rattle.name_scopes.proofs.Sees.{Any, Sees, Maybe, Sight, World, v-bind, v-fault, v-given, v-if, v-pure, v-some, v-test, v-unless}
 use Rattle.name_scopes.proofs.SeesFound.{Each, ExprOf, FoundOf, IsPiece, KnownOf, MentionsOf, OpenOf, PlaceOf, RootOf, ValueOf, WideOf, each-turned}
+use Rattle.std.specs.Prelude.{◌&&◌, not}
 
 -- ---- iterations
 
@@ -145,7 +146,7 @@ module _ (W : World) (V : Sight) where
 
   v-valued : (k : Kind) (first : ℕ) (z : ℤ) (alone : Bool) (x : TypedPart) → MentionsOf W V x → Sees W V (Maybe (ExprOf W V)) (valued k first z alone x)
   unfolding valued
-  v-valued k first z alone x h = v-if W V (Maybe (ExprOf W V)) (in_base k z) (some (literal first z alone x)) (fault first StaticRange) (v-some W V (ExprOf W V) (literal first z alone x) (literal-seen first z alone x h)) (v-fault W V (ExprOf W V) first StaticRange)
+  v-valued k first z alone x h = v-if W V (Maybe (ExprOf W V)) (in_base k z) (some (literal first (kept k z) alone x)) (fault first StaticRange) (v-some W V (ExprOf W V) (literal first (kept k z) alone x) (literal-seen first (kept k z) alone x h)) (v-fault W V (ExprOf W V) first StaticRange)
 
   pub v-fitting : (k : Kind) (first : ℕ) (z : ℤ) → Sees W V Any (fitting k first z)
   unfolding fitting
@@ -157,12 +158,11 @@ module _ (W : World) (V : Sight) where
 
   v-settled : (k : Kind) (l : Limits) (e : TypedExpr) → OpenOf W V e → Sees W V (Maybe (ExprOf W V)) (settled k l e)
   unfolding settled
-  v-settled k l e h = v-settled_by k e (beyond k l) h
+  v-settled k l e h = v-settled_by k e (beyond k l e) h
 
-  object-seen : (p : ObjectName) (x : TypedPart) (s : Scalar) (v : Option ℤ) → PlaceOf W V p x → ExprOf W V (object_value p (selections_of x) s v)
-  unfolding turned
-  object-seen p x s (Some z) h = tt
-  object-seen p x s None h = by p.variable refl
+  v-object_value : (k : Kind) (p : ObjectName) (x : TypedPart) (s : Scalar) (v : Option ℤ) → PlaceOf W V p x → Sees W V (Maybe (ExprOf W V)) (object_value k p (selections_of x) s v)
+  v-object_value k p x s (Some z) h = v-valued k p.first z false part.Nothing tt
+  v-object_value k p x s None h = v-some W V (ExprOf W V) (part.AnExpr (object_expr p (selections_of x) s p.variable)) (by p.variable refl)
     where
       by : (b : Bool) → p.variable ≡ b → SeenExpr W.program W.shown V.around (object_expr p (selections_of x) s b)
       by true e = as-variable p x h e
@@ -170,8 +170,8 @@ module _ (W : World) (V : Sight) where
 
   v-place_asked : (k : Kind) (p : ObjectName) (x : TypedPart) (s : Subtype) → PlaceOf W V p x → Sees W V (Maybe (ExprOf W V)) (place_asked k p (selections_of x) s)
   v-place_asked k p x (subtype.Scalar s) h =
-      v-if W V (Maybe (ExprOf W V)) (same s.kind k) (some (object_value p (selections_of x) s p.value)) (fault p.first WrongType)
-      (v-some W V (ExprOf W V) (object_value p (selections_of x) s p.value) (object-seen p x s p.value h))
+      v-if W V (Maybe (ExprOf W V)) (same s.kind k) (object_value k p (selections_of x) s p.value) (fault p.first WrongType)
+      (v-object_value k p x s p.value h)
       (v-fault W V (ExprOf W V) p.first WrongType)
   v-place_asked k p x (subtype.Composite n) h = v-fault W V (ExprOf W V) p.first WrongType
 
@@ -179,8 +179,8 @@ module _ (W : World) (V : Sight) where
   v-asked_form k (known.Universal first z alone) x h = v-if W V (Maybe (ExprOf W V)) (is_integer k) (valued k first z alone x) (fault first WrongType) (v-valued k first z alone x h) (v-fault W V (ExprOf W V) first WrongType)
   v-asked_form k (known.Open first l) x h = v-if W V (Maybe (ExprOf W V)) (is_integer k) (settled k l (as_expr x)) (fault first WrongType) (v-settled k l (as_expr x) h) (v-fault W V (ExprOf W V) first WrongType)
   v-asked_form k (known.Static first j z) x h =
-      v-if W V (Maybe (ExprOf W V)) (same j k) (some (literal first z false x)) (fault first WrongType)
-      (v-some W V (ExprOf W V) (literal first z false x) (literal-seen first z false x h)) (v-fault W V (ExprOf W V) first WrongType)
+      v-if W V (Maybe (ExprOf W V)) (same j k) (valued k first z false x) (fault first WrongType)
+      (v-valued k first z false x h) (v-fault W V (ExprOf W V) first WrongType)
   v-asked_form k (known.Object p) x h = v-place_asked k p x p.subtype h
   v-asked_form k (known.Scalar first j n) x h = v-if W V (Maybe (ExprOf W V)) (same j k) (some x) (fault first WrongType) (v-some W V (ExprOf W V) x h) (v-fault W V (ExprOf W V) first WrongType)
   v-asked_form k f x h = v-fault W V (ExprOf W V) (first_of f) WrongType
@@ -195,7 +195,7 @@ module _ (W : World) (V : Sight) where
 
   pub v-any_integer : (f : Found) → FoundOf W V f → Sees W V (Maybe (ExprOf W V)) (any_integer f)
   unfolding any_integer
-  v-any_integer f h = v-if W V (Maybe (ExprOf W V)) (is_number f.known) (settled_found f) (fault (first_of f.known) WrongType) (v-settled_found f h) (v-fault W V (ExprOf W V) (first_of f.known) WrongType)
+  v-any_integer f h = v-if W V (Maybe (ExprOf W V)) (is_number f.known && not (is_word_kind (kind_of f.known))) (settled_found f) (fault (first_of f.known) WrongType) (v-settled_found f h) (v-fault W V (ExprOf W V) (first_of f.known) WrongType)
 
   pub v-any_scalar : (f : Found) → FoundOf W V f → Sees W V (Maybe (ExprOf W V)) (any_scalar f)
   unfolding any_scalar

@@ -1,5 +1,5 @@
 -- Judging that is counted: declarations.
-use Rattle.name_rules.specs.Expressions.{Inside, expr, judged_alone}
+use Rattle.name_rules.specs.Expressions.{Inside, expr, judged_alone, simple}
 use Rattle.syntax_tree.specs.FirstTokens as first_token
 use Rattle.name_rules.specs.Found.{Found}
 use Rattle.name_rules.specs.Judging.{both, fault, given, joined, pure, read, ◌>>=◌}
@@ -8,7 +8,7 @@ use Rattle.name_rules.specs.Ranges.{Static, both_static, static_range, two_bound
 use Rattle.name_rules.specs.Scope.{as_scalar, declared, free, hidden_where, subtype_named}
 use Rattle.name_rules.specs.Symbols.{symbol}
 use Rattle.name_rules.specs.Types.{cells_in, number_of, saturated, wanted_of, written_shape}
-use Rattle.name_rules.specs.Values.{first_of, stored}
+use Rattle.name_rules.specs.Values.{first_of, stored, mentions_of}
 use Rattle.name_rules.specs.Limits.{most_dimensions}
 use Rattle.name_rules.specs.declared.log.Bound.TheVariants as bound
 use Rattle.name_rules.specs.declared.log.Field.{Field}
@@ -27,16 +27,16 @@ use Rattle.typed_tree.specs.Decoded as part
 use Rattle.std.specs.Prelude.{Bool, List, None, Option, Some, [], false, is_some, length, nat_le, option_map, true, ℕ, ℤ, ◌+◌, ◌∷◌}
 use Rattle.name_rules.specs.TypedParts.{also_all}
 use Rattle.typed_tree.specs.Decoded.{TypedPart}
-use Rattle.name_rules.specs.Declarations.{Building, Dimensions, Indicated, Initial, all_ended, all_ids, also_dimension, also_field, and_mentions, and_type, array, array_given, array_written, begun_names, cells_counted, component, components, constant_value, declaration, declarations, defined, dimensions_from, each_exception, each_object, ended_name, first_or, found_mentions, indic, indic_bounds, indic_range, indicated, indicated_mentions, initial, initial_value, new_object, no_initial, numbers, object_ended, objects, one_object, one_type, own_type, own_type_of, record_of, record_written, static_number, typed_object, valued_constant, with_field, with_fields, with_mentions, with_object, without_fields}
+use Rattle.name_rules.specs.Declarations.{Building, Dimensions, Indicated, Initial, all_ended, all_ids, also_dimension, also_field, and_mentions, and_type, array, array_given, array_written, begun_names, cells_counted, component, components, constant_value, declaration, declarations, defined, dimensions_from, each_exception, each_object, ended_name, first_or, found_mentions, indic, indic_bounds, indic_range, indicated, indicated_mentions, initial, initial_value, new_object, no_initial, numbers, object_ended, objects, one_object, one_type, own_type, own_type_of, record_of, record_written, static_number, typed_object, valued_constant, with_field, with_fields, with_mentions, with_object, without_fields, modular_type, modular_by, exponent_from}
 use Rattle.std.proofs.Common.{arith}
 use Rattle.name_laws.proofs.Fitting.{fits_constant}
-use Rattle.name_laws.proofs.KeepsDeclarations.{k-array_written, k-begun_names, k-cells_counted, k-each_exception, k-indic_range, k-new_object, k-own_type, k-static_number, k-valued_constant}
+use Rattle.name_laws.proofs.KeepsDeclarations.{k-array_written, k-begun_names, k-cells_counted, k-each_exception, k-indic_range, k-new_object, k-own_type, k-static_number, k-valued_constant, k-modular_by}
 use Rattle.name_laws.proofs.KeepsExpressions.{k-judged_alone}
 use Rattle.name_laws.proofs.KeepsRanges.{k-both_static}
 use Rattle.name_laws.proofs.KeepsScope.{k-as_scalar, k-free, k-subtype_named}
 use Rattle.name_laws.proofs.KeepsTypes.{k-number_of, k-written_shape}
 use Rattle.name_laws.proofs.Walk.{k-both, k-given, k-read}
-use Rattle.name_scopes.proofs.SpendsExpressions.{s-expr}
+use Rattle.name_scopes.proofs.SpendsExpressions.{s-expr, s-simple}
 use Rattle.name_scopes.proofs.SpendsOperators.{z-both_mentions}
 use Rattle.name_scopes.proofs.SpendsRanges.{s-static_range, s-two_bounds}
 use Rattle.name_scopes.proofs.SpendsValues.{s-stored, z-mentions_of}
@@ -170,11 +170,24 @@ s-own_type_of which token r h1-0 h1-1 =
     (made7.0, omega (arith, made7.1, n-also_all which (found_mentions r.0) (found_mentions r.1), made5.1, made6.1))) in
     (made8.0, omega (arith, made8.1))))))
 
+pub s-modular_type : (which : Tally) (x0 : ℕ) (x1 : Found) → (with-part which).Whole x1 → Spends which (maybe-known which) (part-size which x1.part) (modular_type x0 x1)
+s-modular_type which token f h1 =
+    s-then which (maybe-known which) _ (static_number f) _ (k-static_number leaving f) (λ m.
+    s-then which (maybe-known which) _ (given m (λ z. modular_by token (first_of f.known) (exponent_from 64 1 z))) _ (k-given leaving m _ (λ z. k-modular_by leaving token (first_of f.known) (exponent_from 64 1 z))) (λ t.
+    s-pure which (maybe-known which) _ (option_map (indicated (mentions_of f)) t) (let made3 = h-map-any (with-part which) (part-size which f.part) (indicated (mentions_of f)) t (λ item. let made1 = z-mentions_of which f h1 in
+    let made2 = z-indicated which (mentions_of f) item made1.0 in
+    (made2.0, omega (arith, made2.1, made1.1))) in
+    (made3.0, omega (arith, made3.1)))))
+
 pub s-defined : (which : Tally) (x0 : Names) (x1 : Inside) (x2 : Context) (x3 : ℕ) (x4 : Definition) → SpendsInside which x1 → Spends which (maybe-known which) 0 (defined x0 x1 x2 x3 x4)
 unfolding defined
 s-defined which names level here token (syntax.RangeType low high) h1 =
     s-bind which (pair-of (maybe-known which) (maybe-known which)) (maybe-known which) 0 0 _ (two_bounds level here low high) _ (s-le which (pair-of (maybe-known which) (maybe-known which)) _ _ _ (s-two_bounds which level here low high h1) (omega arith)) (omega arith) (λ out held1.
     s-le which (maybe-known which) _ _ _ (s-own_type_of which token out held1.0 held1.1) (omega arith))
+s-defined which names level here token (syntax.ModularType m) h1 =
+    s-bind which (maybe-known which) (maybe-known which) 0 0 _ (simple level here wanted.Other m) _ (s-le which (maybe-known which) _ _ _ (s-simple which level here wanted.Other m h1) (omega arith)) (omega arith) (λ x held1.
+    s-given which (with-part which) (with-part which) 0 _ x _ held1 (omega arith) (λ f held2.
+    s-le which (maybe-known which) _ _ _ (s-modular_type which token f held2) (omega arith)))
 s-defined which names level here token (syntax.ArrayType a) h1 = s-le which (maybe-known which) _ _ _ (s-array which names level here a h1) (omega arith)
 s-defined which names level here token (syntax.RecordType c cs) h1 = s-le which (maybe-known which) _ _ _ (s-record_of which names level here (c ∷ cs) h1) (omega arith)
 

@@ -11,7 +11,7 @@ use Rattle.name_rules.specs.Names.{denoted_first, exception}
 use Rattle.name_rules.specs.Parts.{name, new_site, valued_by}
 use Rattle.name_rules.specs.Primaries.{inside}
 use Rattle.name_rules.specs.Types.{wanted_of}
-use Rattle.name_rules.specs.Values.{first_of, is_scalar, settled_found, stored}
+use Rattle.name_rules.specs.Values.{first_of, is_scalar, settled_found, stored, is_modular_kind, kind_of}
 use Rattle.name_rules.specs.declared.found.Denoted.TheVariants as denoted
 use Rattle.name_rules.specs.declared.found.Denoted.{Denoted as KnownDenoted}
 use Rattle.name_rules.specs.declared.found.Found.TheVariants as known
@@ -33,7 +33,7 @@ use Rattle.typed_tree.specs.Decoded as part
 use Rattle.typed_tree.specs.Syntax as typed
 use Rattle.typed_tree.specs.Syntax.{Handled as TypedHandled, Selections}
 use Rattle.typed_tree.specs.declared.program.SiteKind.TheVariants as site
-use Rattle.std.specs.Prelude.{Bool, List, None, Option, Some, [], false, length, not, option_map, suc, zero, ℕ, ◌+◌, ◌-◌, ◌==◌, ◌∷◌}
+use Rattle.std.specs.Prelude.{Bool, List, None, Option, Some, [], false, length, not, option_map, suc, zero, ℕ, ◌+◌, ◌-◌, ◌==◌, ◌∷◌, ◌&&◌}
 use Rattle.name_rules.specs.TypedParts.{nested_stmts, selections_of}
 use Rattle.typed_tree.specs.Decoded.{TypedPart}
 use Rattle.typed_tree.specs.Latest.{turned}
@@ -266,7 +266,7 @@ z-selector_of which s x h1 = (h1, omega arith)
 
 pub s-selector : (which : Tally) (x0 : Found) → (with-part which).Whole x0 → Spends which (maybe-known which) (part-size which x0.part) (selector x0)
 s-selector which f h0 =
-    s-if which (maybe-known which) _ (is_scalar f.known) ((settled_found f) >>= λ e. pure (option_map (selector_of (selecting f.known)) e)) (fault (first_of f.known) WrongType)
+    s-if which (maybe-known which) _ (is_scalar f.known && not (is_modular_kind (kind_of f.known))) ((settled_found f) >>= λ e. pure (option_map (selector_of (selecting f.known)) e)) (fault (first_of f.known) WrongType)
     (s-bind which (maybe-part which) (maybe-known which) (part-size which f.part) 0 _ (settled_found f) _ (s-le which (maybe-part which) _ _ _ (s-settled_found which f h0) (omega arith)) (omega arith) (λ e held1.
     s-pure which (maybe-known which) _ (option_map (selector_of (selecting f.known)) e) (let made4 = h-map (part-measure which) (with-part which) 0 (selector_of (selecting f.known)) e held1 (λ item held2. let made3 = z-selector_of which (selecting f.known) item held2 in
     (made3.0, omega (arith, made3.1))) in

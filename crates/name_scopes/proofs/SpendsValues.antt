@@ -1,7 +1,7 @@
 -- Judging that is counted: values.
 use Rattle.name_rules.specs.Found.{Found}
 use Rattle.name_rules.specs.Judging.{fault, some}
-use Rattle.name_rules.specs.Types.{check_at, class_of, in_base, is_integer, same}
+use Rattle.name_rules.specs.Types.{check_at, class_of, in_base, is_integer, same, kept}
 use Rattle.name_rules.specs.declared.found.Found.TheVariants as known
 use Rattle.name_rules.specs.declared.found.Found.{Found as Known}
 use Rattle.name_rules.specs.declared.found.Limits.{Limits}
@@ -15,10 +15,10 @@ use Rattle.typed_tree.specs.Decoded as part
 use Rattle.typed_tree.specs.Syntax as typed
 use Rattle.typed_tree.specs.Syntax.{Composite, Expr as TypedExpr, Selections}
 use Rattle.typed_tree.specs.Classes.{with_class}
-use Rattle.std.specs.Prelude.{Bool, None, Option, Some, false, true, ℕ, ℤ, ◌==◌}
+use Rattle.std.specs.Prelude.{Bool, None, Option, Some, false, true, ℕ, ℤ, ◌==◌, ◌&&◌, not}
 use Rattle.name_rules.specs.TypedParts.{selections_of}
 use Rattle.typed_tree.specs.Decoded.{TypedPart, as_expr}
-use Rattle.name_rules.specs.Values.{any_integer, any_scalar, asked, asked_form, beyond, composite_asked, composite_form, first_of, is_number, is_scalar, literal, mentions_in, mentions_of, object_expr, object_value, own_kind, place_asked, settled, settled_by, settled_found, stored, valued, whole_object, whole_of}
+use Rattle.name_rules.specs.Values.{any_integer, any_scalar, asked, asked_form, beyond, composite_asked, composite_form, first_of, is_number, is_scalar, literal, mentions_in, mentions_of, object_expr, object_value, own_kind, place_asked, settled, settled_by, settled_found, stored, valued, whole_object, whole_of, is_word_kind, kind_of}
 use Rattle.std.proofs.Common.{arith}
 use Rattle.name_scopes.proofs.Measures.{counted-by, maybe-part, part-measure, part-size, with-part}
 use Rattle.name_scopes.proofs.Parts.{n-composite, n-expr, n-exprs_of, n-selections_of, n-with_class}
@@ -40,8 +40,8 @@ z-literal which at z alone ms h3 = (tt, omega (arith, n-exprs_of which ms))
 pub s-valued : (which : Tally) (x0 : Kind) (x1 : ℕ) (x2 : ℤ) (x3 : Bool) (x4 : TypedPart) → (part-measure which).Whole x4 → Spends which (maybe-part which) (part-size which x4) (valued x0 x1 x2 x3 x4)
 unfolding valued
 s-valued which k first z alone ms h4 =
-    s-if which (maybe-part which) _ (in_base k z) (some (literal first z alone ms)) (fault first StaticRange)
-    (s-some which (part-measure which) _ (literal first z alone ms) (let made1 = z-literal which first z alone ms h4 in
+    s-if which (maybe-part which) _ (in_base k z) (some (literal first (kept k z) alone ms)) (fault first StaticRange)
+    (s-some which (part-measure which) _ (literal first (kept k z) alone ms) (let made1 = z-literal which first (kept k z) alone ms h4 in
     (made1.0, omega (arith, made1.1))))
     (s-fault which (part-measure which) _ first StaticRange)
 
@@ -51,25 +51,22 @@ s-settled_by which k e (Some at) h1 = s-fault which (part-measure which) _ at St
 
 pub s-settled : (which : Tally) (x0 : Kind) (x1 : Limits) (x2 : TypedExpr) → (counted-by (λ x. in_expr which x)).Whole x2 → Spends which (maybe-part which) (in_expr which x2) (settled x0 x1 x2)
 unfolding settled
-s-settled which k l e h2 = s-le which (maybe-part which) _ _ _ (s-settled_by which k e (beyond k l) h2) (omega arith)
+s-settled which k l e h2 = s-le which (maybe-part which) _ _ _ (s-settled_by which k e (beyond k l e) h2) (omega arith)
 
 pub z-object_expr : (which : Tally) (x0 : ObjectName) (x1 : Selections) (x2 : Scalar) (x3 : Bool) → (counted-by (λ x. in_selections which x)).Whole x1 → Holds (counted-by (λ x. in_expr which x)) (in_selections which x1) (object_expr x0 x1 x2 x3)
 z-object_expr which p ss s true h1 = (tt, omega arith)
 z-object_expr which p ss s false h1 = (tt, omega arith)
 
-pub z-object_value : (which : Tally) (x0 : ObjectName) (x1 : Selections) (x2 : Scalar) (x3 : Option ℤ) → (counted-by (λ x. in_selections which x)).Whole x1 → Holds (part-measure which) (in_selections which x1) (object_value x0 x1 x2 x3)
-z-object_value which p ss s (Some z) h1 =
-    let made1 = z-literal which p.first z false part.Nothing tt in
-    (made1.0, omega (arith, made1.1))
-z-object_value which p ss s None h1 =
-    let made1 = z-object_expr which p ss s p.variable h1 in
-    (tt, omega (arith, made1.1))
+pub s-object_value : (which : Tally) (x0 : Kind) (x1 : ObjectName) (x2 : Selections) (x3 : Scalar) (x4 : Option ℤ) → (counted-by (λ x. in_selections which x)).Whole x2 → Spends which (maybe-part which) (in_selections which x2) (object_value x0 x1 x2 x3 x4)
+s-object_value which k p ss s (Some z) h2 = s-le which (maybe-part which) _ _ _ (s-valued which k p.first z false part.Nothing tt) (omega arith)
+s-object_value which k p ss s None h2 =
+    s-some which (part-measure which) _ (part.AnExpr (object_expr p ss s p.variable)) (let made1 = z-object_expr which p ss s p.variable h2 in
+    (tt, omega (arith, made1.1)))
 
 pub s-place_asked : (which : Tally) (x0 : Kind) (x1 : ObjectName) (x2 : Selections) (x3 : Subtype) → (counted-by (λ x. in_selections which x)).Whole x2 → Spends which (maybe-part which) (in_selections which x2) (place_asked x0 x1 x2 x3)
 s-place_asked which k p ss (subtype.Scalar s) h2 =
-    s-if which (maybe-part which) _ (same s.kind k) (some (object_value p ss s p.value)) (fault p.first WrongType)
-    (s-some which (part-measure which) _ (object_value p ss s p.value) (let made1 = z-object_value which p ss s p.value h2 in
-    (made1.0, omega (arith, made1.1))))
+    s-if which (maybe-part which) _ (same s.kind k) (object_value k p ss s p.value) (fault p.first WrongType)
+    (s-le which (maybe-part which) _ _ _ (s-object_value which k p ss s p.value h2) (omega arith))
     (s-fault which (part-measure which) _ p.first WrongType)
 s-place_asked which k p ss (subtype.Composite n) h2 = s-fault which (part-measure which) _ p.first WrongType
 
@@ -83,9 +80,8 @@ s-asked_form which k (known.Open first l) x h2 =
     (s-le which (maybe-part which) _ _ _ (s-settled which k l (as_expr x) tt) (omega (arith, n-expr which x)))
     (s-fault which (part-measure which) _ first WrongType)
 s-asked_form which k (known.Static first j z) x h2 =
-    s-if which (maybe-part which) _ (same j k) (some (literal first z false x)) (fault first WrongType)
-    (s-some which (part-measure which) _ (literal first z false x) (let made1 = z-literal which first z false x h2 in
-    (made1.0, omega (arith, made1.1))))
+    s-if which (maybe-part which) _ (same j k) (valued k first z false x) (fault first WrongType)
+    (s-le which (maybe-part which) _ _ _ (s-valued which k first z false x h2) (omega arith))
     (s-fault which (part-measure which) _ first WrongType)
 s-asked_form which k (known.Object p) x h2 = s-le which (maybe-part which) _ _ _ (s-place_asked which k p (selections_of x) p.subtype tt) (omega (arith, n-selections_of which x h2))
 s-asked_form which k (known.Scalar first j n) x h2 =
@@ -105,7 +101,7 @@ s-settled_found which f h0 = s-le which (maybe-part which) _ _ _ (s-asked which 
 pub s-any_integer : (which : Tally) (x0 : Found) → (with-part which).Whole x0 → Spends which (maybe-part which) (part-size which x0.part) (any_integer x0)
 unfolding any_integer
 s-any_integer which f h0 =
-    s-if which (maybe-part which) _ (is_number f.known) (settled_found f) (fault (first_of f.known) WrongType)
+    s-if which (maybe-part which) _ (is_number f.known && not (is_word_kind (kind_of f.known))) (settled_found f) (fault (first_of f.known) WrongType)
     (s-le which (maybe-part which) _ _ _ (s-settled_found which f h0) (omega arith))
     (s-fault which (part-measure which) _ (first_of f.known) WrongType)
 

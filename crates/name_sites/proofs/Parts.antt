@@ -10,7 +10,7 @@ use Rattle.typed_tree.specs.declared.expressions.Reducer.TheVariants as reducer'
 use Rattle.typed_tree.specs.declared.scalars.Class.{Class}
 use Rattle.name_rules.specs.Iterations.{with_filter}
 use Rattle.name_rules.specs.TypedParts.{also_all, exprs_of, left_of, nested_stmts, right_of, selections_of}
-use Rattle.name_sites.proofs.Counts.{again, again-more, in_actuals, in_alternatives, in_arms, in_associations, in_body, in_chunk, in_composite, in_decls, in_expr, in_exprs, in_filter, in_handlers, in_iteration, in_optional, in_pieces, in_selections, in_stmt, in_stmts, in_value}
+use Rattle.name_sites.proofs.Counts.{again-more, in_actuals, in_alternatives, in_arms, in_associations, in_body, in_chunk, in_composite, in_decls, in_expr, in_exprs, in_filter, in_handlers, in_iteration, in_optional, in_pieces, in_selections, in_stmt, in_stmts, in_value}
 use Rattle.name_sites.proofs.Measures.{Formed, part-size}
 
 pub n-expr : (s : ℕ) (p : TypedPart) → in_expr s (as_expr p) ≤ part-size s p

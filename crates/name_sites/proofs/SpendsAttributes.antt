@@ -4,10 +4,10 @@ use Rattle.ada_base.specs.declared.operation.Op.{Op}
 use Rattle.name_rules.specs.Calls.{arg_names, operands}
 use Rattle.name_rules.specs.Expressions.{Inside}
 use Rattle.name_rules.specs.Found.{Denoted, Found, denote, parameter_found, scalar, static, text_found, universal, value_denoted}
-use Rattle.name_rules.specs.Judging.{fault, given, joined, read, ◌>>=◌}
+use Rattle.name_rules.specs.Judging.{fault, given, joined, read, ◌>>=◌, some}
 use Rattle.name_rules.specs.Names.{denoted_first}
 use Rattle.name_rules.specs.Operators.{limit_of}
-use Rattle.name_rules.specs.Types.{class_of, extent, is_integer}
+use Rattle.name_rules.specs.Types.{class_of, extent, is_integer, is_modular}
 use Rattle.name_rules.specs.Values.{asked, first_of, is_number, mentions_of, own_kind, static_of_kind}
 use Rattle.name_rules.specs.declared.found.Attribute.TheVariants as attribute'
 use Rattle.name_rules.specs.declared.found.Attribute.{Attribute}
@@ -32,7 +32,7 @@ use Rattle.typed_tree.specs.Syntax.{Expr as TypedExpr}
 use Rattle.std.specs.Prelude.{Bool, List, None, Option, Some, [], false, if◌then◌else◌, int_le, length, option_map, pos, slice_get, true, unsigned_abs, ℕ, ℤ, ◌&&◌, ◌+◌, ◌-◌, ◌∷◌}
 use Rattle.name_rules.specs.TypedParts.{also, also_all, selections_of}
 use Rattle.typed_tree.specs.Decoded.{TypedPart, as_expr}
-use Rattle.name_rules.specs.Attributes.{alone, attribute_found, bound_alone, bound_in, bound_with, dimension_at, dimension_bound, dimension_given, dimensions_in, extreme, first_named, image_text, is_array_object, is_bound, is_reduction, mentioned, object_image, one_argument, one_dimension, one_given, one_named, prefix_of, prefix_subtype, reduced_alone, scalar_bound, scalar_with, settled_attribute, settled_form, step, stepped, two_arguments_of, two_given, two_named}
+use Rattle.name_rules.specs.Attributes.{alone, attribute_found, bound_alone, bound_in, bound_with, dimension_at, dimension_bound, dimension_given, dimensions_in, extreme, first_named, image_text, is_array_object, is_bound, is_reduction, mentioned, object_image, one_argument, one_dimension, one_given, one_named, prefix_of, prefix_subtype, reduced_alone, scalar_bound, scalar_with, settled_attribute, settled_form, step, stepped, two_arguments_of, two_given, two_named, is_left_out, bound_found}
 use Rattle.std.proofs.Common.{arith}
 use Rattle.name_laws.proofs.KeepsAttributes.{k-scalar_bound}
 use Rattle.name_laws.proofs.KeepsValues.{k-static_of_kind}
@@ -52,17 +52,31 @@ use Rattle.name_sites.proofs.Counts.{in_expr}
 pub s-attribute_found : (which : ℕ) (x0 : Denoted) (x1 : ℕ) (x2 : Option Attribute) → (with-part which).Whole x0 → Spends which (maybe-known which) (part-size which x0.part) (attribute_found x0 x1 x2)
 s-attribute_found which d at None h0 = s-fault which (with-part which) _ at Unknown
 s-attribute_found which d at (Some a) h0 =
-    s-some which (with-part which) _ (denote (denoted.Attribute (denoted_first d.known) (prefix_of d.known) at a) d.part) (let made1 = z-denote which (denoted.Attribute (denoted_first d.known) (prefix_of d.known) at a) d.part h0 in
-    (made1.0, omega (arith, made1.1)))
+    s-if which (maybe-known which) _ (is_left_out (prefix_of d.known) a) (fault at Unknown) (some (denote (denoted.Attribute (denoted_first d.known) (prefix_of d.known) at a) d.part))
+    (s-fault which (with-part which) _ at Unknown)
+    (s-some which (with-part which) _ (denote (denoted.Attribute (denoted_first d.known) (prefix_of d.known) at a) d.part) (let made1 = z-denote which (denoted.Attribute (denoted_first d.known) (prefix_of d.known) at a) d.part h0 in
+    (made1.0, omega (arith, made1.1))))
+
+z-bound_by : (which : ℕ) (modular : Bool) (first : ℕ) (k : Kind) (z : ℤ) → Holds (with-part which) 0 (if modular then scalar first k None (limit_of first z) else static first k z part.Nothing)
+z-bound_by which true first k z =
+    let made1 = z-limit_of which first z in
+    let made2 = z-scalar which first k None (limit_of first z) made1.0 in
+    (made2.0, omega (arith, made2.1, made1.1))
+z-bound_by which false first k z =
+    let made1 = z-static which first k z part.Nothing tt in
+    (made1.0, omega (arith, made1.1))
+
+z-bound_found : (which : ℕ) (x0 : ℕ) (x1 : Kind) (x2 : ℤ) → Holds (with-part which) 0 (bound_found x0 x1 x2)
+z-bound_found which first k z = z-bound_by which (is_modular k) first k z
 
 pub s-scalar_bound : (which : ℕ) (x0 : ℕ) (x1 : Scalar) (x2 : Attribute) → Spends which (maybe-known which) 0 (scalar_bound x0 x1 x2)
 s-scalar_bound which first s attribute'.First =
-    s-some which (with-part which) _ (value_denoted (static first s.kind s.low part.Nothing)) (let made1 = z-static which first s.kind s.low part.Nothing tt in
-    let made2 = z-value_denoted which (static first s.kind s.low part.Nothing) made1.0 in
+    s-some which (with-part which) _ (value_denoted (bound_found first s.kind s.low)) (let made1 = z-bound_found which first s.kind s.low in
+    let made2 = z-value_denoted which (bound_found first s.kind s.low) made1.0 in
     (made2.0, omega (arith, made2.1, made1.1)))
 s-scalar_bound which first s attribute'.Last =
-    s-some which (with-part which) _ (value_denoted (static first s.kind s.high part.Nothing)) (let made1 = z-static which first s.kind s.high part.Nothing tt in
-    let made2 = z-value_denoted which (static first s.kind s.high part.Nothing) made1.0 in
+    s-some which (with-part which) _ (value_denoted (bound_found first s.kind s.high)) (let made1 = z-bound_found which first s.kind s.high in
+    let made2 = z-value_denoted which (bound_found first s.kind s.high) made1.0 in
     (made2.0, omega (arith, made2.1, made1.1)))
 s-scalar_bound which first s a = s-fault which (with-part which) _ first WrongType
 

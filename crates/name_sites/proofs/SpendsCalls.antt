@@ -4,8 +4,8 @@ use Rattle.syntax_tree.specs.FirstTokens as first_token
 use Rattle.name_rules.specs.Found.{Found, scalar}
 use Rattle.name_rules.specs.Judging.{fault, given, pure, read, some, ◌>>=◌}
 use Rattle.name_rules.specs.Names.{count}
-use Rattle.name_rules.specs.Types.{check_at, is_integer, same, typed_scalar, wanted_of}
-use Rattle.name_rules.specs.Values.{first_of, is_number, settled_found}
+use Rattle.name_rules.specs.Types.{is_integer, same, typed_scalar, wanted_of, converted_from}
+use Rattle.name_rules.specs.Values.{first_of, is_number, settled_found, own_kind}
 use Rattle.name_rules.specs.declared.found.Denoted.TheVariants as denoted
 use Rattle.name_rules.specs.declared.found.Found.TheVariants as known
 use Rattle.name_rules.specs.declared.found.Found.{Found as Known}
@@ -44,6 +44,7 @@ use Rattle.name_sites.proofs.Parts.{n-actuals, n-expr, n-selections_of, n-turned
 use Rattle.name_sites.proofs.Records.{SpendsInside, calling-of, list-sum, list-whole}
 use Rattle.name_sites.proofs.Spends.{Holds, Spends, h-joined, s-bind, s-fault, s-given, s-if, s-le, s-pure, s-some, s-then, s-where_clean}
 use Rattle.name_sites.proofs.Counts.{in_selections}
+use Rattle.name_rules.specs.declared.types.Kind.{Kind}
 
 pub z-scalar_actual : (which : ℕ) (t : Taken) (s : Scalar) (p : ObjectName) (ss : Selections) (u : Scalar) → Unit {0} → Holds (part-measure which) (in_selections which ss) (scalar_actual t s p ss u)
 z-scalar_actual which t s p ss u h = by (is_out t.mode)
@@ -162,18 +163,18 @@ s-operands which names inside here made (syntax.AlsoArg (syntax.arg name e) as')
     let made2 = z-with_operand which made x h3 held1 in
     s-le which (option-of (list-of (with-part which))) _ _ _ (s-operands which names inside here (with_operand made x) as' h1 made2.0) (omega (arith, made2.1)))
 
-pub z-conversion_of : (which : ℕ) (x0 : ℕ) (x1 : Scalar) (x2 : TypedPart) → (part-measure which).Whole x2 → Holds (with-part which) (part-size which x2) (conversion_of x0 x1 x2)
-z-conversion_of which first s e h2 =
-    let made1 = z-scalar which first s.kind (Some s) (typed.Convert (check_at first s) (as_expr e)) tt in
-    let made2 = z-value_denoted which (scalar first s.kind (Some s) (typed.Convert (check_at first s) (as_expr e))) made1.0 in
+pub z-conversion_of : (which : ℕ) (x0 : ℕ) (x1 : Kind) (x2 : Scalar) (x3 : TypedPart) → (part-measure which).Whole x3 → Holds (with-part which) (part-size which x3) (conversion_of x0 x1 x2 x3)
+z-conversion_of which first k s e h3 =
+    let made1 = z-scalar which first s.kind (Some s) (typed.Convert (record { at = first; scalar = converted_from k s }) (as_expr e)) tt in
+    let made2 = z-value_denoted which (scalar first s.kind (Some s) (typed.Convert (record { at = first; scalar = converted_from k s }) (as_expr e))) made1.0 in
     (made2.0, omega (arith, made2.1, made1.1, n-expr which e))
 
 pub s-converted : (which : ℕ) (x0 : ℕ) (x1 : Scalar) (x2 : Found) → (with-part which).Whole x2 → Spends which (maybe-known which) (part-size which x2.part) (converted x0 x1 x2)
 s-converted which first s f h2 =
-    s-if which (maybe-known which) _ (is_number f.known) ((settled_found f) >>= λ e. given e (λ x. some (conversion_of first s x))) (fault (first_of f.known) WrongType)
+    s-if which (maybe-known which) _ (is_number f.known) ((settled_found f) >>= λ e. given e (λ x. some (conversion_of first (own_kind f.known) s x))) (fault (first_of f.known) WrongType)
     (s-bind which (maybe-part which) (maybe-known which) (part-size which f.part) 0 _ (settled_found f) _ (s-le which (maybe-part which) _ _ _ (s-settled_found which f h2) (omega arith)) (omega arith) (λ e held1.
     s-given which (part-measure which) (with-part which) 0 _ e _ held1 (omega arith) (λ x held2.
-    s-some which (with-part which) _ (conversion_of first s x) (let made3 = z-conversion_of which first s x held2 in
+    s-some which (with-part which) _ (conversion_of first (own_kind f.known) s x) (let made3 = z-conversion_of which first (own_kind f.known) s x held2 in
     (made3.0, omega (arith, made3.1))))))
     (s-fault which (with-part which) _ (first_of f.known) WrongType)
 

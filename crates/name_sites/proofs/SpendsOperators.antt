@@ -3,8 +3,8 @@ use Rattle.ada_base.specs.declared.operation.Op.TheVariants as op
 use Rattle.ada_base.specs.declared.operation.Op.{Op}
 use Rattle.name_rules.specs.Found.{Found, scalar, static, text_found, universal}
 use Rattle.name_rules.specs.Judging.{both, fault, given, pure, some, ◌>>=◌}
-use Rattle.name_rules.specs.Types.{class_of, in_base, same}
-use Rattle.name_rules.specs.Values.{asked, exact, first_of, fitting, is_kind, is_number, is_scalar, joint, kind_of, mentions_of, suits, value_of}
+use Rattle.name_rules.specs.Types.{class_of, in_base, same, is_modular}
+use Rattle.name_rules.specs.Values.{asked, exact, first_of, fitting, is_number, is_scalar, joint, kind_of, mentions_of, suits, value_of}
 use Rattle.name_rules.specs.declared.found.Found.TheVariants as known
 use Rattle.name_rules.specs.declared.found.Found.{Found as Known}
 use Rattle.name_rules.specs.declared.found.Limits.{Limits}
@@ -21,7 +21,7 @@ use Rattle.ada_base.specs.declared.operation.Comparison.{Comparison}
 use Rattle.std.specs.Prelude.{Bool, None, Option, Some, false, if◌then◌else◌, not, option_map, ℕ, ℤ, ◌&&◌, ◌+◌}
 use Rattle.name_rules.specs.TypedParts.{also_all}
 use Rattle.typed_tree.specs.Decoded.{TypedPart, as_expr}
-use Rattle.name_rules.specs.Operators.{binary, both_mentions, by_kinds, common_kind, compared, compared_at, compared_by, first_kind, joined_text, joined_texts, leaf, limit_of, logical, member, member_of, membership, negation, not_of, of_subtype, open_binary, open_form, open_of, open_plain, open_power, open_two, open_unary, operand_blamed, operation, operation_by, operation_on, plain, plain_by, plain_open, plain_typed, power, power_to, signed, static_of, static_operation, static_power, static_unary, static_universal, typed_operation, unary, unary_by, unary_open, unary_typed, universal_by, universal_operation, universal_power, universal_to, within_bounds}
+use Rattle.name_rules.specs.Operators.{binary, both_mentions, by_kinds, common_kind, compared, compared_at, compared_by, first_kind, joined_text, joined_texts, leaf, limit_of, logical, member, member_of, membership, negation, not_of, of_subtype, open_binary, open_form, open_of, open_plain, open_power, open_two, open_unary, operand_blamed, operation, operation_by, operation_on, plain, plain_by, plain_open, plain_typed, power, power_to, signed, static_of, static_operation, static_power, static_unary, static_universal, typed_operation, unary, unary_by, unary_open, unary_typed, universal_by, universal_operation, universal_power, universal_to, within_bounds, complement, not_by, is_logical_kind, logical_by}
 use Rattle.std.proofs.Common.{arith}
 use Rattle.name_laws.proofs.KeepsValues.{k-fitting}
 use Rattle.name_sites.proofs.SpendsFound.{z-opened, z-scalar, z-static, z-text_found, z-universal}
@@ -267,13 +267,27 @@ s-negation which at a h1 =
     s-some which (with-part which) _ (scalar at kind.Boolean None (typed.Unary at unary'.Not class.Boolean (as_expr e))) (let made3 = z-scalar which at kind.Boolean None (typed.Unary at unary'.Not class.Boolean (as_expr e)) tt in
     (made3.0, omega (arith, made3.1, n-expr which e)))))
 
+pub s-complement : (which : ℕ) (x0 : ℕ) (x1 : Found) (x2 : Kind) → (with-part which).Whole x1 → Spends which (maybe-known which) (part-size which x1.part) (complement x0 x1 x2)
+s-complement which at a k h1 =
+    s-bind which (maybe-part which) (maybe-known which) (part-size which a.part) 0 _ (asked k a) _ (s-le which (maybe-part which) _ _ _ (s-asked which k a h1) (omega arith)) (omega arith) (λ x held1.
+    s-given which (part-measure which) (with-part which) 0 _ x _ held1 (omega arith) (λ e held2.
+    s-some which (with-part which) _ (scalar at k None (typed.Unary at unary'.Not (class_of k) (as_expr e))) (let made3 = z-scalar which at k None (typed.Unary at unary'.Not (class_of k) (as_expr e)) tt in
+    (made3.0, omega (arith, made3.1, n-expr which e)))))
+
+pub s-not_by : (which : ℕ) (x0 : ℕ) (x1 : Found) (x2 : Option Kind) → (with-part which).Whole x1 → Spends which (maybe-known which) (part-size which x1.part) (not_by x0 x1 x2)
+s-not_by which at a None h1 = s-fault which (with-part which) _ at WrongType
+s-not_by which at a (Some k) h1 =
+    s-if which (maybe-known which) _ (same k kind.Boolean) (negation at a) (if is_modular k then complement at a k else fault at WrongType)
+    (s-le which (maybe-known which) _ _ _ (s-negation which at a h1) (omega arith))
+    (s-if which (maybe-known which) _ (is_modular k) (complement at a k) (fault at WrongType)
+    (s-le which (maybe-known which) _ _ _ (s-complement which at a k h1) (omega arith))
+    (s-fault which (with-part which) _ at WrongType))
+
 pub s-not_of : (which : ℕ) (x0 : ℕ) (x1 : Option Found) → (maybe-known which).Whole x1 → Spends which (maybe-known which) ((maybe-known which).size x1) (not_of x0 x1)
 unfolding not_of
 s-not_of which at x h1 =
     s-given which (with-part which) (with-part which) 0 _ x _ h1 (omega arith) (λ a held1.
-    s-if which (maybe-known which) _ (is_kind kind.Boolean (kind_of a.known)) (negation at a) (fault at WrongType)
-    (s-le which (maybe-known which) _ _ _ (s-negation which at a held1) (omega arith))
-    (s-fault which (with-part which) _ at WrongType))
+    s-le which (maybe-known which) _ _ _ (s-not_by which at a (kind_of a.known) held1) (omega arith))
 
 pub s-joined_texts : (which : ℕ) (x0 : ℕ) (x1 : Known) (x2 : TypedPart) (x3 : Known) (x4 : TypedPart) → (part-measure which).Whole x2 → (part-measure which).Whole x4 → Spends which (maybe-known which) (part-size which x2 + part-size which x4) (joined_texts x0 x1 x2 x3 x4)
 s-joined_texts which at (known.Text first) ps (known.Text second) qs h2 h4 =
@@ -287,13 +301,17 @@ s-joined_text which at x y h1 h2 =
     s-both which (with-part which) (with-part which) (with-part which) 0 _ x y _ h1 h2 (omega arith) (λ a held1 b held2.
     s-le which (maybe-known which) _ _ _ (s-joined_texts which at a.known a.part b.known b.part held1 held2) (omega arith))
 
+pub s-logical_by : (which : ℕ) (x0 : Op) (x1 : ℕ) (x2 : Found) (x3 : Found) (x4 : Kind) → (with-part which).Whole x2 → (with-part which).Whole x3 → Spends which (maybe-known which) (part-size which x2.part + part-size which x3.part) (logical_by x0 x1 x2 x3 x4)
+s-logical_by which o at a b k h2 h3 =
+    s-if which (maybe-known which) _ (is_logical_kind k && (suits k a.known && suits k b.known)) (operation_on o at k k a b) (fault at WrongType)
+    (s-le which (maybe-known which) _ _ _ (s-operation_on which o at k k a b h2 h3) (omega arith))
+    (s-fault which (with-part which) _ at WrongType)
+
 pub s-logical : (which : ℕ) (x0 : Op) (x1 : ℕ) (x2 : Option Found) (x3 : Option Found) → (maybe-known which).Whole x2 → (maybe-known which).Whole x3 → Spends which (maybe-known which) ((maybe-known which).size x2 + (maybe-known which).size x3) (logical x0 x1 x2 x3)
 unfolding logical
 s-logical which o at x y h2 h3 =
     s-both which (with-part which) (with-part which) (with-part which) 0 _ x y _ h2 h3 (omega arith) (λ a held1 b held2.
-    s-if which (maybe-known which) _ (is_kind kind.Boolean (kind_of a.known) && is_kind kind.Boolean (kind_of b.known)) (operation_on o at kind.Boolean kind.Boolean a b) (fault at WrongType)
-    (s-le which (maybe-known which) _ _ _ (s-operation_on which o at kind.Boolean kind.Boolean a b held1 held2) (omega arith))
-    (s-fault which (with-part which) _ at WrongType))
+    s-le which (maybe-known which) _ _ _ (s-logical_by which o at a b (common_kind (kind_of a.known) (kind_of b.known)) held1 held2) (omega arith))
 
 pub s-compared_at : (which : ℕ) (x0 : Kind) (x1 : Comparison) (x2 : Found) (x3 : Found) → (with-part which).Whole x2 → (with-part which).Whole x3 → Spends which (maybe-known which) (part-size which x2.part + part-size which x3.part) (compared_at x0 x1 x2 x3)
 unfolding compared_at

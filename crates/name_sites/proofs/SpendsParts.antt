@@ -32,13 +32,12 @@ use Rattle.typed_tree.specs.Decoded as part
 use Rattle.typed_tree.specs.Syntax as typed
 use Rattle.typed_tree.specs.Syntax.{Iteration, Optional, Selections}
 use Rattle.typed_tree.specs.declared.program.SiteKind.TheVariants as site
-use Rattle.std.specs.Prelude.{Bool, None, Option, Some, false, option_map, true, ℕ, ◌+◌}
+use Rattle.std.specs.Prelude.{Bool, None, Option, Some, false, true, ℕ, ◌+◌}
 use Rattle.name_rules.specs.TypedParts.{selections_of}
 use Rattle.typed_tree.specs.Decoded.{TypedPart}
 use Rattle.name_rules.specs.Parts.{array_reduced, array_reduction, array_shape, attribute_with, call, call_form, is_parallel, item_found, name, new_parameter, new_site, next_part, of_array, other_with, part_alone, part_of, parts, reduced_with, site_where, through, value_form, value_named, valued_by, valued_form, wrong_arguments}
 use Rattle.std.proofs.Common.{arith, length, refl, ◌≡◌, ◌≤◌}
 use Rattle.name_laws.proofs.KeepsNames.{k-args_alone}
-use Rattle.name_laws.proofs.KeepsParts.{k-new_parameter}
 use Rattle.name_laws.proofs.KeepsReducers.{k-reducer_of}
 use Rattle.name_laws.proofs.Walk.{k-read}
 use Rattle.name_sites.proofs.SpendsAttributes.{s-attribute_found, s-bound_with, s-scalar_with, s-settled_attribute, z-mentioned}
@@ -53,7 +52,7 @@ use Rattle.name_sites.proofs.Leaving.{leaving, left, left-falls}
 use Rattle.name_sites.proofs.Measures.{counted-by, maybe-known, part-measure, part-size, with-part}
 use Rattle.name_sites.proofs.Parts.{n-selections_of}
 use Rattle.name_sites.proofs.Records.{SpendsInside, site-of}
-use Rattle.name_sites.proofs.Spends.{Holds, Spends, SpendsAt, h-map, left-given, number-next, s-none, s-bind, s-both-second, s-fault, s-given, s-if, s-le, s-new_site, s-pure, s-read, s-some, s-then, s-where_clean-any}
+use Rattle.name_sites.proofs.Spends.{Holds, Spends, SpendsAt, h-map, left-given, number-next, s-none, s-bind, s-fault, s-given, s-if, s-le, s-new_site, s-pure, s-some, s-then, s-where_clean-any}
 use Rattle.typed_sites.specs.Sites.{in_number}
 use Rattle.name_sites.proofs.Counts.{again, again-more, again-none, in_filter, in_iteration, in_optional, in_selections}
 

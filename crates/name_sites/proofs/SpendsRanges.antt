@@ -5,7 +5,7 @@ use Rattle.name_rules.specs.Found.{Found}
 use Rattle.name_rules.specs.Judging.{Judging, fault, given, joined, pure, some, ◌>>=◌}
 use Rattle.name_rules.specs.Names.{denoted_first}
 use Rattle.name_rules.specs.Operators.{both_mentions, common_kind}
-use Rattle.name_rules.specs.Types.{base_of, is_integer, lies_in}
+use Rattle.name_rules.specs.Types.{base_of, lies_in, is_modular, kept}
 use Rattle.name_rules.specs.Values.{asked, first_of, is_number, is_scalar, kind_of, mentions_of, static_of_kind, suits}
 use Rattle.name_rules.specs.declared.found.Denoted.TheVariants as denoted
 use Rattle.name_rules.specs.declared.found.Denoted.{Denoted as KnownDenoted}
@@ -20,9 +20,9 @@ use Rattle.name_rules.specs.declared.types.Wanted.TheVariants as wanted
 use Rattle.syntax_tree.specs.Syntax as syntax
 use Rattle.syntax_tree.specs.Syntax.{Range, Simple}
 use Rattle.typed_tree.specs.Decoded as part
-use Rattle.std.specs.Prelude.{Bool, None, Option, Some, false, if◌then◌else◌, int_le, not, option_map, ℕ, ℤ, ◌&&◌, ◌+◌}
+use Rattle.std.specs.Prelude.{Bool, None, Option, Some, false, if◌then◌else◌, int_le, not, option_map, ℕ, ℤ, ◌&&◌, ◌+◌, ◌||◌}
 use Rattle.typed_tree.specs.Decoded.{TypedPart}
-use Rattle.name_rules.specs.Ranges.{both_static, bounded_by, bounds_of, checked_range, checked_span, chosen_span, chosen_value, dimension, inside_subtype, named_range, of_one_type, of_static, one_value, own_bounds, own_range, preferred, range, range_part, range_values, scalar_type, spanned, static_bounds, static_by, static_checked, static_name, static_range, static_scalar, two_bounds, two_values, values_of, whole_range}
+use Rattle.name_rules.specs.Ranges.{both_static, bounded_by, bounds_of, checked_range, checked_span, chosen_span, chosen_value, dimension, inside_subtype, named_range, of_one_type, of_static, one_value, own_bounds, own_range, preferred, range, range_part, range_values, scalar_type, spanned, static_bounds, static_by, static_checked, static_name, static_range, static_scalar, two_bounds, two_values, values_of, whole_range, is_index}
 use Rattle.std.proofs.Common.{arith}
 use Rattle.name_laws.proofs.KeepsRanges.{k-both_static, k-inside_subtype, k-scalar_type}
 use Rattle.name_laws.proofs.KeepsValues.{k-static_of_kind}
@@ -56,8 +56,9 @@ s-bounds_of which k a z h1 h2 =
 
 pub s-of_one_type : (which : ℕ) {A : Type 0} (m : Measure A) (n : ℕ) (a z : Known) (k : Kind) (f : Kind → Judging (Option A)) → ((k : Kind) → Spends which (option-of m) n (f k)) → Spends which (option-of m) n (of_one_type a z k f)
 s-of_one_type which m n a z k f h =
-    s-if which (option-of m) n (not (is_scalar a)) (fault (first_of a) WrongType) (if not (suits k a) then fault (first_of z) WrongType else f k) (s-fault which m n (first_of a) WrongType)
-    (s-if which (option-of m) n (not (suits k a)) (fault (first_of z) WrongType) (f k) (s-fault which m n (first_of z) WrongType) (h k))
+    s-if which (option-of m) n (not (is_scalar a)) (fault (first_of a) WrongType) (if not (suits k a) then fault (first_of z) WrongType else if is_modular k then fault (first_of a) WrongType else f k) (s-fault which m n (first_of a) WrongType)
+    (s-if which (option-of m) n (not (suits k a)) (fault (first_of z) WrongType) (if is_modular k then fault (first_of a) WrongType else f k) (s-fault which m n (first_of z) WrongType)
+    (s-if which (option-of m) n (is_modular k) (fault (first_of a) WrongType) (f k) (s-fault which m n (first_of a) WrongType) (h k)))
 
 pub z-bounded_by : (which : ℕ) (x0 : ℕ) (x1 : Scalar) (x2 : Option Scalar) (x3 : Found) (x4 : Found) (x5 : TypedPart) → (part-measure which).Whole x5 → Holds (with-part which) (part-size which x5) (bounded_by x0 x1 x2 x3 x4 x5)
 z-bounded_by which at s c a z x h5 = (h5, omega arith)
@@ -76,10 +77,12 @@ s-own_bounds which first a z h1 h2 = s-of_one_type which (with-part which) _ a.k
 pub s-checked_range : (which : ℕ) (x0 : ℕ) (x1 : Scalar) (x2 : Found) (x3 : Found) → (with-part which).Whole x2 → (with-part which).Whole x3 → Spends which (maybe-known which) (part-size which x2.part + part-size which x3.part) (checked_range x0 x1 x2 x3)
 unfolding checked_range
 s-checked_range which first s a z h2 h3 =
-    s-bind which (maybe-part which) (maybe-known which) (part-size which a.part + part-size which z.part) 0 _ (bounds_of s.kind a z) _ (s-le which (maybe-part which) _ _ _ (s-bounds_of which s.kind a z h2 h3) (omega arith)) (omega arith) (λ x held1.
+    s-if which (maybe-known which) _ (is_modular s.kind) (fault first WrongType) (bounds_of s.kind a z >>= λ x. pure (option_map (bounded_by first s (Some s) a z) x))
+    (s-fault which (with-part which) _ first WrongType)
+    (s-bind which (maybe-part which) (maybe-known which) (part-size which a.part + part-size which z.part) 0 _ (bounds_of s.kind a z) _ (s-le which (maybe-part which) _ _ _ (s-bounds_of which s.kind a z h2 h3) (omega arith)) (omega arith) (λ x held1.
     s-pure which (maybe-known which) _ (option_map (bounded_by first s (Some s) a z) x) (let made4 = h-map (part-measure which) (with-part which) 0 (bounded_by first s (Some s) a z) x held1 (λ item held2. let made3 = z-bounded_by which first s (Some s) a z item held2 in
     (made3.0, omega (arith, made3.1))) in
-    (made4.0, omega (arith, made4.1))))
+    (made4.0, omega (arith, made4.1)))))
 
 pub z-whole_range : (which : ℕ) (x0 : ℕ) (x1 : Kind) (x2 : ℤ) (x3 : ℤ) (x4 : TypedPart) → (part-measure which).Whole x4 → Holds (with-part which) (part-size which x4) (whole_range x0 x1 x2 x3 x4)
 z-whole_range which first k low high ms h4 =
@@ -92,8 +95,10 @@ s-named_range which (denoted.Range first d) x h1 =
     s-some which (with-part which) _ (whole_range first d.kind d.low d.high x) (let made1 = z-whole_range which first d.kind d.low d.high x h1 in
     (made1.0, omega (arith, made1.1)))
 s-named_range which (denoted.Type first (subtype.Scalar s)) x h1 =
-    s-some which (with-part which) _ (whole_range first s.kind s.low s.high part.Nothing) (let made1 = z-whole_range which first s.kind s.low s.high part.Nothing tt in
-    (made1.0, omega (arith, made1.1)))
+    s-if which (maybe-known which) _ (is_modular s.kind) (fault first WrongType) (some (whole_range first s.kind s.low s.high part.Nothing))
+    (s-fault which (with-part which) _ first WrongType)
+    (s-some which (with-part which) _ (whole_range first s.kind s.low s.high part.Nothing) (let made1 = z-whole_range which first s.kind s.low s.high part.Nothing tt in
+    (made1.0, omega (arith, made1.1))))
 s-named_range which d x h1 = s-fault which (with-part which) _ (denoted_first d) WrongType
 
 pub s-range : (which : ℕ) (x0 : Inside) (x1 : Context) (x2 : Range) → SpendsInside which x0 → Spends which (maybe-known which) 0 (range x0 x1 x2)
@@ -138,7 +143,7 @@ s-checked_span which first must_hold s a z r h3 h4 =
 
 pub s-static_by : (which : ℕ) (x0 : ℕ) (x1 : Bool) (x2 : Found) (x3 : Found) (x4 : Kind) → (with-part which).Whole x2 → (with-part which).Whole x3 → Spends which (maybe-known which) (part-size which x2.part + part-size which x3.part) (static_by x0 x1 x2 x3 x4)
 s-static_by which first must_hold a z k h2 h3 =
-    s-if which (maybe-known which) _ (not (is_number a.known)) (fault (first_of a.known) WrongType) (if not (suits k a.known && suits k z.known) then fault (first_of z.known) WrongType else (both_static k a z) >>= λ s. given s (spanned first must_hold k a z))
+    s-if which (maybe-known which) _ (not (is_number a.known) || is_modular k) (fault (first_of a.known) WrongType) (if not (suits k a.known && suits k z.known) then fault (first_of z.known) WrongType else (both_static k a z) >>= λ s. given s (spanned first must_hold k a z))
     (s-fault which (with-part which) _ (first_of a.known) WrongType)
     (s-if which (maybe-known which) _ (not (suits k a.known && suits k z.known)) (fault (first_of z.known) WrongType) ((both_static k a z) >>= λ s. given s (spanned first must_hold k a z))
     (s-fault which (with-part which) _ (first_of z.known) WrongType)
@@ -152,7 +157,7 @@ s-static_bounds which first must_hold want a z h3 h4 = s-le which (maybe-known w
 
 pub s-static_scalar : (which : ℕ) (x0 : ℕ) (x1 : Scalar) → Spends which (maybe-known which) 0 (static_scalar x0 x1)
 s-static_scalar which first s =
-    s-if which (maybe-known which) _ (is_integer s.kind) (some (record { known = record { kind = s.kind; low = s.low; high = s.high }; part = part.Nothing })) (fault first WrongType)
+    s-if which (maybe-known which) _ (is_index s.kind) (some (record { known = record { kind = s.kind; low = s.low; high = s.high }; part = part.Nothing })) (fault first WrongType)
     (s-some which (with-part which) _ (record { known = record { kind = s.kind; low = s.low; high = s.high }; part = part.Nothing }) (tt, omega arith))
     (s-fault which (with-part which) _ first WrongType)
 
@@ -164,7 +169,7 @@ s-static_name which first d x h2 = s-fault which (with-part which) _ (denoted_fi
 pub s-static_checked : (which : ℕ) (x0 : ℕ) (x1 : Bool) (x2 : Scalar) (x3 : Found) (x4 : Found) → (with-part which).Whole x3 → (with-part which).Whole x4 → Spends which (maybe-known which) (part-size which x3.part + part-size which x4.part) (static_checked x0 x1 x2 x3 x4)
 unfolding static_checked
 s-static_checked which first must_hold t a z h3 h4 =
-    s-if which (maybe-known which) _ (is_integer t.kind) ((both_static t.kind a z) >>= λ v. given v (checked_span first must_hold t a z)) (fault first WrongType)
+    s-if which (maybe-known which) _ (is_index t.kind) ((both_static t.kind a z) >>= λ v. given v (checked_span first must_hold t a z)) (fault first WrongType)
     (s-then which (maybe-known which) _ (both_static t.kind a z) _ (k-both_static leaving t.kind a z) (λ v.
     s-given-any which (with-part which) _ v _ (λ item.
     s-le which (maybe-known which) _ _ _ (s-checked_span which first must_hold t a z item h3 h4) (omega arith))))
@@ -192,7 +197,7 @@ pub s-one_value : (which : ℕ) (x0 : Kind) (x1 : Found) → (with-part which).W
 s-one_value which k f h1 =
     s-then which (maybe-known which) _ (static_of_kind k f) _ (k-static_of_kind leaving k f) (λ v.
     s-given-any which (with-part which) _ v _ (λ z.
-    s-some which (with-part which) _ (record { known = record { at = first_of f.known; low = z; high = z }; part = mentions_of f }) (let made3 = z-mentions_of which f h1 in
+    s-some which (with-part which) _ (record { known = record { at = first_of f.known; low = kept k z; high = kept k z }; part = mentions_of f }) (let made3 = z-mentions_of which f h1 in
     (made3.0, omega (arith, made3.1)))))
 
 pub s-two_values : (which : ℕ) (x0 : Kind) (x1 : Found) (x2 : Found) → (with-part which).Whole x1 → (with-part which).Whole x2 → Spends which (maybe-known which) (part-size which x1.part + part-size which x2.part) (two_values x0 x1 x2)
@@ -200,7 +205,7 @@ s-two_values which k a z h1 h2 =
     s-then which (maybe-known which) _ (static_of_kind k a) _ (k-static_of_kind leaving k a) (λ u.
     s-then which (maybe-known which) _ (static_of_kind k z) _ (k-static_of_kind leaving k z) (λ v.
     s-both-any which (with-part which) _ u v _ (λ x y.
-    s-some which (with-part which) _ (record { known = record { at = first_of a.known; low = x; high = y }; part = both_mentions a z }) (let made5 = z-both_mentions which a z h1 h2 in
+    s-some which (with-part which) _ (record { known = record { at = first_of a.known; low = kept k x; high = kept k y }; part = both_mentions a z }) (let made5 = z-both_mentions which a z h1 h2 in
     (made5.0, omega (arith, made5.1))))))
 
 pub s-values_of : (which : ℕ) (x0 : Option Kind) (x1 : Option Found) → (maybe-known which).Whole x1 → Spends which (maybe-known which) ((maybe-known which).size x1) (values_of x0 x1)

@@ -14,7 +14,6 @@ use Rattle.name_rules.specs.declared.found.Limits.{Limits}
 use Rattle.name_rules.specs.declared.log.Log.{Log}
 use Rattle.name_rules.specs.declared.log.Rule.TheVariants.{ReduceRule}
 use Rattle.name_rules.specs.declared.log.Taken.{Taken}
-use Rattle.name_rules.specs.declared.types.Kind.TheVariants as kind
 use Rattle.name_rules.specs.declared.types.Kind.{Kind}
 use Rattle.name_rules.specs.declared.types.Scalar.{Scalar}
 use Rattle.name_rules.specs.declared.types.Subtype.TheVariants as subtype
@@ -24,7 +23,7 @@ use Rattle.typed_tree.specs.declared.expressions.Reducer.{Reducer}
 use Rattle.typed_tree.specs.declared.scalars.Class.TheVariants as class
 use Rattle.std.specs.Prelude.{List, None, Option, Some, [], if◌then◌else◌, is_some, not, ℕ, ◌&&◌, ◌+◌, ◌≤◌, ◌||◌, ◌∷◌}
 use Rattle.typed_tree.specs.Decoded.{TypedPart, as_expr, as_iteration}
-use Rattle.name_rules.specs.Reducers.{by_function, by_operator, by_subtypes, folded_by, is_logical, numeric, of_kind, open_reduction, reduced, reduction}
+use Rattle.name_rules.specs.Reducers.{by_function, by_operator, by_subtypes, folded_by, is_logical, numeric, of_kind, open_reduction, reduced, reduction, logical_kind}
 use Rattle.std.proofs.Common.{arith}
 use Rattle.name_sites.proofs.SpendsFound.{z-opened, z-scalar}
 use Rattle.name_sites.proofs.SpendsOperators.{z-open_of}
@@ -98,8 +97,8 @@ t-numeric which g c i at o x v None (Some k) h5 h6 log late = t-of_kind which g 
 pub t-by_operator : (which : ℕ) (x0 : Going) (x1 : TypedPart) (x2 : TypedPart) (x3 : ℕ) (x4 : Op) (x5 : Found) (x6 : Found) → (with-part which).Whole x5 → (with-part which).Whole x6 → (log : Log) → Late which x0 x2 (part-size which x5.part) log
     → SpendsAt which (maybe-known which) ((site-of which).size x0.site + part-size which x1 + part-size which x2 + part-size which x5.part + part-size which x6.part) (by_operator x0 x1 x2 x3 x4 x5 x6) log
 t-by_operator which g c i at o x v h5 h6 log late =
-    at-if which (maybe-known which) _ (is_logical o) (of_kind g c i at o kind.Boolean x v) (if is_number x.known && is_number v.known then numeric g c i at o x v (kind_of x.known) (kind_of v.known) else fault at ReduceRule) log
-    (t-of_kind which g c i at o kind.Boolean x v h5 h6 log late)
+    at-if which (maybe-known which) _ (is_logical o) (of_kind g c i at o (logical_kind (kind_of x.known) (kind_of v.known)) x v) (if is_number x.known && is_number v.known then numeric g c i at o x v (kind_of x.known) (kind_of v.known) else fault at ReduceRule) log
+    (t-of_kind which g c i at o (logical_kind (kind_of x.known) (kind_of v.known)) x v h5 h6 log late)
     (at-if which (maybe-known which) _ (is_number x.known && is_number v.known) (numeric g c i at o x v (kind_of x.known) (kind_of v.known)) (fault at ReduceRule) log
     (t-numeric which g c i at o x v (kind_of x.known) (kind_of v.known) h5 h6 log late)
     ((s-fault which (with-part {K = Known} which) _ at ReduceRule).at log))

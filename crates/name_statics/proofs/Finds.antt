@@ -25,19 +25,33 @@ abbrev pub Maybe : {A : Type 0} → (A → Type 0) → Option A → Type 0
 Maybe Q None = Unit {0}
 Maybe Q (Some a) = Q a
 
--- what isn't static leaves no value, whatever type it takes
-abbrev pub Bare : Known → TypedPart → Type 0
-Bare (known.Open first l) x = (c : Class) → static_in (with_class c (as_expr x)) ≡ None
-Bare (known.Scalar first k n) x = static_in (as_expr x) ≡ None
-Bare f x = Unit {0}
+-- what isn't static leaves no value, whatever type it takes, but for a bound of a modular subtype
+abbrev pub Bare : Option ℤ → Known → TypedPart → Type 0
+Bare b (known.Open first l) x = (c : Class) → static_in (with_class c (as_expr x)) ≡ b
+Bare b (known.Scalar first k n) x = static_in (as_expr x) ≡ b
+Bare b f x = b ≡ None
 
 -- a scalar of a static value, or of none
-pub record Is (v : Option ℤ) (f : Found) : Type 0 where
+abbrev pub Has : Option ℤ → Found → Type 0
+Has v = λ f. is_scalar f.known ≡ true → value_of f.known ≡ v
+
+-- the same, with the bound that it leaves
+pub record IsWith (v b : Option ℤ) (f : Found) : Type 0 where
   pub value : is_scalar f.known ≡ true → value_of f.known ≡ v
-  pub bare : Bare f.known f.part
+  pub bare : Bare b f.known f.part
+
+abbrev pub Is : Option ℤ → Found → Type 0
+Is v = IsWith v None
+
+abbrev pub FindingWith : Option ℤ → Option ℤ → Option Found → Type 0
+FindingWith v b = Maybe (IsWith v b)
 
 abbrev pub Finding : Option ℤ → Option Found → Type 0
-Finding v = Maybe (Is v)
+Finding v = FindingWith v None
+
+pub has : (v b : Option ℤ) (x : Option Found) → FindingWith v b x → Maybe (Has v) x
+has v b None h = tt
+has v b (Some f) h = h.value
 
 -- what a name that denotes something stands for
 abbrev pub meant : KnownDenoted → Standing
@@ -48,17 +62,23 @@ meant (denoted.Attribute first (prefix.Object p) at a) = OfObject a p.subtype
 meant (denoted.Attribute first (prefix.Type t) at a) = OfType a t
 meant d = Value None
 
-abbrev pub BareName : KnownDenoted → TypedPart → Type 0
-BareName (denoted.Value f) x = Bare f x
-BareName (denoted.Parameter first s) x = static_in (as_expr x) ≡ None
-BareName d x = Unit {0}
+abbrev pub BareName : Option ℤ → KnownDenoted → TypedPart → Type 0
+BareName b (denoted.Value f) x = Bare b f x
+BareName b (denoted.Parameter first s) x = static_in (as_expr x) ≡ b
+BareName b d x = b ≡ None
 
-pub record Means (s : Standing) (d : Denoted) : Type 0 where
+pub record MeansWith (s : Standing) (b : Option ℤ) (d : Denoted) : Type 0 where
   pub meaning : meant d.known ≡ s
-  pub bare : BareName d.known d.part
+  pub bare : BareName b d.known d.part
+
+abbrev pub Means : Standing → Denoted → Type 0
+Means s = MeansWith s None
+
+abbrev pub NamingWith : Standing → Option ℤ → Option Denoted → Type 0
+NamingWith s b = Maybe (MeansWith s b)
 
 abbrev pub Naming : Standing → Option Denoted → Type 0
-Naming s = Maybe (Means s)
+Naming s = NamingWith s None
 
 -- ---- whatever was written before
 

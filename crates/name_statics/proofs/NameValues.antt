@@ -12,11 +12,11 @@ use Rattle.name_rules.specs.declared.scope.What.TheVariants as what
 use Rattle.std.proofs.Common.{◌≡◌, refl, sym, subst, ℕ, List, [], ◌∷◌, Option, Some, None, ◌&&◌, ℤ, Bool, true, false, option_map, pos, length, if◌then◌else◌, ◌-◌, int_le, slice_get, ◌==◌, ◌+◌}
 use Rattle.std.specs.Prelude.{unsigned_abs, Bool, None, Option, Some, [], false, if◌then◌else◌, length, option_map, true, ℕ, ◌+◌, ◌∷◌}
 use Rattle.typed_tree.specs.Decoded.{TypedPart, as_chunk, as_expr, as_iteration, as_actual, as_actuals, as_value, as_stmt}
-use Rattle.name_rules.specs.Calls.{arg_names, operands, with_operand}
-use Rattle.name_rules.specs.Found.{Found, Denoted, denote, parameter_found, static, value_denoted, universal}
+use Rattle.name_rules.specs.Calls.{arg_names, operands, with_operand, sub_call}
+use Rattle.name_rules.specs.Found.{Found, Denoted, denote, parameter_found, static, value_denoted, universal, scalar}
 use Rattle.name_rules.specs.Judging.{fault, read, ◌>>=◌, given, where_clean, some, Judging}
 use Rattle.name_rules.specs.Reducers.{reducer_of}
-use Rattle.name_rules.specs.Types.{component_of, dimensions_of, extent, shape_in, fields_of}
+use Rattle.name_rules.specs.Types.{component_of, dimensions_of, extent, shape_in, fields_of, is_modular}
 use Rattle.name_rules.specs.Values.{asked, is_number, mentions_of, value_of, first_of, own_kind, static_of_kind}
 use Rattle.name_rules.specs.declared.log.Rule.TheVariants.{ReduceRule, NotVisible, Unknown, WrongType, StaticRange}
 use Rattle.name_rules.specs.declared.types.Kind.{Kind}
@@ -25,7 +25,7 @@ use Rattle.name_rules.specs.declared.types.Subtype.{Subtype}
 use Rattle.syntax_tree.specs.Syntax.{Args, Elsifs, Expr, Iter, Name, OptionalParallel, NameParts, Primary, Arg}
 use Rattle.syntax_tree.specs.Syntax.{NamePart}
 use Rattle.typed_tree.specs.Syntax.{Selections, Expr as TypedExpr, Actuals, Iteration, Optional}
-use Rattle.name_rules.specs.Attributes.{attribute_at, bound_with, dimensions_in, is_array_object, is_bound, is_reduction, mentioned, settled_attribute, alone, attribute_found, bound_alone, bound_in, dimension_at, dimension_bound, dimension_given, one_dimension, prefix_of, reduced_alone, scalar_bound, scalar_with, settled_form}
+use Rattle.name_rules.specs.Attributes.{attribute_at, bound_with, dimensions_in, is_array_object, is_bound, is_reduction, mentioned, settled_attribute, alone, attribute_found, bound_alone, bound_in, dimension_at, dimension_bound, dimension_given, one_dimension, prefix_of, reduced_alone, scalar_bound, scalar_with, settled_form, is_left_out, bound_found}
 use Rattle.name_rules.specs.Expressions.{Inside, expr}
 use Rattle.name_rules.specs.Names.{args_alone, denoted_first, field, wrong_call, array_call, component_cells, count, field_form, field_from, field_in, field_of, index_shape, indexed, is_array, is_record, object_call, part_place}
 use Rattle.name_rules.specs.Parts.{array_reduced, array_reduction, array_shape, attribute_with, call, call_form, is_parallel, item_found, name, new_parameter, next_part, other_with, part_alone, part_of, parts, reduced_with, site_where, through, value_form, value_named, valued_by, valued_form, wrong_arguments}
@@ -60,11 +60,13 @@ use Rattle.name_laws.proofs.KeepsParts.{k-attribute_with, k-part_alone, k-value_
 use Rattle.name_laws.proofs.KeepsScope.{k-selected, k-stands_for}
 use Rattle.name_laws.proofs.Walk.{k-bind, k-fault, k-if, k-read}
 use Rattle.name_statics.proofs.ExpressionValues.{LevelTells, t-expr, there}
-use Rattle.name_statics.proofs.Finds.{BareName, Finding, Finds, Is, Maybe, Means, Naming, Tells, f-bind, f-both, f-fault, f-given, f-if, f-none, f-pure, f-some, f-then, f-where_clean, meant, t-at, t-bind, t-given, t-if, t-of, t-pure, t-where_clean}
+use Rattle.name_statics.proofs.Finds.{BareName, Finds, Maybe, Means, Naming, Tells, f-bind, f-both, f-fault, f-given, f-if, f-none, f-pure, f-some, f-then, f-where_clean, meant, t-at, t-bind, t-given, t-if, t-of, t-pure, t-where_clean, Bare, FindingWith, Has, IsWith, MeansWith, NamingWith, has}
 use Rattle.name_statics.proofs.Operations.{number-scalar}
 use Rattle.name_statics.proofs.Same.{same_component, same_dimensions, same_fields, walk}
 use Rattle.name_statics.proofs.Unvalued.{Plain, f-conversion, f-folded_by, f-io_call, f-object_image, f-parameter_image, f-scalar_with, f-selected, f-sub_call, f-undeclared, f-wrong_call, nothing}
-use Rattle.name_statics.specs.Values.{Around, Standing, Value, Object, ASubtype, OfObject, OfType, after_bracket, after_part, after_parts, after_point, after_tick, alone as settled, bound, component, declared, dimension, dimensions, expr_value, field_named, name_value, scalar_bound as bound_of_scalar, value_in}
+use Rattle.name_statics.specs.Values.{Around, Standing, Value, Object, ASubtype, OfObject, OfType, after_bracket, after_part, after_parts, after_point, after_tick, alone as settled, bound, component, declared, dimension, dimensions, expr_value, field_named, name_value, scalar_bound as bound_of_scalar, value_in, expr_bound, name_bound, modular_in, modular_bound}
+use Rattle.name_rules.specs.Operators.{limit_of}
+use Rattle.name_rules.specs.Output.{io_call}
 
 -- ---- identifiers
 
@@ -72,14 +74,14 @@ f-stands : (here : Context) (token name : ℕ) (w : Option What) → Finds (Nami
 f-stands here token name None = f-undeclared here token name
 f-stands here token name (Some what.Hidden) = f-fault (Means nothing) token NotVisible
 f-stands here token name (Some what.Broken) = f-none (Means nothing)
-f-stands here token name (Some (what.Object n s v z)) = f-some (Means (Object s z)) _ (record { meaning = refl; bare = tt })
+f-stands here token name (Some (what.Object n s v z)) = f-some (Means (Object s z)) _ (record { meaning = refl; bare = refl })
 f-stands here token name (Some (what.Parameter n s)) = f-some (Means nothing) (denote (denoted.Parameter token s) (part.AnExpr (typed.Parameter token n))) (record { meaning = refl; bare = refl })
-f-stands here token name (Some (what.Item n s v)) = f-some (Means (Object s None)) _ (record { meaning = refl; bare = tt })
-f-stands here token name (Some (what.Number z)) = f-some (Means (Value (Some z))) _ (record { meaning = refl; bare = tt })
-f-stands here token name (Some (what.Boolean b)) = f-some (Means (Value (Some (bit b)))) _ (record { meaning = refl; bare = tt })
-f-stands here token name (Some (what.Type s)) = f-some (Means (ASubtype s)) _ (record { meaning = refl; bare = tt })
-f-stands here token name (Some (what.Sub n)) = f-some (Means nothing) _ (record { meaning = refl; bare = tt })
-f-stands here token name (Some (what.Exception r)) = f-some (Means nothing) _ (record { meaning = refl; bare = tt })
+f-stands here token name (Some (what.Item n s v)) = f-some (Means (Object s None)) _ (record { meaning = refl; bare = refl })
+f-stands here token name (Some (what.Number z)) = f-some (Means (Value (Some z))) _ (record { meaning = refl; bare = refl })
+f-stands here token name (Some (what.Boolean b)) = f-some (Means (Value (Some (bit b)))) _ (record { meaning = refl; bare = refl })
+f-stands here token name (Some (what.Type s)) = f-some (Means (ASubtype s)) _ (record { meaning = refl; bare = refl })
+f-stands here token name (Some (what.Sub n)) = f-some (Means nothing) _ (record { meaning = refl; bare = refl })
+f-stands here token name (Some (what.Exception r)) = f-some (Means nothing) _ (record { meaning = refl; bare = refl })
 
 f-stands_for : (names : Names) (here : Context) (token : ℕ) → Finds (Naming (declared (lookup (symbol names token) here.scope))) (stands_for names here token)
 unfolding stands_for
@@ -88,19 +90,26 @@ f-stands_for names here token = f-stands here token (symbol names token) (lookup
 -- ---- attributes of a dimension and of a scalar subtype
 
 f-dimension_bound : (first : ℕ) (ms : TypedPart) (a : Attribute) (d : Dimension) → Finds (Naming (Value (bound a (Some d)))) (dimension_bound first ms a d)
-f-dimension_bound first ms attribute'.First d = f-some (Means (Value (Some d.low))) (value_denoted (static first d.kind d.low ms)) (record { meaning = refl; bare = tt })
-f-dimension_bound first ms attribute'.Last d = f-some (Means (Value (Some d.high))) (value_denoted (static first d.kind d.high ms)) (record { meaning = refl; bare = tt })
-f-dimension_bound first ms attribute'.Length d = f-some (Means (Value (Some (pos (extent d))))) (value_denoted (universal first (pos (extent d)) false ms)) (record { meaning = refl; bare = tt })
-f-dimension_bound first ms attribute'.Range d = f-some (Means nothing) (denote (denoted.Range first d) ms) (record { meaning = refl; bare = tt })
+f-dimension_bound first ms attribute'.First d = f-some (Means (Value (Some d.low))) (value_denoted (static first d.kind d.low ms)) (record { meaning = refl; bare = refl })
+f-dimension_bound first ms attribute'.Last d = f-some (Means (Value (Some d.high))) (value_denoted (static first d.kind d.high ms)) (record { meaning = refl; bare = refl })
+f-dimension_bound first ms attribute'.Length d = f-some (Means (Value (Some (pos (extent d))))) (value_denoted (universal first (pos (extent d)) false ms)) (record { meaning = refl; bare = refl })
+f-dimension_bound first ms attribute'.Range d = f-some (Means nothing) (denote (denoted.Range first d) ms) (record { meaning = refl; bare = refl })
 f-dimension_bound first ms a d = f-fault (Means nothing) first WrongType
 
 f-bound_in : (first : ℕ) (ms : TypedPart) (a : Attribute) (d : Option Dimension) → Finds (Naming (Value (bound a d))) (bound_in first ms a d)
 f-bound_in first ms a None = f-fault (Means (Value (bound a None))) first WrongType
 f-bound_in first ms a (Some d) = f-dimension_bound first ms a d
 
-f-scalar_bound : (first : ℕ) (s : Scalar) (a : Attribute) → Finds (Naming (Value (bound_of_scalar a s))) (scalar_bound first s a)
-f-scalar_bound first s attribute'.First = f-some (Means (Value (Some s.low))) (value_denoted (static first s.kind s.low part.Nothing)) (record { meaning = refl; bare = tt })
-f-scalar_bound first s attribute'.Last = f-some (Means (Value (Some s.high))) (value_denoted (static first s.kind s.high part.Nothing)) (record { meaning = refl; bare = tt })
+bound-means : (first : ℕ) (k : Kind) (z : ℤ) → MeansWith (Value (if is_modular k then None else Some z)) (if is_modular k then Some z else None) (value_denoted (bound_found first k z))
+bound-means first k z = by (is_modular k)
+  where
+    by : (b : Bool) → MeansWith (Value (if b then None else Some z)) (if b then Some z else None) (value_denoted (if b then scalar first k None (limit_of first z) else static first k z part.Nothing))
+    by true = record { meaning = refl; bare = refl }
+    by false = record { meaning = refl; bare = refl }
+
+f-scalar_bound : (first : ℕ) (s : Scalar) (a : Attribute) → Finds (NamingWith (Value (bound_of_scalar a s)) (modular_bound a s)) (scalar_bound first s a)
+f-scalar_bound first s attribute'.First = f-some (MeansWith (Value (bound_of_scalar attribute'.First s)) (modular_bound attribute'.First s)) (value_denoted (bound_found first s.kind s.low)) (bound-means first s.kind s.low)
+f-scalar_bound first s attribute'.Last = f-some (MeansWith (Value (bound_of_scalar attribute'.Last s)) (modular_bound attribute'.Last s)) (value_denoted (bound_found first s.kind s.high)) (bound-means first s.kind s.high)
 f-scalar_bound first s a = f-fault (Means nothing) first WrongType
 
 -- without a dimension, that of the first
@@ -140,21 +149,28 @@ value-settled : (shapes : List Shape) (f : Known) → meant (denoted.Value f) �
 value-settled shapes (known.Object p) = refl
 value-settled shapes f = refl
 
-t-settled_form : (shapes : List Shape) (k : KnownDenoted) (x : TypedPart) → BareName k x → Tells shapes (Naming (settled shapes (meant k))) (settled_form k x)
+value-bound : (f : Known) → modular_in (meant (denoted.Value f)) ≡ None
+value-bound (known.Object p) = refl
+value-bound f = refl
+
+t-settled_form : (shapes : List Shape) (k : KnownDenoted) (x : TypedPart) → BareName None k x → Tells shapes (NamingWith (settled shapes (meant k)) (modular_in (meant k))) (settled_form k x)
 t-settled_form shapes (denoted.Attribute first (prefix.Object p) at a) x b = t-object_alone shapes first p x at a
 t-settled_form shapes (denoted.Attribute first (prefix.Parameter s) at a) x b = t-parameter_alone shapes first s x at a
 t-settled_form shapes (denoted.Attribute first (prefix.Type (subtype.Scalar s)) at a) x b =
-    t-alone_by shapes (Means (Value (bound_of_scalar a s))) first (prefix.Type (subtype.Scalar s)) x at a (t-of shapes (Naming (Value (bound_of_scalar a s))) _ (k-scalar_bound walk first s a) (f-scalar_bound first s a))
+    let Q = MeansWith (Value (bound_of_scalar a s)) (modular_bound a s) in
+    t-alone_by shapes Q first (prefix.Type (subtype.Scalar s)) x at a (t-of shapes (Maybe Q) _ (k-scalar_bound walk first s a) (f-scalar_bound first s a))
 t-settled_form shapes (denoted.Attribute first (prefix.Type (subtype.Composite n)) at a) x b =
     t-alone_by shapes (Means (Value (bound a (slice_get (dimensions shapes (subtype.Composite n)) 0)))) first (prefix.Type (subtype.Composite n)) x at a (t-first_dimension shapes first part.Nothing a (subtype.Composite n))
 t-settled_form shapes (denoted.Attribute first (prefix.Function n) at a) x b = t-alone_by shapes (Means nothing) first (prefix.Function n) x at a (t-no_bound shapes (Means nothing) first part.Nothing a)
 t-settled_form shapes (denoted.Attribute first prefix.Other at a) x b = t-alone_by shapes (Means nothing) first prefix.Other x at a (t-no_bound shapes (Means nothing) first part.Nothing a)
-t-settled_form shapes (denoted.Value f) x b = t-pure shapes (Naming (settled shapes (meant (denoted.Value f)))) (Some (denote (denoted.Value f) x)) (record { meaning = value-settled shapes f; bare = b })
-t-settled_form shapes k x b = t-pure shapes (Naming (settled shapes (meant k))) (Some (denote k x)) (record { meaning = refl; bare = b })
+t-settled_form shapes (denoted.Value f) x b =
+    t-pure shapes (NamingWith (settled shapes (meant (denoted.Value f))) (modular_in (meant (denoted.Value f)))) (Some (denote (denoted.Value f) x))
+    (record { meaning = value-settled shapes f; bare = subst (λ c. Bare c f x) (sym (value-bound f)) b })
+t-settled_form shapes k x b = t-pure shapes (NamingWith (settled shapes (meant k)) (modular_in (meant k))) (Some (denote k x)) (record { meaning = refl; bare = b })
 
-t-settled : (shapes : List Shape) (d : Denoted) (s : Standing) → Means s d → Tells shapes (Naming (settled shapes s)) (settled_attribute d)
+t-settled : (shapes : List Shape) (d : Denoted) (s : Standing) → Means s d → Tells shapes (NamingWith (settled shapes s) (modular_in s)) (settled_attribute d)
 unfolding settled_attribute
-t-settled shapes d s h = subst (λ z. Tells shapes (Naming (settled shapes z)) (settled_form d.known d.part)) h.meaning (t-settled_form shapes d.known d.part h.bare)
+t-settled shapes d s h = subst (λ z. Tells shapes (NamingWith (settled shapes z) (modular_in z)) (settled_form d.known d.part)) h.meaning (t-settled_form shapes d.known d.part h.bare)
 
 -- ---- selected components
 
@@ -164,7 +180,7 @@ f-field_from names p ss at i (f ∷ fs) = by (f.symbol == symbol names at) (f-fi
   where
     by : (b : Bool) → Finds (Naming (component (field_named (symbol names at) fs))) (field_from names p ss at (i + 1) fs)
         → Finds (Naming (component (if b then Some f.subtype else field_named (symbol names at) fs))) (if b then some (denote (part_place p f.subtype) (also ss (part.ASelection (typed.Field i f.offset)))) else field_from names p ss at (i + 1) fs)
-    by true m = f-some (Means (Object f.subtype None)) _ (record { meaning = refl; bare = tt })
+    by true m = f-some (Means (Object f.subtype None)) _ (record { meaning = refl; bare = refl })
     by false m = m
 
 f-field_in : (names : Names) (p : ObjectName) (ss : TypedPart) (at : ℕ) (t : Option Shape) → Finds (Naming (component (field_named (symbol names at) (fields_of t)))) (field_in names p ss at t)
@@ -190,7 +206,7 @@ point-settled a at (OfObject by t) = refl
 point-settled a at (OfType by (subtype.Scalar s)) = refl
 point-settled a at (OfType by (subtype.Composite n)) = refl
 
-t-field : (shapes : List Shape) (names : Names) (here : Context) (at : ℕ) (s : Standing) (d : Denoted) → Means (settled shapes s) d → Tells shapes (Naming (after_point (there names here shapes) at s)) (field names here at d)
+t-field : (shapes : List Shape) (names : Names) (here : Context) (at : ℕ) (s : Standing) (d : Denoted) → MeansWith (settled shapes s) (modular_in s) d → Tells shapes (Naming (after_point (there names here shapes) at s)) (field names here at d)
 unfolding field
 t-field shapes names here at s d h =
     subst (λ z. Tells shapes (Naming z) (field_form names here at d.known d.part)) (ap (after_point (there names here shapes) at) h.meaning ∙ point-settled (there names here shapes) at s) (t-field_form shapes names here at d.known d.part)
@@ -200,7 +216,7 @@ t-field shapes names here at s d h =
 f-indexed : (p : ObjectName) (bracket wanted given : ℕ) (c : Option Subtype) (ss : TypedPart) → Finds (Naming (component c)) (indexed p bracket wanted given c ss)
 f-indexed p bracket wanted given None ss = f-fault (Means nothing) p.first WrongType
 f-indexed p bracket wanted given (Some c) ss =
-    f-if (Naming (Object c None)) (wanted == given) (some (denote (part_place p c) ss)) (fault bracket WrongType) (λ e. f-some (Means (Object c None)) (denote (part_place p c) ss) (record { meaning = refl; bare = tt })) (f-fault (Means (Object c None)) bracket WrongType)
+    f-if (Naming (Object c None)) (wanted == given) (some (denote (part_place p c) ss)) (fault bracket WrongType) (λ e. f-some (Means (Object c None)) (denote (part_place p c) ss) (record { meaning = refl; bare = refl })) (f-fault (Means (Object c None)) bracket WrongType)
 
 f-array_call : (names : Names) (inside : Inside) (here : Context) (p : ObjectName) (ss : TypedPart) (bracket : ℕ) (as' : Args) (t : Option Shape) (cells : ℕ) → Finds (Naming (component (component_of t))) (array_call names inside here p ss bracket as' t cells)
 f-array_call names inside here p ss bracket as' t cells =
@@ -220,17 +236,18 @@ t-object_call shapes names inside here p ss bracket as' (subtype.Composite n) w 
 -- ---- a dimension in the bracket behind an attribute
 
 abbrev One : Option ℤ → List Found → Type 0
-One v (f ∷ []) = Is v f
+One v (f ∷ []) = Has v f
 One v fs = ⊥
 
-one-operand : (v : Option ℤ) (x : Option Found) → Finding v x → Maybe (One v) (with_operand (Some []) x)
+one-operand : (v : Option ℤ) (x : Option Found) → Maybe (Has v) x → Maybe (One v) (with_operand (Some []) x)
 one-operand v None q = tt
 one-operand v (Some f) q = q
 
 t-operand : (shapes : List Shape) (names : Names) (inside : Inside) (here : Context) (e : Expr) → LevelTells shapes names inside → Tells shapes (Maybe (One (expr_value (there names here shapes) e))) (operands names inside here (Some []) (syntax.AlsoArg (syntax.arg None e) syntax.NoArg))
 t-operand shapes names inside here e l =
     let v = expr_value (there names here shapes) e in
-    t-bind shapes (Finding v) (Maybe (One v)) (expr names inside here wanted.Other e) _ (t-expr shapes names inside here wanted.Other e l) (λ x q. t-pure shapes (Maybe (One v)) (with_operand (Some []) x) (one-operand v x q))
+    let b = expr_bound (there names here shapes) e in
+    t-bind shapes (FindingWith v b) (Maybe (One v)) (expr names inside here wanted.Other e) _ (t-expr shapes names inside here wanted.Other e l) (λ x q. t-pure shapes (Maybe (One v)) (with_operand (Some []) x) (one-operand v x (has v b x q)))
 
 abbrev Valued : Found → ℤ → Type 0
 Valued f z = value_of f.known ≡ Some z
@@ -251,7 +268,7 @@ f-dimension_at first ms a ds at z =
     subst (λ (b : Bool). Finds (Naming (Value (bound a (if b then slice_get ds (unsigned_abs z - 1) else None)))) (bound_in first ms a (slice_get ds (unsigned_abs z - 1)))) (sym low) (f-bound_in first ms a (slice_get ds (unsigned_abs z - 1))))
     (f-fault Q at StaticRange)
 
-f-dimension_given : (first : ℕ) (ms : TypedPart) (a : Attribute) (ds : List Dimension) (f : Found) (v : Option ℤ) → Is v f → Finds (Naming (Value (bound a (dimension ds v)))) (dimension_given first ms a ds f)
+f-dimension_given : (first : ℕ) (ms : TypedPart) (a : Attribute) (ds : List Dimension) (f : Found) (v : Option ℤ) → Has v f → Finds (Naming (Value (bound a (dimension ds v)))) (dimension_given first ms a ds f)
 f-dimension_given first ms a ds f v h =
     let Q = Means (Value (bound a (dimension ds v))) in
     f-if (Maybe Q) (is_number f.known) _ (fault (first_of f.known) WrongType)
@@ -261,7 +278,7 @@ f-dimension_given first ms a ds f v h =
     found : is_number f.known ≡ true → (w : Option ℤ) → Maybe (Valued f) w → Finds (Naming (Value (bound a (dimension ds v)))) (given w (dimension_at first (also_all ms (mentions_of f)) a ds (first_of f.known)))
     found e None q = f-none (Means (Value (bound a (dimension ds v))))
     found e (Some z) q =
-        subst (λ x. Finds (Naming (Value (bound a (dimension ds x)))) (dimension_at first (also_all ms (mentions_of f)) a ds (first_of f.known) z)) (sym q ∙ h.value (number-scalar f.known e)) (f-dimension_at first (also_all ms (mentions_of f)) a ds (first_of f.known) z)
+        subst (λ x. Finds (Naming (Value (bound a (dimension ds x)))) (dimension_at first (also_all ms (mentions_of f)) a ds (first_of f.known) z)) (sym q ∙ h (number-scalar f.known e)) (f-dimension_at first (also_all ms (mentions_of f)) a ds (first_of f.known) z)
 
 f-one_dimension : (first bracket : ℕ) (ms : TypedPart) (a : Attribute) (ds : List Dimension) (fs : List Found) (v : Option ℤ) → One v fs → Finds (Naming (Value (bound a (dimension ds v)))) (one_dimension first bracket ms a ds (None ∷ []) fs)
 f-one_dimension first bracket ms a ds (f ∷ []) v h = f-dimension_given first ms a ds f v h
@@ -427,7 +444,8 @@ tick-means first at by k = refl
 f-attribute_found : (d : Denoted) (at : ℕ) (a : Option Attribute) → Finds (Naming (after_tick a (meant d.known))) (attribute_found d at a)
 f-attribute_found d at None = f-fault (Means nothing) at Unknown
 f-attribute_found d at (Some by) =
-    f-some (Means (after_tick (Some by) (meant d.known))) (denote (denoted.Attribute (denoted_first d.known) (prefix_of d.known) at by) d.part) (record { meaning = tick-means (denoted_first d.known) at by d.known; bare = tt })
+    f-if (Naming (after_tick (Some by) (meant d.known))) (is_left_out (prefix_of d.known) by) (fault at Unknown) _ (λ e. f-fault (Means (after_tick (Some by) (meant d.known))) at Unknown)
+    (f-some (Means (after_tick (Some by) (meant d.known))) (denote (denoted.Attribute (denoted_first d.known) (prefix_of d.known) at by) d.part) (record { meaning = tick-means (denoted_first d.known) at by d.known; bare = refl }))
 
 tick-settled : (shapes : List Shape) (a : Option Attribute) (s : Standing) → after_tick a (settled shapes s) ≡ after_tick a s
 tick-settled shapes None s = refl
@@ -440,16 +458,16 @@ tick-settled shapes (Some by) (OfType a (subtype.Composite n)) = refl
 
 t-tick : (shapes : List Shape) (at : ℕ) (a : Option Attribute) (d : Denoted) (s : Standing) → Means s d → Tells shapes (Naming (after_tick a s)) (settled_attribute d >>= λ x. given x (λ e. attribute_found e at a))
 t-tick shapes at a d s h =
-    t-bind shapes (Naming (settled shapes s)) (Naming (after_tick a s)) (settled_attribute d) _ (t-settled shapes d s h) (λ x q.
-    t-given shapes (Means (settled shapes s)) (Means (after_tick a s)) x (λ e. attribute_found e at a) q (λ e r.
+    t-bind shapes (NamingWith (settled shapes s) (modular_in s)) (Naming (after_tick a s)) (settled_attribute d) _ (t-settled shapes d s h) (λ x q.
+    t-given shapes (MeansWith (settled shapes s) (modular_in s)) (Means (after_tick a s)) x (λ e. attribute_found e at a) q (λ e r.
     t-of shapes (Naming (after_tick a s)) (attribute_found e at a) (k-attribute_found walk e at a)
     (subst (λ z. Finds (Naming z) (attribute_found e at a)) (ap (after_tick a) r.meaning ∙ tick-settled shapes a s) (f-attribute_found e at a))))
 
 t-part_of : (shapes : List Shape) (names : Names) (inside : Inside) (here : Context) (p : NamePart) (d : Denoted) (s : Standing) → LevelTells shapes names inside → Means s d → Tells shapes (Naming (after_part (there names here shapes) s p)) (part_of names inside here p d)
 unfolding part_of
 t-part_of shapes names inside here (syntax.Field at) d s l h =
-    t-bind shapes (Naming (settled shapes s)) (Naming (after_point (there names here shapes) at s)) (settled_attribute d) _ (t-settled shapes d s h) (λ x q.
-    t-given shapes (Means (settled shapes s)) (Means (after_point (there names here shapes) at s)) x (field names here at) q (λ e r. t-field shapes names here at s e r))
+    t-bind shapes (NamingWith (settled shapes s) (modular_in s)) (Naming (after_point (there names here shapes) at s)) (settled_attribute d) _ (t-settled shapes d s h) (λ x q.
+    t-given shapes (MeansWith (settled shapes s) (modular_in s)) (Means (after_point (there names here shapes) at s)) x (field names here at) q (λ e r. t-field shapes names here at s e r))
 t-part_of shapes names inside here (syntax.Call bracket (syntax.arg None e) syntax.NoArg) d s l h =
     t-call shapes names inside here bracket (syntax.AlsoArg (syntax.arg None e) syntax.NoArg) (expr_value (there names here shapes) e) d s l (t-bound_with shapes names inside here bracket e l) h
 t-part_of shapes names inside here (syntax.Call bracket (syntax.arg (Some n) e) syntax.NoArg) d s l h =
@@ -481,40 +499,44 @@ t-parts shapes names inside here d (syntax.AlsoPart p ps) s l h =
 abbrev standing : Names → Context → List Shape → Name → Standing
 standing names here shapes (syntax.name first ps) = settled shapes (after_parts (there names here shapes) (declared (lookup (symbol names first) here.scope)) ps)
 
-t-name : (shapes : List Shape) (names : Names) (inside : Inside) (here : Context) (x : Name) → LevelTells shapes names inside → Tells shapes (Naming (standing names here shapes x)) (name names inside here x)
+t-name : (shapes : List Shape) (names : Names) (inside : Inside) (here : Context) (x : Name) → LevelTells shapes names inside → Tells shapes (NamingWith (standing names here shapes x) (name_bound (there names here shapes) x)) (name names inside here x)
 unfolding name
 t-name shapes names inside here (syntax.name first ps) l =
     let s = declared (lookup (symbol names first) here.scope) in
     let t = after_parts (there names here shapes) s ps in
-    t-bind shapes (Naming s) (Naming (settled shapes t)) (stands_for names here first) _ (t-of shapes (Naming s) _ (k-stands_for walk names here first tt) (f-stands_for names here first)) (λ d q.
-    t-bind shapes (Naming t) (Naming (settled shapes t)) (parts names inside here d ps) _ (t-parts shapes names inside here d ps s l q) (λ e r.
-    t-given shapes (Means t) (Means (settled shapes t)) e settled_attribute r (λ f u. t-settled shapes f t u)))
+    let Q = MeansWith (settled shapes t) (modular_in t) in
+    t-bind shapes (Naming s) (Maybe Q) (stands_for names here first) _ (t-of shapes (Naming s) _ (k-stands_for walk names here first tt) (f-stands_for names here first)) (λ d q.
+    t-bind shapes (Naming t) (Maybe Q) (parts names inside here d ps) _ (t-parts shapes names inside here d ps s l q) (λ e r.
+    t-given shapes (Means t) Q e settled_attribute r (λ f u. t-settled shapes f t u)))
 
-t-valued_form : (shapes : List Shape) (names : Names) (inside : Inside) (here : Context) (k : KnownDenoted) (x : TypedPart) → LevelTells shapes names inside → BareName k x → Tells shapes (Naming (meant k)) (valued_form names inside here k x)
-t-valued_form shapes names inside here (denoted.Sub first last n) x l b = t-of shapes (Naming nothing) _ (k-sub_call walk names inside here first first last n syntax.NoArg tt l.keeps) (f-sub_call names inside here first first last n syntax.NoArg)
-t-valued_form shapes names inside here (denoted.Io first last p r) x l b = t-of shapes (Naming nothing) _ (k-io_call walk names inside here first first last p r syntax.NoArg tt l.keeps) (f-io_call names inside here first first last p r syntax.NoArg)
-t-valued_form shapes names inside here k x l b = t-pure shapes (Naming (meant k)) (Some (denote k x)) (record { meaning = refl; bare = b })
+t-valued_form : (shapes : List Shape) (names : Names) (inside : Inside) (here : Context) (k : KnownDenoted) (x : TypedPart) (b : Option ℤ) → LevelTells shapes names inside → BareName b k x → Tells shapes (NamingWith (meant k) b) (valued_form names inside here k x)
+t-valued_form shapes names inside here (denoted.Sub first last n) x b l h =
+    subst (λ c. Tells shapes (NamingWith nothing c) (sub_call names inside here first first last n syntax.NoArg)) (sym h) (t-of shapes (Naming nothing) _ (k-sub_call walk names inside here first first last n syntax.NoArg tt l.keeps) (f-sub_call names inside here first first last n syntax.NoArg))
+t-valued_form shapes names inside here (denoted.Io first last p r) x b l h =
+    subst (λ c. Tells shapes (NamingWith nothing c) (io_call names inside here first first last p r syntax.NoArg)) (sym h) (t-of shapes (Naming nothing) _ (k-io_call walk names inside here first first last p r syntax.NoArg tt l.keeps) (f-io_call names inside here first first last p r syntax.NoArg))
+t-valued_form shapes names inside here k x b l h = t-pure shapes (NamingWith (meant k) b) (Some (denote k x)) (record { meaning = refl; bare = h })
 
-t-valued_by : (shapes : List Shape) (names : Names) (inside : Inside) (here : Context) (d : Denoted) (s : Standing) → LevelTells shapes names inside → Means s d → Tells shapes (Naming s) (valued_by names inside here d)
+t-valued_by : (shapes : List Shape) (names : Names) (inside : Inside) (here : Context) (d : Denoted) (s : Standing) (b : Option ℤ) → LevelTells shapes names inside → MeansWith s b d → Tells shapes (NamingWith s b) (valued_by names inside here d)
 unfolding valued_by
-t-valued_by shapes names inside here d s l h = subst (λ z. Tells shapes (Naming z) (valued_form names inside here d.known d.part)) h.meaning (t-valued_form shapes names inside here d.known d.part l h.bare)
+t-valued_by shapes names inside here d s b l h = subst (λ z. Tells shapes (NamingWith z b) (valued_form names inside here d.known d.part)) h.meaning (t-valued_form shapes names inside here d.known d.part b l h.bare)
 
 value-meant : (f : Known) → value_of f ≡ value_in (meant (denoted.Value f))
 value-meant (known.Object p) = refl
 value-meant f = refl
 
-f-value_form : (k : KnownDenoted) (x : TypedPart) → BareName k x → Finds (Finding (value_in (meant k))) (value_form k x)
-f-value_form (denoted.Value f) x b = f-some (Is (value_in (meant (denoted.Value f)))) (record { known = f; part = x }) (record { value = λ e. value-meant f; bare = b })
-f-value_form (denoted.Parameter first s) x b = f-some (Is None) (parameter_found first s x) (record { value = λ e. refl; bare = b })
-f-value_form k x b = f-fault (Is (value_in (meant k))) (denoted_first k) WrongType
+f-value_form : (k : KnownDenoted) (x : TypedPart) (b : Option ℤ) → BareName b k x → Finds (FindingWith (value_in (meant k)) b) (value_form k x)
+f-value_form (denoted.Value f) x b h = f-some (IsWith (value_in (meant (denoted.Value f))) b) (record { known = f; part = x }) (record { value = λ e. value-meant f; bare = h })
+f-value_form (denoted.Parameter first s) x b h = f-some (IsWith None b) (parameter_found first s x) (record { value = λ e. refl; bare = h })
+f-value_form k x b h = f-fault (IsWith (value_in (meant k)) b) (denoted_first k) WrongType
 
-t-value_form : (shapes : List Shape) (d : Denoted) (s : Standing) → Means s d → Tells shapes (Finding (value_in s)) (value_form d.known d.part)
-t-value_form shapes d s h = t-of shapes (Finding (value_in s)) _ (k-value_form walk d.known d.part) (subst (λ z. Finds (Finding (value_in z)) (value_form d.known d.part)) h.meaning (f-value_form d.known d.part h.bare))
+t-value_form : (shapes : List Shape) (d : Denoted) (s : Standing) (b : Option ℤ) → MeansWith s b d → Tells shapes (FindingWith (value_in s) b) (value_form d.known d.part)
+t-value_form shapes d s b h = t-of shapes (FindingWith (value_in s) b) _ (k-value_form walk d.known d.part) (subst (λ z. Finds (FindingWith (value_in z) b) (value_form d.known d.part)) h.meaning (f-value_form d.known d.part b h.bare))
 
-pub t-value_named : (shapes : List Shape) (names : Names) (inside : Inside) (here : Context) (x : Name) → LevelTells shapes names inside → Tells shapes (Finding (name_value (there names here shapes) x)) (value_named names inside here x)
+pub t-value_named : (shapes : List Shape) (names : Names) (inside : Inside) (here : Context) (x : Name) → LevelTells shapes names inside → Tells shapes (FindingWith (name_value (there names here shapes) x) (name_bound (there names here shapes) x)) (value_named names inside here x)
 unfolding value_named
 t-value_named shapes names inside here (syntax.name first ps) l =
     let s = standing names here shapes (syntax.name first ps) in
-    t-bind shapes (Naming s) (Finding (value_in s)) (name names inside here (syntax.name first ps)) _ (t-name shapes names inside here (syntax.name first ps) l) (λ d q.
-    t-bind shapes (Naming s) (Finding (value_in s)) (given d (valued_by names inside here)) _ (t-given shapes (Means s) (Means s) d (valued_by names inside here) q (λ e r. t-valued_by shapes names inside here e s l r)) (λ e r.
-    t-given shapes (Means s) (Is (value_in s)) e (λ y. value_form y.known y.part) r (λ y u. t-value_form shapes y s u)))
+    let b = name_bound (there names here shapes) (syntax.name first ps) in
+    t-bind shapes (NamingWith s b) (FindingWith (value_in s) b) (name names inside here (syntax.name first ps)) _ (t-name shapes names inside here (syntax.name first ps) l) (λ d q.
+    t-bind shapes (NamingWith s b) (FindingWith (value_in s) b) (given d (valued_by names inside here)) _ (t-given shapes (MeansWith s b) (MeansWith s b) d (valued_by names inside here) q (λ e r. t-valued_by shapes names inside here e s b l r)) (λ e r.
+    t-given shapes (MeansWith s b) (IsWith (value_in s) b) e (λ y. value_form y.known y.part) r (λ y u. t-value_form shapes y s b u)))

@@ -7,8 +7,8 @@ use Rattle.typed_tree.specs.declared.expressions.Sign.{Sign}
 use Rattle.typed_tree.specs.Decoded.{TypedPart, as_expr}
 use Rattle.name_rules.specs.Found.{Found, opened, scalar, static, universal}
 use Rattle.name_rules.specs.Judging.{Judging, fault, pure, some}
-use Rattle.name_rules.specs.Operators.{both_mentions, by_kinds, open_binary, open_of, open_plain, open_power, open_two, open_unary, operand_blamed, operation, operation_by, operation_on, plain, plain_by, plain_open, plain_typed, power, power_to, signed, static_of, static_operation, static_power, static_universal, typed_operation, unary, unary_by, unary_open, unary_typed, universal_by, universal_operation, universal_power, universal_to}
-use Rattle.name_rules.specs.Types.{class_of, in_base, is_integer, same}
+use Rattle.name_rules.specs.Operators.{both_mentions, by_kinds, open_binary, open_of, open_plain, open_power, open_two, open_unary, operand_blamed, operation, operation_by, operation_on, plain, plain_by, plain_open, plain_typed, power, power_to, signed, static_of, static_operation, static_power, static_universal, typed_operation, unary, unary_by, unary_open, unary_typed, universal_by, universal_operation, universal_power, universal_to, complement, not_by, is_logical_kind, logical_by}
+use Rattle.name_rules.specs.Types.{class_of, in_base, is_integer, same, kept, is_modular}
 use Rattle.name_rules.specs.Values.{asked, asked_form, bounded, exact, first_of, fitting, in_universal, is_number, joint, kind_in, kind_of, literal, object_value, place_asked, place_scalar, suits, value_of, valued}
 use Rattle.name_rules.specs.TypedParts.{selections_of}
 use Rattle.name_rules.specs.declared.found.Found.TheVariants as known
@@ -35,9 +35,9 @@ use Rattle.name_rules.specs.Values.{beyond, is_integer_kind, is_kind, is_scalar,
 use Rattle.name_rules.specs.Found.{text_found}
 use Rattle.name_rules.specs.TypedParts.{also_all}
 use Rattle.name_rules.specs.declared.types.Scalar.{Scalar}
-use Rattle.name_statics.proofs.Finds.{Bare, Finding, Finds, Is, Maybe, f-both, f-both-of, f-fault, f-given, f-given-of, f-if, f-none, f-pure, f-some, f-then, mapped, paired}
+use Rattle.name_statics.proofs.Finds.{Bare, Finding, Finds, Is, Maybe, f-both, f-both-of, f-fault, f-given, f-given-of, f-if, f-none, f-pure, f-some, f-then, mapped, paired, Has, IsWith}
 use Rattle.name_statics.specs.Law.{static_in}
-use Rattle.name_statics.specs.Values.{absolute, computed, opposite}
+use Rattle.name_statics.specs.Values.{absolute, computed, opposite, left_value}
 
 -- ---- static results
 
@@ -45,10 +45,10 @@ moved : (v w : Option ℤ) (p : Judging (Option Found)) → v ≡ w → Finds (F
 moved v w p e m = subst (λ z. Finds (Finding z) p) e m
 
 static-is : (first : ℕ) (k : Kind) (z : ℤ) (ms : TypedPart) → Is (Some z) (static first k z ms)
-static-is first k z ms = record { value = λ e. refl; bare = tt }
+static-is first k z ms = record { value = λ e. refl; bare = refl }
 
 universal-is : (first : ℕ) (z : ℤ) (alone : Bool) (ms : TypedPart) → Is (Some z) (universal first z alone ms)
-universal-is first z alone ms = record { value = λ e. refl; bare = tt }
+universal-is first z alone ms = record { value = λ e. refl; bare = refl }
 
 f-static_of : (first : ℕ) (k : Kind) (ms : TypedPart) (v : Option ℤ) → Finds (Finding v) (static_of first k ms v)
 unfolding static_of
@@ -160,10 +160,10 @@ suits-scalar j f = by (is_universal f) (kind_of f)
     by false (Some k) e = refl
     by false None e = absurd (true≢false (sym e))
 
-computed-of : (o : Op) (a b : Found) (v w : Option ℤ) → Is v a → Is w b → is_scalar a.known ≡ true → is_scalar b.known ≡ true → computed o (value_of a.known) (value_of b.known) ≡ computed o v w
-computed-of o a b v w p q e f = ap (λ x. computed o x (value_of b.known)) (p.value e) ∙ ap (computed o v) (q.value f)
+computed-of : (o : Op) (a b : Found) (v w : Option ℤ) → Has v a → Has w b → is_scalar a.known ≡ true → is_scalar b.known ≡ true → computed o (value_of a.known) (value_of b.known) ≡ computed o v w
+computed-of o a b v w p q e f = ap (λ x. computed o x (value_of b.known)) (p e) ∙ ap (computed o v) (q f)
 
-f-operation : (o : Op) (at : ℕ) (a b : Found) (v w : Option ℤ) → Is v a → Is w b → Finds (Finding (computed o v w)) (operation o at a b)
+f-operation : (o : Op) (at : ℕ) (a b : Found) (v w : Option ℤ) → Has v a → Has w b → Finds (Finding (computed o v w)) (operation o at a b)
 unfolding operation
 f-operation o at a b v w p q =
     f-if (Finding (computed o v w)) (is_number a.known && is_number b.known) (by_kinds o at a b (kind_of a.known) (kind_of b.known)) (fault (operand_blamed a.known at) WrongType)
@@ -171,9 +171,9 @@ f-operation o at a b v w p q =
     moved (computed o (value_of a.known) (value_of b.known)) (computed o v w) _ (computed-of o a b v w p q (number-scalar a.known n.0) (number-scalar b.known n.1)) (f-by_kinds o at a b (kind_of a.known) (kind_of b.known)))
     (f-fault (Is (computed o v w)) (operand_blamed a.known at) WrongType)
 
-pub f-binary : (o : Op) (at : ℕ) (x y : Option Found) (v w : Option ℤ) → Finding v x → Finding w y → Finds (Finding (computed o v w)) (binary o at x y)
+pub f-binary : (o : Op) (at : ℕ) (x y : Option Found) (v w : Option ℤ) → Maybe (Has v) x → Maybe (Has w) y → Finds (Finding (computed o v w)) (binary o at x y)
 unfolding binary
-f-binary o at x y v w p q = f-both-of (Is v) (Is w) (Is (computed o v w)) x y (operation o at) p q (λ a b s t. f-operation o at a b v w s t)
+f-binary o at x y v w p q = f-both-of (Has v) (Has w) (Is (computed o v w)) x y (operation o at) p q (λ a b s t. f-operation o at a b v w s t)
 
 -- ---- powers
 
@@ -199,61 +199,66 @@ f-power_to : (at : ℕ) (a b : Found) (k : Option Kind) → Finds (Finding (comp
 f-power_to at a b (Some k) = f-typed_operation op.Pow at k kind.Integer a b
 f-power_to at a b None = f-universal_to at a b (value_of a.known) (value_of b.known)
 
-f-power_of : (at : ℕ) (a b : Found) (v w : Option ℤ) → Is v a → Is w b → Finds (Finding (computed op.Pow v w)) (if is_number a.known && suits kind.Integer b.known then power_to at a b (kind_of a.known) else fault at WrongType)
+f-power_of : (at : ℕ) (a b : Found) (v w : Option ℤ) → Has v a → Has w b → Finds (Finding (computed op.Pow v w)) (if is_number a.known && suits kind.Integer b.known then power_to at a b (kind_of a.known) else fault at WrongType)
 f-power_of at a b v w p q =
     f-if (Finding (computed op.Pow v w)) (is_number a.known && suits kind.Integer b.known) (power_to at a b (kind_of a.known)) (fault at WrongType)
     (λ e. let n = and_parts (is_number a.known) (suits kind.Integer b.known) e in
     moved (computed op.Pow (value_of a.known) (value_of b.known)) (computed op.Pow v w) _ (computed-of op.Pow a b v w p q (number-scalar a.known n.0) (suits-scalar kind.Integer b.known n.1)) (f-power_to at a b (kind_of a.known)))
     (f-fault (Is (computed op.Pow v w)) at WrongType)
 
-pub f-power : (at : ℕ) (x y : Option Found) (v w : Option ℤ) → Finding v x → Finding w y → Finds (Finding (computed op.Pow v w)) (power at x y)
+pub f-power : (at : ℕ) (x y : Option Found) (v w : Option ℤ) → Maybe (Has v) x → Maybe (Has w) y → Finds (Finding (computed op.Pow v w)) (power at x y)
 unfolding power
-f-power at x y v w p q = f-both-of (Is v) (Is w) (Is (computed op.Pow v w)) x y _ p q (λ a b s t. f-power_of at a b v w s t)
+f-power at x y v w p q = f-both-of (Has v) (Has w) (Is (computed op.Pow v w)) x y _ p q (λ a b s t. f-power_of at a b v w s t)
 
 -- ---- places that ask for a type
 
 abbrev pub Leaves : Option ℤ → TypedPart → Type 0
 Leaves v x = static_in (as_expr x) ≡ v
 
-object-left : (p : ObjectName) (ss : Selections) (s : Scalar) (v : Option ℤ) → Leaves v (object_value p ss s v)
-object-left p ss s (Some z) = refl
-object-left p ss s None = by p.variable
+f-valued : (k : Kind) (first : ℕ) (z : ℤ) (alone : Bool) (ms : TypedPart) (v : Option ℤ) → Some (kept k z) ≡ v → Finds (Maybe (Leaves v)) (valued k first z alone ms)
+unfolding valued
+f-valued k first z alone ms v h = f-if (Maybe (Leaves v)) (in_base k z) (some (literal first (kept k z) alone ms)) (fault first StaticRange) (λ e. f-some (Leaves v) (literal first (kept k z) alone ms) h) (f-fault (Leaves v) first StaticRange)
+
+f-object_value : (k : Kind) (p : ObjectName) (ss : Selections) (s : Scalar) (v : Option ℤ) → Finds (Maybe (Leaves (left_value k v None))) (object_value k p ss s v)
+f-object_value k p ss s (Some z) = f-valued k p.first z false part.Nothing (Some (kept k z)) refl
+f-object_value k p ss s None = f-some (Leaves None) (part.AnExpr (object_expr p ss s p.variable)) (by p.variable)
   where
     by : (b : Bool) → static_in (object_expr p ss s b) ≡ None
     by true = refl
     by false = refl
 
-f-place_asked : (k : Kind) (p : ObjectName) (ss : Selections) (s : Subtype) (v : Option ℤ) → (is_some (kind_in (place_scalar s)) ≡ true → p.value ≡ v) → Finds (Maybe (Leaves v)) (place_asked k p ss s)
-f-place_asked k p ss (subtype.Composite n) v h = f-fault (Leaves v) p.first WrongType
+f-place_asked : (k : Kind) (p : ObjectName) (ss : Selections) (s : Subtype) (v : Option ℤ) → (is_some (kind_in (place_scalar s)) ≡ true → p.value ≡ v) → Finds (Maybe (Leaves (left_value k v None))) (place_asked k p ss s)
+f-place_asked k p ss (subtype.Composite n) v h = f-fault (Leaves (left_value k v None)) p.first WrongType
 f-place_asked k p ss (subtype.Scalar s) v h =
-    f-if (Maybe (Leaves v)) (same s.kind k) (some (object_value p ss s p.value)) (fault p.first WrongType)
-    (λ e. f-some (Leaves v) (object_value p ss s p.value) (object-left p ss s p.value ∙ h refl)) (f-fault (Leaves v) p.first WrongType)
-
-f-valued : (k : Kind) (first : ℕ) (z : ℤ) (alone : Bool) (ms : TypedPart) (v : Option ℤ) → Some z ≡ v → Finds (Maybe (Leaves v)) (valued k first z alone ms)
-unfolding valued
-f-valued k first z alone ms v h = f-if (Maybe (Leaves v)) (in_base k z) (some (literal first z alone ms)) (fault first StaticRange) (λ e. f-some (Leaves v) (literal first z alone ms) h) (f-fault (Leaves v) first StaticRange)
+    f-if (Maybe (Leaves (left_value k v None))) (same s.kind k) (object_value k p ss s p.value) (fault p.first WrongType)
+    (λ e. subst (λ w. Finds (Maybe (Leaves (left_value k w None))) (object_value k p ss s p.value)) (h refl) (f-object_value k p ss s p.value)) (f-fault (Leaves (left_value k v None)) p.first WrongType)
 
 f-settled : (k : Kind) (l : Limits) (e : TypedExpr) (v : Option ℤ) → static_in (with_class (class_of k) e) ≡ v → Finds (Maybe (Leaves v)) (settled k l e)
 unfolding settled
-f-settled k l e v h = by (beyond k l)
+f-settled k l e v h = by (beyond k l e)
   where
     by : (x : Option ℕ) → Finds (Maybe (Leaves v)) (settled_by k e x)
     by None = f-some (Leaves v) (part.AnExpr (with_class (class_of k) e)) h
     by (Some at) = f-fault (Leaves v) at StaticRange
 
-f-asked_form : (k : Kind) (f : Known) (x : TypedPart) (v : Option ℤ) → (is_scalar f ≡ true → value_of f ≡ v) → Bare f x → Finds (Maybe (Leaves v)) (asked_form k f x)
-f-asked_form k (known.Universal first z alone) x v h b = f-if (Maybe (Leaves v)) (is_integer k) (valued k first z alone x) (fault first WrongType) (λ e. f-valued k first z alone x v (h refl)) (f-fault (Leaves v) first WrongType)
-f-asked_form k (known.Open first l) x v h b = f-if (Maybe (Leaves v)) (is_integer k) (settled k l (as_expr x)) (fault first WrongType) (λ e. f-settled k l (as_expr x) v (b (class_of k) ∙ h refl)) (f-fault (Leaves v) first WrongType)
-f-asked_form k (known.Static first j z) x v h b = f-if (Maybe (Leaves v)) (same j k) (some (literal first z false x)) (fault first WrongType) (λ e. f-some (Leaves v) (literal first z false x) (h refl)) (f-fault (Leaves v) first WrongType)
-f-asked_form k (known.Object p) x v h b = f-place_asked k p (selections_of x) p.subtype v h
-f-asked_form k (known.Scalar first j n) x v h b = f-if (Maybe (Leaves v)) (same j k) (some x) (fault first WrongType) (λ e. f-some (Leaves v) x (b ∙ h refl)) (f-fault (Leaves v) first WrongType)
-f-asked_form k (known.Composite first n) x v h b = f-fault (Leaves v) first WrongType
-f-asked_form k (known.Rest first) x v h b = f-fault (Leaves v) first WrongType
-f-asked_form k (known.Text first) x v h b = f-fault (Leaves v) first WrongType
+f-asked_form : (k : Kind) (f : Known) (x : TypedPart) (v b : Option ℤ) → (is_scalar f ≡ true → value_of f ≡ v) → Bare b f x → Finds (Maybe (Leaves (left_value k v b))) (asked_form k f x)
+f-asked_form k (known.Universal first z alone) x v b h g =
+    f-if (Maybe (Leaves (left_value k v b))) (is_integer k) (valued k first z alone x) (fault first WrongType) (λ e. f-valued k first z alone x (left_value k v b) (ap (λ w. left_value k w b) (h refl))) (f-fault (Leaves (left_value k v b)) first WrongType)
+f-asked_form k (known.Open first l) x v b h g =
+    f-if (Maybe (Leaves (left_value k v b))) (is_integer k) (settled k l (as_expr x)) (fault first WrongType) (λ e. f-settled k l (as_expr x) (left_value k v b) (g (class_of k) ∙ ap (λ w. left_value k w b) (h refl))) (f-fault (Leaves (left_value k v b)) first WrongType)
+f-asked_form k (known.Static first j z) x v b h g =
+    f-if (Maybe (Leaves (left_value k v b))) (same j k) (valued k first z false x) (fault first WrongType)
+    (λ e. f-valued k first z false x (left_value k v b) (ap (λ w. left_value k w b) (h refl))) (f-fault (Leaves (left_value k v b)) first WrongType)
+f-asked_form k (known.Object p) x v b h g = subst (λ c. Finds (Maybe (Leaves (left_value k v c))) (asked_form k (known.Object p) x)) (sym g) (f-place_asked k p (selections_of x) p.subtype v h)
+f-asked_form k (known.Scalar first j n) x v b h g =
+    f-if (Maybe (Leaves (left_value k v b))) (same j k) (some x) (fault first WrongType) (λ e. f-some (Leaves (left_value k v b)) x (g ∙ ap (λ w. left_value k w b) (h refl))) (f-fault (Leaves (left_value k v b)) first WrongType)
+f-asked_form k (known.Composite first n) x v b h g = f-fault (Leaves (left_value k v b)) first WrongType
+f-asked_form k (known.Rest first) x v b h g = f-fault (Leaves (left_value k v b)) first WrongType
+f-asked_form k (known.Text first) x v b h g = f-fault (Leaves (left_value k v b)) first WrongType
 
-pub f-asked : (k : Kind) (f : Found) (v : Option ℤ) → Is v f → Finds (Maybe (Leaves v)) (asked k f)
+pub f-asked : (k : Kind) (f : Found) (v b : Option ℤ) → IsWith v b f → Finds (Maybe (Leaves (left_value k v b))) (asked k f)
 unfolding asked
-f-asked k f v h = f-asked_form k f.known f.part v h.value h.bare
+f-asked k f v b h = f-asked_form k f.known f.part v b h.value h.bare
 
 -- ---- unary operators
 
@@ -295,18 +300,18 @@ f-unary_by : (s : Sign) (at : ℕ) (a : Found) (k : Option Kind) → Finds (Find
 f-unary_by s at a (Some k) = f-unary_typed s at k a (value_of a.known)
 f-unary_by s at a None = f-unary_open s at a (value_of a.known)
 
-f-unary : (s : Sign) (at : ℕ) (x : Option Found) (v : Option ℤ) → Finding v x → Finds (Finding (signed_of s v)) (unary s at x)
+f-unary : (s : Sign) (at : ℕ) (x : Option Found) (v : Option ℤ) → Maybe (Has v) x → Finds (Finding (signed_of s v)) (unary s at x)
 unfolding unary
 f-unary s at x v h =
-    f-given-of (Is v) (Is (signed_of s v)) x _ h (λ a p.
+    f-given-of (Has v) (Is (signed_of s v)) x _ h (λ a p.
     f-if (Finding (signed_of s v)) (is_number a.known) (unary_by s at a (kind_of a.known)) (fault at WrongType)
-    (λ e. moved (signed_of s (value_of a.known)) (signed_of s v) _ (ap (signed_of s) (p.value (number-scalar a.known e))) (f-unary_by s at a (kind_of a.known)))
+    (λ e. moved (signed_of s (value_of a.known)) (signed_of s v) _ (ap (signed_of s) (p (number-scalar a.known e))) (f-unary_by s at a (kind_of a.known)))
     (f-fault (Is (signed_of s v)) at WrongType))
 
-pub f-minus : (at : ℕ) (x : Option Found) (v : Option ℤ) → Finding v x → Finds (Finding (opposite v)) (unary sign.Minus at x)
+pub f-minus : (at : ℕ) (x : Option Found) (v : Option ℤ) → Maybe (Has v) x → Finds (Finding (opposite v)) (unary sign.Minus at x)
 f-minus at x v h = f-unary sign.Minus at x v h
 
-pub f-abs : (at : ℕ) (x : Option Found) (v : Option ℤ) → Finding v x → Finds (Finding (absolute v)) (unary sign.Abs at x)
+pub f-abs : (at : ℕ) (x : Option Found) (v : Option ℤ) → Maybe (Has v) x → Finds (Finding (absolute v)) (unary sign.Abs at x)
 f-abs at x v h = f-unary sign.Abs at x v h
 
 -- `+` leaves the value
@@ -328,35 +333,43 @@ f-plain_by : (at : ℕ) (a : Found) (k : Option Kind) (v : Option ℤ) → value
 f-plain_by at a (Some k) v e = subst (λ w. Finds (Finding w) (plain_typed at k a (value_of a.known))) e (f-plain_typed at k a (value_of a.known))
 f-plain_by at a None v e = subst (λ w. Finds (Finding w) (plain_open at a (value_of a.known))) e (f-plain_open at a (value_of a.known))
 
-pub f-plain : (at : ℕ) (x : Option Found) (v : Option ℤ) → Finding v x → Finds (Finding v) (plain at x)
+pub f-plain : (at : ℕ) (x : Option Found) (v : Option ℤ) → Maybe (Has v) x → Finds (Finding v) (plain at x)
 unfolding plain
 f-plain at x v h =
-    f-given-of (Is v) (Is v) x _ h (λ a p.
-    f-if (Finding v) (is_number a.known) (plain_by at a (kind_of a.known)) (fault at WrongType) (λ e. f-plain_by at a (kind_of a.known) v (p.value (number-scalar a.known e))) (f-fault (Is v) at WrongType))
+    f-given-of (Has v) (Is v) x _ h (λ a p.
+    f-if (Finding v) (is_number a.known) (plain_by at a (kind_of a.known)) (fault at WrongType) (λ e. f-plain_by at a (kind_of a.known) v (p (number-scalar a.known e))) (f-fault (Is v) at WrongType))
 
 -- ---- operators whose results aren't static
 
+f-complement : (at : ℕ) (a : Found) (k : Kind) → Finds (Finding None) (complement at a k)
+f-complement at a k = f-then (Finding None) (asked k a) _ (λ y. f-given (Is None) y _ (λ n. f-some (Is None) _ (scalar-is at k None (typed.Unary at sign.Not (class_of k) (as_expr n)) refl)))
+
+f-not_by : (at : ℕ) (a : Found) (k : Option Kind) → Finds (Finding None) (not_by at a k)
+f-not_by at a None = f-fault (Is None) at WrongType
+f-not_by at a (Some k) =
+    f-if (Finding None) (same k kind.Boolean) (negation at a) _
+    (λ e. f-then (Finding None) (asked kind.Boolean a) _ (λ y. f-given (Is None) y _ (λ n. f-some (Is None) _ (scalar-is at kind.Boolean None (typed.Unary at sign.Not class.Boolean (as_expr n)) refl))))
+    (f-if (Finding None) (is_modular k) (complement at a k) (fault at WrongType) (λ e. f-complement at a k) (f-fault (Is None) at WrongType))
+
 pub f-not_of : (at : ℕ) (x : Option Found) → Finds (Finding None) (not_of at x)
 unfolding not_of
-f-not_of at x =
-    f-given (Is None) x _ (λ a.
-    f-if (Finding None) (is_kind kind.Boolean (kind_of a.known)) (negation at a) (fault at WrongType)
-    (λ e. f-then (Finding None) (asked kind.Boolean a) _ (λ y. f-given (Is None) y _ (λ n. f-some (Is None) _ (scalar-is at kind.Boolean None (typed.Unary at sign.Not class.Boolean (as_expr n)) refl))))
-    (f-fault (Is None) at WrongType))
+f-not_of at x = f-given (Is None) x _ (λ a. f-not_by at a (kind_of a.known))
 
 f-joined_texts : (at : ℕ) (a : Known) (ps : TypedPart) (b : Known) (qs : TypedPart) → Finds (Finding None) (joined_texts at a ps b qs)
-f-joined_texts at (known.Text first) ps (known.Text second) qs = f-some (Is None) (text_found first (also_all ps qs)) (record { value = λ t. refl; bare = tt })
+f-joined_texts at (known.Text first) ps (known.Text second) qs = f-some (Is None) (text_found first (also_all ps qs)) (record { value = λ t. refl; bare = refl })
 f-joined_texts at a ps b qs = f-fault (Is None) at WrongType
 
 pub f-joined_text : (at : ℕ) (x y : Option Found) → Finds (Finding None) (joined_text at x y)
 unfolding joined_text
 f-joined_text at x y = f-both (Is None) x y _ (λ a b. f-joined_texts at a.known a.part b.known b.part)
 
+f-logical_by : (o : Op) (at : ℕ) (a b : Found) (k : Kind) → Finds (Finding None) (logical_by o at a b k)
+f-logical_by o at a b k =
+    f-if (Finding None) (is_logical_kind k && (suits k a.known && suits k b.known)) (operation_on o at k k a b) (fault at WrongType) (λ e. f-operation_on o at k k a b) (f-fault (Is None) at WrongType)
+
 pub f-logical : (o : Op) (at : ℕ) (x y : Option Found) → Finds (Finding None) (logical o at x y)
 unfolding logical
-f-logical o at x y =
-    f-both (Is None) x y _ (λ a b.
-    f-if (Finding None) (is_kind kind.Boolean (kind_of a.known) && is_kind kind.Boolean (kind_of b.known)) (operation_on o at kind.Boolean kind.Boolean a b) (fault at WrongType) (λ e. f-operation_on o at kind.Boolean kind.Boolean a b) (f-fault (Is None) at WrongType))
+f-logical o at x y = f-both (Is None) x y _ (λ a b. f-logical_by o at a b (common_kind (kind_of a.known) (kind_of b.known)))
 
 f-compared_at : (k : Kind) (c : Comparison) (a b : Found) → Finds (Finding None) (compared_at k c a b)
 unfolding compared_at

@@ -52,35 +52,35 @@ use Rattle.name_laws.proofs.KeepsValues.{k-stored}
 use Rattle.name_laws.proofs.Walk.{Keeps, k-bind, k-given, k-pure}
 use Rattle.name_statics.proofs.Operations.{number-scalar}
 use Rattle.name_statics.proofs.ExpressionValues.{LevelTells, t-expr, t-placed, t-simple, there}
-use Rattle.name_statics.proofs.Finds.{Finding, Finds, Is, Maybe, Tells, f-bind, f-fault, f-given, f-given-of, f-if, f-none, f-pure, f-some, f-then, mapped, t-bind, t-given, t-of, t-pure}
+use Rattle.name_statics.proofs.Finds.{Finding, Finds, Is, Maybe, Tells, f-bind, f-fault, f-given, f-given-of, f-if, f-none, f-pure, f-some, f-then, mapped, t-bind, t-given, t-of, t-pure, FindingWith, Has, IsWith, has}
 use Rattle.name_statics.proofs.NameValues.{t-value_named}
 use Rattle.name_statics.proofs.Operations.{Leaves, f-asked}
 use Rattle.name_statics.proofs.Same.{same_self, walk}
 use Rattle.name_statics.proofs.Unvalued.{f-aggregate, f-if_expr, f-sequence}
 use Rattle.name_statics.specs.Law.{StaticValuesLaw, around, static_in}
-use Rattle.name_statics.specs.Values.{expr_value, name_value, primary_value, simple_value}
+use Rattle.name_statics.specs.Values.{expr_value, name_value, primary_value, simple_value, expr_bound, simple_bound, primary_bound, name_bound, left_value}
 
 -- ---- brackets
 
 f-grouped_scalar : (v : Option ℤ) (bracket : ℕ) (f : Found) (k : Option Kind) (n : Option ℕ) → (is_some k ≡ true → None ≡ v) → Finds (Finding v) (grouped_scalar bracket f k n)
 f-grouped_scalar v bracket f (Some k) n h = f-then (Finding v) (asked k f) _ (λ x. f-given (Is v) x _ (λ e. f-some (Is v) (scalar bracket k None (typed.Group (as_expr e))) (record { value = λ t. h refl; bare = refl })))
-f-grouped_scalar v bracket f None (Some n) h = f-then (Finding v) (composite_asked n f) _ (λ c. f-pure (Finding v) _ (mapped (Is v) (with_known (known.Composite bracket n)) c (λ x. record { value = λ t. absurd (true≢false (sym t)); bare = tt })))
+f-grouped_scalar v bracket f None (Some n) h = f-then (Finding v) (composite_asked n f) _ (λ c. f-pure (Finding v) _ (mapped (Is v) (with_known (known.Composite bracket n)) c (λ x. record { value = λ t. absurd (true≢false (sym t)); bare = refl })))
 f-grouped_scalar v bracket f None None h = f-none (Is v)
 
 f-grouped_by : (v : Option ℤ) (bracket : ℕ) (f : Found) (k : Option Kind) (z : Option ℤ) → (is_some k ≡ true → z ≡ v) → Finds (Finding v) (grouped_by bracket f k z)
-f-grouped_by v bracket f (Some k) (Some z) h = f-some (Is v) (static bracket k z (mentions_of f)) (record { value = λ t. h refl; bare = tt })
+f-grouped_by v bracket f (Some k) (Some z) h = f-some (Is v) (static bracket k z (mentions_of f)) (record { value = λ t. h refl; bare = refl })
 f-grouped_by v bracket f (Some k) None h = f-grouped_scalar v bracket f (Some k) (composite_in f.known) h
 f-grouped_by v bracket f None z h = f-grouped_scalar v bracket f None (composite_in f.known) (λ t. absurd (true≢false (sym t)))
 
 f-grouped_form : (v : Option ℤ) (bracket : ℕ) (f : Known) (x : TypedPart) → (is_scalar f ≡ true → value_of f ≡ v) → Finds (Finding v) (grouped_form bracket f x)
-f-grouped_form v bracket (known.Universal first z alone) x h = f-some (Is v) (with_known (known.Universal bracket z false) x) (record { value = λ t. h refl; bare = tt })
+f-grouped_form v bracket (known.Universal first z alone) x h = f-some (Is v) (with_known (known.Universal bracket z false) x) (record { value = λ t. h refl; bare = refl })
 f-grouped_form v bracket (known.Open first l) x h = f-some (Is v) (opened bracket l (typed.Group (as_expr x))) (record { value = λ t. h refl; bare = λ c. refl })
-f-grouped_form v bracket (known.Text first) x h = f-some (Is v) (with_known (known.Text bracket) x) (record { value = λ t. absurd (true≢false (sym t)); bare = tt })
+f-grouped_form v bracket (known.Text first) x h = f-some (Is v) (with_known (known.Text bracket) x) (record { value = λ t. absurd (true≢false (sym t)); bare = refl })
 f-grouped_form v bracket f x h = f-grouped_by v bracket (with_known f x) (kind_of f) (value_of f) h
 
-f-grouped : (v : Option ℤ) (bracket : ℕ) (f : Found) → Is v f → Finds (Finding v) (grouped bracket f)
+f-grouped : (v : Option ℤ) (bracket : ℕ) (f : Found) → Has v f → Finds (Finding v) (grouped bracket f)
 unfolding grouped
-f-grouped v bracket f h = f-grouped_form v bracket f.known f.part h.value
+f-grouped v bracket f h = f-grouped_form v bracket f.known f.part h
 
 -- ---- `@` and strings
 
@@ -88,24 +88,26 @@ f-target_at : (at : ℕ) (t : Target) → Finds (Finding None) (target_at at t)
 f-target_at at target.Nothing = f-fault (Is None) at NotVisible
 f-target_at at target.Faulty = f-none (Is None)
 f-target_at at (target.Of (subtype.Scalar s)) = f-some (Is None) (target_found at (subtype.Scalar s)) (record { value = λ t. refl; bare = refl })
-f-target_at at (target.Of (subtype.Composite n)) = f-some (Is None) (target_found at (subtype.Composite n)) (record { value = λ t. refl; bare = tt })
+f-target_at at (target.Of (subtype.Composite n)) = f-some (Is None) (target_found at (subtype.Composite n)) (record { value = λ t. refl; bare = refl })
 
 f-text_at : (names : Names) (at : ℕ) (want : Wanted) → Finds (Finding None) (text_at names at want)
-f-text_at names at wanted.Text = f-some (Is None) _ (record { value = λ t. refl; bare = tt })
+f-text_at names at wanted.Text = f-some (Is None) _ (record { value = λ t. refl; bare = refl })
 f-text_at names at want = f-fault (Is None) at WrongType
 
 -- ---- primaries, at every level of brackets
 
-t-primary : (shapes : List Shape) (names : Names) (level : Inside) (here : Context) (p : Primary) (want : Wanted) → LevelTells shapes names level → Tells shapes (Finding (primary_value (there names here shapes) p)) (primary names level here p want)
+t-primary : (shapes : List Shape) (names : Names) (level : Inside) (here : Context) (p : Primary) (want : Wanted) → LevelTells shapes names level → Tells shapes (FindingWith (primary_value (there names here shapes) p) (primary_bound (there names here shapes) p)) (primary names level here p want)
 unfolding primary
-t-primary shapes names level here (syntax.Number at) want l = t-pure shapes (Finding (Some (number names at))) _ (record { value = λ t. refl; bare = tt })
+t-primary shapes names level here (syntax.Number at) want l = t-pure shapes (Finding (Some (number names at))) _ (record { value = λ t. refl; bare = refl })
 t-primary shapes names level here (syntax.Named x) want l =
     let v = name_value (there names here shapes) x in
-    t-bind shapes (Finding v) (Finding v) (value_named names level here x) _ (t-value_named shapes names level here x l) (λ f q. t-placed shapes v want f q)
+    let b = name_bound (there names here shapes) x in
+    t-bind shapes (FindingWith v b) (FindingWith v b) (value_named names level here x) _ (t-value_named shapes names level here x l) (λ f q. t-placed shapes v b want f q)
 t-primary shapes names level here (syntax.Group bracket e) want l =
     let v = expr_value (there names here shapes) e in
-    t-bind shapes (Finding v) (Finding v) (expr names level here want e) _ (t-expr shapes names level here want e l) (λ f q.
-    t-given shapes (Is v) (Is v) f (grouped bracket) q (λ g s. t-of shapes (Finding v) (grouped bracket g) (k-grouped walk bracket g) (f-grouped v bracket g s)))
+    let b = expr_bound (there names here shapes) e in
+    t-bind shapes (FindingWith v b) (Finding v) (expr names level here want e) _ (t-expr shapes names level here want e l) (λ f q.
+    t-given shapes (Has v) (Is v) f (grouped bracket) (has v b f q) (λ g s. t-of shapes (Finding v) (grouped bracket g) (k-grouped walk bracket g) (f-grouped v bracket g s)))
 t-primary shapes names level here (syntax.Text at) want l = t-of shapes (Finding None) _ (k-primary walk names level here (syntax.Text at) want tt l.keeps) (f-text_at names at want)
 t-primary shapes names level here (syntax.Target at) want l = t-of shapes (Finding None) _ (k-primary walk names level here (syntax.Target at) want tt l.keeps) (f-target_at at here.target)
 t-primary shapes names level here (syntax.If bracket at c v more o) want l = t-of shapes (Finding None) _ (k-primary walk names level here (syntax.If bracket at c v more o) want tt l.keeps) (f-if_expr names level here (no_text want) bracket c v more o)
@@ -123,33 +125,37 @@ inside-tells : (shapes : List Shape) (names : Names) (n : ℕ) → LevelTells sh
 unfolding primaries.inside
 inside-tells shapes names zero = record {
   keeps = k-inside walk names zero tt;
-  primary = λ here p want. t-of shapes (Finding (primary_value (there names here shapes) p)) _ (k-fault walk (first_token.of_primary p) (Limit bound.Levels)) (f-fault (Is (primary_value (there names here shapes) p)) (first_token.of_primary p) (Limit bound.Levels));
+  primary = λ here p want. t-of shapes (FindingWith (primary_value (there names here shapes) p) (primary_bound (there names here shapes) p)) _ (k-fault walk (first_token.of_primary p) (Limit bound.Levels)) (f-fault (IsWith (primary_value (there names here shapes) p) (primary_bound (there names here shapes) p)) (first_token.of_primary p) (Limit bound.Levels));
 }
 inside-tells shapes names (suc n) = level-tells shapes names (primaries.inside names n) (inside-tells shapes names n)
 
 -- ---- the law
 
-found : (names : Names) (n : ℕ) (here : Context) (want : Wanted) (e : Expr) (log : Log) (f : Found) → (expr names (primaries.inside names n) here want e log).0 ≡ Some f → Is (expr_value (around names here log) e) f
+found : (names : Names) (n : ℕ) (here : Context) (want : Wanted) (e : Expr) (log : Log) (f : Found) → (expr names (primaries.inside names n) here want e log).0 ≡ Some f → IsWith (expr_value (around names here log) e) (expr_bound (around names here log) e) f
 found names n here want e log f g =
     let v = expr_value (around names here log) e in
-    subst (Finding v) g ((t-expr log.shapes names (primaries.inside names n) here want e (inside-tells log.shapes names n)).at log (same_self log.shapes)).1
+    let b = expr_bound (around names here log) e in
+    subst (FindingWith v b) g ((t-expr log.shapes names (primaries.inside names n) here want e (inside-tells log.shapes names n)).at log (same_self log.shapes)).1
 
 left : (names : Names) (n : ℕ) (here : Context) (want : Wanted) (e : Expr) (log mid : Log) (f : Found) (k : Kind) (x : TypedPart) → (expr names (primaries.inside names n) here want e log).0 ≡ Some f → (asked k f mid).0 ≡ Some x
-    → static_in (as_expr x) ≡ expr_value (around names here log) e
+    → static_in (as_expr x) ≡ left_value k (expr_value (around names here log) e) (expr_bound (around names here log) e)
 left names n here want e log mid f k x g h =
     let v = expr_value (around names here log) e in
-    subst (Maybe (Leaves v)) h ((f-asked k f v (found names n here want e log f g)).at mid)
+    let b = expr_bound (around names here log) e in
+    subst (Maybe (Leaves (left_value k v b))) h ((f-asked k f v b (found names n here want e log f g)).at mid)
 
-bound-found : (names : Names) (n : ℕ) (here : Context) (want : Wanted) (e : Simple) (log : Log) (f : Found) → (simple (primaries.inside names n) here want e log).0 ≡ Some f → Is (simple_value (around names here log) e) f
+bound-found : (names : Names) (n : ℕ) (here : Context) (want : Wanted) (e : Simple) (log : Log) (f : Found) → (simple (primaries.inside names n) here want e log).0 ≡ Some f → IsWith (simple_value (around names here log) e) (simple_bound (around names here log) e) f
 bound-found names n here want e log f g =
     let v = simple_value (around names here log) e in
-    subst (Finding v) g ((t-simple log.shapes names (primaries.inside names n) here want e (inside-tells log.shapes names n)).at log (same_self log.shapes)).1
+    let b = simple_bound (around names here log) e in
+    subst (FindingWith v b) g ((t-simple log.shapes names (primaries.inside names n) here want e (inside-tells log.shapes names n)).at log (same_self log.shapes)).1
 
 left-bound : (names : Names) (n : ℕ) (here : Context) (want : Wanted) (e : Simple) (log mid : Log) (f : Found) (k : Kind) (x : TypedPart) → (simple (primaries.inside names n) here want e log).0 ≡ Some f → (asked k f mid).0 ≡ Some x
-    → static_in (as_expr x) ≡ simple_value (around names here log) e
+    → static_in (as_expr x) ≡ left_value k (simple_value (around names here log) e) (simple_bound (around names here log) e)
 left-bound names n here want e log mid f k x g h =
     let v = simple_value (around names here log) e in
-    subst (Maybe (Leaves v)) h ((f-asked k f v (bound-found names n here want e log f g)).at mid)
+    let b = simple_bound (around names here log) e in
+    subst (Maybe (Leaves (left_value k v b))) h ((f-asked k f v b (bound-found names n here want e log f g)).at mid)
 
 -- ---- declarations
 
@@ -161,16 +167,16 @@ f-scalar_asked k f = by f.known f.part
     Scalars : Known → TypedPart → Type 0
     Scalars g x = is_scalar g ≡ true
 
-    object : (p : ObjectName) (ss : Selections) (s : Subtype) → Finds (Maybe (λ x. is_some (kind_in (place_scalar s)) ≡ true)) (place_asked k p ss s)
-    object p ss (subtype.Scalar s) = f-if (Maybe (λ x. is_some (kind_in (place_scalar (subtype.Scalar s))) ≡ true)) (same s.kind k) (some (object_value p ss s p.value)) (fault p.first WrongType) (λ e. f-some (λ x. is_some (kind_in (place_scalar (subtype.Scalar s))) ≡ true) (object_value p ss s p.value) refl) (f-fault (λ x. is_some (kind_in (place_scalar (subtype.Scalar s))) ≡ true) p.first WrongType)
-    object p ss (subtype.Composite m) = f-fault (λ x. is_some (kind_in (place_scalar (subtype.Composite m))) ≡ true) p.first WrongType
-
     is-true : (p : Judging (Option TypedPart)) → Finds (Maybe (λ (x : TypedPart). true ≡ true)) p
     is-true p = record { at = λ log. every (p log).0 }
       where
         every : (x : Option TypedPart) → Maybe (λ (y : TypedPart). true ≡ true) x
         every None = tt
         every (Some y) = refl
+
+    object : (p : ObjectName) (ss : Selections) (s : Subtype) → Finds (Maybe (λ x. is_some (kind_in (place_scalar s)) ≡ true)) (place_asked k p ss s)
+    object p ss (subtype.Scalar s) = f-if (Maybe (λ x. is_some (kind_in (place_scalar (subtype.Scalar s))) ≡ true)) (same s.kind k) (object_value k p ss s p.value) (fault p.first WrongType) (λ e. is-true (object_value k p ss s p.value)) (f-fault (λ x. is_some (kind_in (place_scalar (subtype.Scalar s))) ≡ true) p.first WrongType)
+    object p ss (subtype.Composite m) = f-fault (λ x. is_some (kind_in (place_scalar (subtype.Composite m))) ≡ true) p.first WrongType
 
     by : (g : Known) (x : TypedPart) → Finds (Maybe (Scalars g)) (asked_form k g x)
     by (known.Object p) x = object p (selections_of x) p.subtype
@@ -188,19 +194,20 @@ Initially v i = i.value ≡ v
 abbrev stores : Scalar → ℕ → TypedPart → Judging (Option TypedPart)
 stores s at x = some (part.AValue (typed.Number (check_at at s) (as_expr x)))
 
-f-stored : (v : Option ℤ) (s : Scalar) (at : ℕ) (f : Found) → Is v f → Finds (Maybe (λ x. value_of f.known ≡ v)) (stored (subtype.Scalar s) at f)
+f-stored : (v : Option ℤ) (s : Scalar) (at : ℕ) (f : Found) → Has v f → Finds (Maybe (λ x. value_of f.known ≡ v)) (stored (subtype.Scalar s) at f)
 unfolding stored
 f-stored v s at f h =
     f-bind (Maybe (λ x. is_scalar f.known ≡ true)) (Maybe (λ x. value_of f.known ≡ v)) (asked s.kind f) (λ e. given e (stores s at)) (f-scalar_asked s.kind f) (λ e q.
-    f-given-of (λ x. is_scalar f.known ≡ true) (λ x. value_of f.known ≡ v) e (stores s at) q (λ x t. f-some (λ y. value_of f.known ≡ v) (part.AValue (typed.Number (check_at at s) (as_expr x))) (h.value t)))
+    f-given-of (λ x. is_scalar f.known ≡ true) (λ x. value_of f.known ≡ v) e (stores s at) q (λ x t. f-some (λ y. value_of f.known ≡ v) (part.AValue (typed.Number (check_at at s) (as_expr x))) (h t)))
 
 t-initial : (shapes : List Shape) (names : Names) (level : Inside) (here : Context) (s : Scalar) (mentions : TypedPart) (e : Expr) → LevelTells shapes names level
     → Tells shapes (Maybe (Initially (expr_value (there names here shapes) e))) (initial names level here (Some (indicated mentions (subtype.Scalar s))) (Some e))
 unfolding initial
 t-initial shapes names level here s mentions e l =
     let v = expr_value (there names here shapes) e in
-    t-bind shapes (Finding v) (Maybe (Initially v)) (expr names level here (wanted_of (subtype.Scalar s)) e) _ (t-expr shapes names level here (wanted_of (subtype.Scalar s)) e l) (λ x q.
-    t-of shapes (Maybe (Initially v)) _ (kept x) (found-stored v x q))
+    let b = expr_bound (there names here shapes) e in
+    t-bind shapes (FindingWith v b) (Maybe (Initially v)) (expr names level here (wanted_of (subtype.Scalar s)) e) _ (t-expr shapes names level here (wanted_of (subtype.Scalar s)) e l) (λ x q.
+    t-of shapes (Maybe (Initially v)) _ (kept x) (found-stored v x (has v b x q)))
   where
     at : ℕ
     at = first_token.of_expr e
@@ -219,7 +226,7 @@ t-initial shapes names level here s mentions e l =
     nothing-stored v None = tt
     nothing-stored v (Some y) = tt
 
-    found-stored : (v : Option ℤ) (x : Option Found) → Finding v x → Finds (Maybe (Initially v)) (rest x)
+    found-stored : (v : Option ℤ) (x : Option Found) → Maybe (Has v) x → Finds (Maybe (Initially v)) (rest x)
     found-stored v None q = f-then (Maybe (Initially v)) (given None (stored (subtype.Scalar s) at)) _ (λ w. f-pure (Maybe (Initially v)) _ (nothing-stored v w))
     found-stored v (Some f) q =
         f-bind (Maybe (λ x. value_of f.known ≡ v)) (Maybe (Initially v)) (stored (subtype.Scalar s) at f) _ (f-stored v s at f q) (λ w t. f-pure (Maybe (Initially v)) (joined initial_value w (Some f)) (initially v f w t))
@@ -230,11 +237,11 @@ constant-declared names n here s mentions e log v g =
     let w = expr_value (around names here log) e in
     subst (Maybe (Initially w)) g ((t-initial log.shapes names (primaries.inside names n) here s mentions e (inside-tells log.shapes names n)).at log (same_self log.shapes)).1
 
-f-static_number : (v : Option ℤ) (f : Found) → Is v f → Finds (Maybe (λ z. Some z ≡ v)) (static_number f)
+f-static_number : (v : Option ℤ) (f : Found) → Has v f → Finds (Maybe (λ z. Some z ≡ v)) (static_number f)
 unfolding static_integer
 f-static_number v f h =
     f-if (Maybe (λ z. Some z ≡ v)) (is_number f.known) (static_value (first_of f.known) (value_of f.known)) (fault (first_of f.known) WrongType)
-    (λ e. by (value_of f.known) (h.value (number-scalar f.known e))) (f-fault (λ z. Some z ≡ v) (first_of f.known) WrongType)
+    (λ e. by (value_of f.known) (h (number-scalar f.known e))) (f-fault (λ z. Some z ≡ v) (first_of f.known) WrongType)
   where
     by : (w : Option ℤ) → w ≡ v → Finds (Maybe (λ z. Some z ≡ v)) (static_value (first_of f.known) w)
     by None e = f-fault (λ z. Some z ≡ v) (first_of f.known) NotStatic
@@ -244,7 +251,7 @@ number-declared : (names : Names) (n : ℕ) (here : Context) (e : Expr) (log mid
     → Some z ≡ expr_value (around names here log) e
 number-declared names n here e log mid f z g h =
     let v = expr_value (around names here log) e in
-    subst (Maybe (λ y. Some y ≡ v)) h ((f-static_number v f (found names n here wanted.Other e log f g)).at mid)
+    subst (Maybe (λ y. Some y ≡ v)) h ((f-static_number v f (found names n here wanted.Other e log f g).value).at mid)
 
 pub static_values_law : StaticValuesLaw
 static_values_law = record {

@@ -25,9 +25,9 @@ use Rattle.name_rules.specs.Calls.{gives_in, profile_in, takes_in, arg_names, op
 use Rattle.name_rules.specs.Found.{Found, scalar, Denoted, denote, opened, value_denoted}
 use Rattle.name_rules.specs.Judging.{fault, joined, read, ◌>>=◌, both, given, pure, unless}
 use Rattle.name_rules.specs.Operators.{open_of, limit_of}
-use Rattle.name_rules.specs.Reducers.{by_function, by_operator, by_subtypes, folded_by, is_logical, numeric, of_kind, open_reduction, reduced, reduction, reducer_of}
-use Rattle.name_rules.specs.Types.{class_of, same, typed_scalar, is_integer, shape_in}
-use Rattle.name_rules.specs.Values.{asked, is_number, kind_of, suits, composite_asked, first_of, settled_found}
+use Rattle.name_rules.specs.Reducers.{by_function, by_operator, by_subtypes, folded_by, is_logical, numeric, of_kind, open_reduction, reduced, reduction, reducer_of, logical_kind}
+use Rattle.name_rules.specs.Types.{class_of, same, typed_scalar, is_integer, shape_in, converted_from}
+use Rattle.name_rules.specs.Values.{asked, is_number, kind_of, suits, composite_asked, first_of, settled_found, own_kind}
 use Rattle.name_rules.specs.declared.found.Folding.{Folding}
 use Rattle.name_rules.specs.declared.found.Going.{Going}
 use Rattle.name_rules.specs.declared.found.Limits.{Limits}
@@ -58,7 +58,6 @@ use Rattle.name_rules.specs.declared.found.Put.{Put}
 use Rattle.name_rules.specs.declared.found.Reach.{Reach}
 use Rattle.typed_tree.specs.Latest.{turned}
 use Rattle.typed_tree.specs.declared.scalars.Class.{Class}
-use Rattle.name_rules.specs.Types.{check_at}
 use Rattle.name_rules.specs.Values.{joint}
 use Rattle.name_rules.specs.Aggregates.{Contents, aggregate, composite_at, composite_found, contents_alone, rest_found}
 use Rattle.typed_tree.specs.Classes.{with_class}
@@ -78,7 +77,7 @@ scalar-means : (first : ℕ) (k : Kind) (n : Option Scalar) (e : TypedExpr) → 
 scalar-means first k n e h = record { meaning = refl; bare = h }
 
 done-means : (first : ℕ) (x : TypedPart) → Means nothing (denote (denoted.Done first) x)
-done-means first x = record { meaning = refl; bare = tt }
+done-means first x = record { meaning = refl; bare = refl }
 
 -- ---- predefined names
 
@@ -86,12 +85,12 @@ f-predefined : (first token name : ℕ) (reach : Reach) → Finds (Naming nothin
 f-predefined first token name reach = f-some (Means nothing) (denote (predefined first token name reach) part.Nothing) (by (name == data_error_name) (name == end_error_name))
   where
     by : (x y : Bool) → Means nothing (denote (if x then denoted.Exception first reason.DataError else if y then denoted.Exception first reason.EndError else denoted.Io first token (procedure_of name) reach) part.Nothing)
-    by true y = record { meaning = refl; bare = tt }
-    by false true = record { meaning = refl; bare = tt }
-    by false false = record { meaning = refl; bare = tt }
+    by true y = record { meaning = refl; bare = refl }
+    by false true = record { meaning = refl; bare = refl }
+    by false false = record { meaning = refl; bare = refl }
 
 f-package : (first library : ℕ) → Finds (Naming nothing) (named (denoted.Package first library))
-f-package first library = f-some (Means nothing) (denote (denoted.Package first library) part.Nothing) (record { meaning = refl; bare = tt })
+f-package first library = f-some (Means nothing) (denote (denoted.Package first library) part.Nothing) (record { meaning = refl; bare = refl })
 
 pub f-undeclared : (here : Context) (token name : ℕ) → Finds (Naming nothing) (undeclared here token name)
 f-undeclared here token name =
@@ -132,7 +131,7 @@ f-sub_call names inside here at first last n as' =
 f-converted : (first : ℕ) (s : Scalar) (f : Found) → Finds (Naming nothing) (converted first s f)
 f-converted first s f =
     f-if (Naming nothing) (is_number f.known) _ (fault (first_of f.known) WrongType)
-    (λ e. f-then (Naming nothing) (settled_found f) _ (λ x. f-given (Means nothing) x _ (λ y. f-some (Means nothing) (conversion_of first s y) (scalar-means first s.kind (Some s) (typed.Convert (check_at first s) (as_expr y)) refl))))
+    (λ e. f-then (Naming nothing) (settled_found f) _ (λ x. f-given (Means nothing) x _ (λ y. f-some (Means nothing) (conversion_of first (own_kind f.known) s y) (scalar-means first s.kind (Some s) (typed.Convert (record { at = first; scalar = converted_from (own_kind f.known) s }) (as_expr y)) refl))))
     (f-fault (Means nothing) (first_of f.known) WrongType)
 
 f-one_operand : (bracket first : ℕ) (s : Scalar) (ns : List (Option ℕ)) (fs : List Found) → Finds (Naming nothing) (one_operand bracket first s ns fs)
@@ -225,7 +224,7 @@ f-two_arguments_of names inside here bracket k make as' h =
     f-where_clean (Means nothing) (operands names inside here (Some []) as') _ (λ fs. f-given (Means nothing) fs _ (λ gs. f-two_named bracket k make (first_named (arg_names as')) gs h))
 
 image-means : (first : ℕ) (k : Kind) (x : TypedExpr) → Means nothing (image_text first k x)
-image-means first k x = record { meaning = refl; bare = tt }
+image-means first k x = record { meaning = refl; bare = refl }
 
 extreme-means : (first : ℕ) (k : Kind) (o : Op) (x y : TypedExpr) → Means nothing (extreme first k o x y)
 extreme-means first k o x y = scalar-means first k None (typed.Binary first o (class_of k) x y) refl
@@ -286,7 +285,7 @@ f-numeric g c i at o x v None (Some k) = f-of_kind g c i at o k x v
 
 f-by_operator : (g : Going) (c i : TypedPart) (at : ℕ) (o : Op) (x v : Found) → Finds (Maybe Plain) (by_operator g c i at o x v)
 f-by_operator g c i at o x v =
-    f-if (Maybe Plain) (is_logical o) (of_kind g c i at o kind.Boolean x v) _ (λ e. f-of_kind g c i at o kind.Boolean x v)
+    f-if (Maybe Plain) (is_logical o) (of_kind g c i at o (logical_kind (kind_of x.known) (kind_of v.known)) x v) _ (λ e. f-of_kind g c i at o (logical_kind (kind_of x.known) (kind_of v.known)) x v)
     (f-if (Maybe Plain) (is_number x.known && is_number v.known) (numeric g c i at o x v (kind_of x.known) (kind_of v.known)) (fault at ReduceRule) (λ e. f-numeric g c i at o x v (kind_of x.known) (kind_of v.known)) (f-fault Plain at ReduceRule))
 
 f-by_subtypes : (g : Going) (c i : TypedPart) (at n : ℕ) (result : Kind) (s t : Subtype) (x v : Found) → Finds (Maybe Plain) (by_subtypes g c i at n result s t x v)
@@ -341,9 +340,9 @@ f-sequence names level here bracket p i value attribute reducer initial =
 pub f-aggregate : (names : Names) (level : Inside) (here : Context) (want : Wanted) (bracket : ℕ) (ps : Contents) → Finds (Finding None) (aggregate names level here want bracket ps)
 unfolding aggregate
 f-aggregate names level here (wanted.Composite n) bracket ps =
-    record { at = λ log. (f-then (Finding None) (composite_at names level here bracket n 0 log (shape_in log n) ps) _ (λ c. f-pure (Finding None) _ (mapped (Is None) (composite_found bracket n) c (λ x. record { value = λ e. refl; bare = tt })))).at log }
+    record { at = λ log. (f-then (Finding None) (composite_at names level here bracket n 0 log (shape_in log n) ps) _ (λ c. f-pure (Finding None) _ (mapped (Is None) (composite_found bracket n) c (λ x. record { value = λ e. refl; bare = refl })))).at log }
 f-aggregate names level here (wanted.Rest n i) bracket ps =
-    record { at = λ log. (f-then (Finding None) (composite_at names level here bracket n i log (shape_in log n) ps) _ (λ c. f-pure (Finding None) _ (mapped (Is None) (rest_found bracket) c (λ x. record { value = λ e. refl; bare = tt })))).at log }
+    record { at = λ log. (f-then (Finding None) (composite_at names level here bracket n i log (shape_in log n) ps) _ (λ c. f-pure (Finding None) _ (mapped (Is None) (rest_found bracket) c (λ x. record { value = λ e. refl; bare = refl })))).at log }
 f-aggregate names level here wanted.Unknown bracket ps = f-none (Is None)
 f-aggregate names level here wanted.Other bracket ps = f-where_clean (Is None) (contents_alone names level here ps) _ (λ u. f-fault (Is None) bracket WrongType)
 f-aggregate names level here wanted.Text bracket ps = f-where_clean (Is None) (contents_alone names level here ps) _ (λ u. f-fault (Is None) bracket WrongType)
@@ -399,7 +398,7 @@ f-composite_if : (bracket n : ℕ) (w : Waiting) (f : Found) → Finds (Finding 
 unfolding composite_if
 f-composite_if bracket n w f =
     f-then (Finding None) (composite_asked n f) _ (λ o. f-then (Finding None) (composite_ifs n w.known w.part o) _ (λ c.
-    f-pure (Finding None) _ (mapped (Is None) (with_known (known.Composite bracket n)) c (λ x. record { value = λ t. refl; bare = tt }))))
+    f-pure (Finding None) _ (mapped (Is None) (with_known (known.Composite bracket n)) c (λ x. record { value = λ t. refl; bare = refl }))))
 
 abbrev OpenBare : Limits × TypedPart → Type 0
 OpenBare o = (c : Class) → static_in (with_class c (as_expr o.1)) ≡ None

@@ -7,7 +7,7 @@ use Rattle.name_rules.specs.Attributes.{attribute_at}
 use Rattle.name_rules.specs.Expressions.{multiplying_op}
 use Rattle.name_rules.specs.Scope.{bit, lookup}
 use Rattle.name_rules.specs.Symbols.{number, symbol}
-use Rattle.name_rules.specs.Types.{component_of, dimensions_of, extent, fields_of}
+use Rattle.name_rules.specs.Types.{component_of, dimensions_of, extent, fields_of, is_modular, kept}
 use Rattle.name_rules.specs.declared.found.Attribute.TheVariants as attribute'
 use Rattle.name_rules.specs.declared.found.Attribute.{Attribute}
 use Rattle.name_rules.specs.declared.log.Dimension.{Dimension}
@@ -26,6 +26,7 @@ use Rattle.syntax_tree.specs.declared.operators.Additive.TheVariants as additive
 use Rattle.syntax_tree.specs.declared.operators.Sign.TheVariants as sign
 use Rattle.syntax_tree.specs.declared.operators.Sign.{Sign}
 use Rattle.std.specs.Prelude.{List, None, Option, Some, [], if◌then◌else◌, int_le, neg_ℤ, option_map, pos, slice_get, unsigned_abs, ℕ, ℤ, ◌-◌, ◌==◌, ◌∷◌}
+use Rattle.name_rules.specs.declared.types.Kind.{Kind}
 
 -- what is declared around an expression: what identifiers stand for, with the values of constants and the bounds of scalar
 -- subtypes, and the arrays and records there are
@@ -84,11 +85,17 @@ abbrev pub dimensions : List Shape → Subtype → List Dimension
 dimensions shapes (subtype.Scalar s) = []
 dimensions shapes (subtype.Composite n) = dimensions_of (slice_get shapes n)
 
--- First and Last of a scalar subtype (3.5)
+-- First and Last of a scalar subtype (3.5); no expression of a modular type is static
 abbrev pub scalar_bound : Attribute → Scalar → Option ℤ
-scalar_bound attribute'.First s = Some s.low
-scalar_bound attribute'.Last s = Some s.high
+scalar_bound attribute'.First s = if is_modular s.kind then None else Some s.low
+scalar_bound attribute'.Last s = if is_modular s.kind then None else Some s.high
 scalar_bound a s = None
+
+-- First and Last of a modular subtype, as a cell keeps them
+abbrev pub modular_bound : Attribute → Scalar → Option ℤ
+modular_bound attribute'.First s = if is_modular s.kind then Some s.low else None
+modular_bound attribute'.Last s = if is_modular s.kind then Some s.high else None
+modular_bound a s = None
 
 -- First, Last and Length of a dimension (3.6.2)
 abbrev pub bound : Attribute → Option Dimension → Option ℤ
@@ -129,6 +136,10 @@ abbrev pub value_in : Standing → Option ℤ
 value_in (Value v) = v
 value_in (Object t v) = v
 value_in s = None
+
+abbrev pub modular_in : Standing → Option ℤ
+modular_in (OfType by (subtype.Scalar s)) = modular_bound by s
+modular_in s = None
 
 -- ---- static expressions
 
@@ -183,3 +194,37 @@ abbrev mutual
   after_part a s (syntax.Call bracket e es) = after_bracket a None s
   after_part a s (syntax.Attribute at) = after_tick (attribute_at (symbol a.names at)) s
   after_part a s (syntax.RangeAttribute at) = after_tick (Some attribute'.Range) s
+
+-- ---- the bound of a modular subtype that an expression is: First or Last alone, without brackets and operators
+
+abbrev pub name_bound : Around → Name → Option ℤ
+name_bound a (syntax.name first ps) = modular_in (after_parts a (declared (lookup (symbol a.names first) a.scope)) ps)
+
+abbrev pub primary_bound : Around → Primary → Option ℤ
+primary_bound a (syntax.Named n) = name_bound a n
+primary_bound a p = None
+
+abbrev pub factor_bound : Around → Factor → Option ℤ
+factor_bound a (syntax.Operand p) = primary_bound a p
+factor_bound a x = None
+
+abbrev pub term_bound : Around → Term → Option ℤ
+term_bound a (syntax.Product f syntax.NoMultiplying) = factor_bound a f
+term_bound a t = None
+
+abbrev pub simple_bound : Around → Simple → Option ℤ
+simple_bound a (syntax.Sum None t syntax.NoAdding) = term_bound a t
+simple_bound a s = None
+
+abbrev pub rel_bound : Around → Rel → Option ℤ
+rel_bound a (syntax.Alone s) = simple_bound a s
+rel_bound a r = None
+
+abbrev pub expr_bound : Around → Expr → Option ℤ
+expr_bound a (syntax.Single r) = rel_bound a r
+expr_bound a e = None
+
+-- what stands in a place of a type: a static value as a cell of the type keeps it, else a bound of a modular subtype
+abbrev pub left_value : Kind → Option ℤ → Option ℤ → Option ℤ
+left_value k None b = b
+left_value k (Some z) b = Some (kept k z)

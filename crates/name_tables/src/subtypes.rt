@@ -23,6 +23,7 @@ fn class_of(kind: Kind) -> Class
         Kind::Boolean => Class::Boolean,
         Kind::Integer => Class::Integer(Base::Narrow),
         Kind::Own(_) => Class::Integer(Base::Wide),
+        Kind::Modular(_, k) => Class::Integer(Base::Modulo(k)),
     }
 }
 

@@ -8,20 +8,21 @@ use Rattle.name_rules.specs.declared.found.Found.{Found as Known}
 use Rattle.name_rules.specs.declared.log.Log.{Log}
 use Rattle.name_rules.specs.declared.types.Kind.{Kind}
 use Rattle.name_values.proofs.Taken.{both-taken}
-use Rattle.name_values.specs.Bounds.{ends_of}
+use Rattle.name_values.specs.Bounds.{ends, ends_of}
 use Rattle.name_values.specs.Statics.{span_taken}
 
 given-some : (o : Option (ℤ × ℤ)) (log : Log) → given o some log ≡ (o, log)
 given-some None log = refl
 given-some (Some p) log = refl
 
-given-ends : (o : Option Span) (log : Log) → given o (λ p. some (p.low, p.high)) log ≡ (ends_of o, log)
-given-ends None log = refl
-given-ends (Some p) log = refl
+given-ends : (k : Kind) (o : Option Span) (log : Log) → given o (λ p. some (ends k p)) log ≡ (ends_of k o, log)
+given-ends k None log = refl
+given-ends k (Some p) log = refl
 
 pub static_taken : (k : Kind) (f g : Known) (x y : TypedPart) (log : Log)
-    → both_static k (record { known = f; part = x }) (record { known = g; part = y }) log ≡ (ends_of (span_taken k f g log).0, (span_taken k f g log).1)
+    → both_static k (record { known = f; part = x }) (record { known = g; part = y }) log
+    ≡ (ends_of k (span_taken k (record { known = f; part = x }) (record { known = g; part = y }) log).0, (span_taken k (record { known = f; part = x }) (record { known = g; part = y }) log).1)
 static_taken k f g x y log =
     let r = both_static k (record { known = f; part = x }) (record { known = g; part = y }) log in
-    let q = span_taken k f g log in
-    sym (given-some r.0 r.1) ∙ both-taken k f g x y some log ∙ given-ends q.0 q.1
+    let q = span_taken k (record { known = f; part = x }) (record { known = g; part = y }) log in
+    sym (given-some r.0 r.1) ∙ both-taken k f g x y some log ∙ given-ends k q.0 q.1

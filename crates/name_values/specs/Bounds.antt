@@ -1,9 +1,12 @@
 -- The values of two static bounds.
 use Rattle.std.specs.Prelude.{Option, option_map, ℤ}
 use Rattle.typed_tree.specs.declared.statements.Span.{Span}
+use Rattle.name_rules.specs.Types.{kept}
+use Rattle.name_rules.specs.declared.types.Kind.{Kind}
 
-abbrev pub ends : Span → ℤ × ℤ
-ends s = (s.low, s.high)
+-- cells keep them
+abbrev pub ends : Kind → Span → ℤ × ℤ
+ends k s = (kept k s.low, kept k s.high)
 
-abbrev pub ends_of : Option Span → Option (ℤ × ℤ)
-ends_of s = option_map ends s
+abbrev pub ends_of : Kind → Option Span → Option (ℤ × ℤ)
+ends_of k s = option_map (ends k) s

@@ -10,14 +10,15 @@ ghost use Rattle.typed_parts.specs.Stack.{parts};
 
 use crate::judge::Judge;
 use crate::names::wrong_name;
-use crate::types::check_at;
-use crate::values::{first_of, is_number, settled_found};
+use crate::types::converted_from;
+use crate::values::{first_of, is_number, own_kind, settled_found};
 use ada_base::Items;
 use name_rules::found::{Denoted, Found};
 use name_rules::log::Rule;
 use name_rules::types::Scalar;
 use std::alloc::AllocError;
 use typed_parts::Parts;
+use typed_tree::Check;
 
 /// One more operand, which is the latest part, joins those before it, whose list is the part before; whether each could
 /// be judged.
@@ -59,7 +60,12 @@ fn converted(
     if !attempt!(settled_found(judge, given)) {
         return Ok(None);
     }
-    attempt!(judge.out.convert(check_at(first, scalar)));
+    attempt!(
+        judge.out.convert(Check {
+            at: first,
+            scalar: converted_from(own_kind(given), scalar),
+        })
+    );
     Ok(Some(Denoted::Value(Found::Scalar {
         first,
         kind: scalar.kind,

@@ -38,11 +38,7 @@ fn static_of(judge: &mut Judge, first: u32, kind: Kind, value: Option<i128>) -> 
     if !in_base(kind, value) {
         return no_part(judge, first, Rule::StaticRange);
     }
-    Ok(Some(Found::Static {
-        first,
-        kind,
-        value: value as i64,
-    }))
+    Ok(Some(Found::Static { first, kind, value }))
 }
 
 /// A universal static value, with what is mentioned as the latest part: StaticRange where there is none in 128 bits.
@@ -145,6 +141,13 @@ fn typed_operation(
     operation_on(judge, op, at, left_kind, right_kind, left, right)
 }
 
+/// Whether a number has no more than 64 binary digits and no sign.
+fn is_digits(value: i128) -> bool
+    ensures { result ≡ spec.is_digits value }
+{
+    0 <= value && value <= 18_446_744_073_709_551_615
+}
+
 fn leaf_limits(first: u32, value: i128) -> Limits
     ensures { result ≡ spec.leaf_limits first value }
 {
@@ -159,6 +162,7 @@ fn leaf_limits(first: u32, value: i128) -> Limits
         } else {
             Some(first)
         },
+        word: if is_digits(value) { None } else { Some(first) },
     }
 }
 
@@ -166,10 +170,20 @@ fn leaf_limits(first: u32, value: i128) -> Limits
 fn leaf(out: &mut Parts, first: u32, value: i128) -> Result<(), AllocError>
     ensures { OnOk result (parts out.new ≡ part.AnExpr (spec.leaf first value (top (parts out.old))) ∷ pop (parts out.old)) }
 {
+    literal(out, first, leaf_kept(value), false)
+}
+
+/// What a static part of a universal expression keeps: a number of 64 bits as it is, one of 64 binary digits as a cell of
+/// a modular type does.
+fn leaf_kept(value: i128) -> i64
+    ensures { result ≡ spec.leaf_kept value }
+{
     if in_base(Kind::Own(0), value) {
-        literal(out, first, value as i64, false)
+        value as i64
+    } else if is_digits(value) {
+        ada_base::kept(value as u64)
     } else {
-        literal(out, first, 0, false)
+        -1
     }
 }
 
@@ -189,6 +203,7 @@ pub fn joint(a: Limits, b: Limits) -> Limits
     Limits {
         narrow: sooner(a.narrow, b.narrow),
         wide: sooner(a.wide, b.wide),
+        word: sooner(a.word, b.word),
     }
 }
 

@@ -20,7 +20,7 @@ use crate::judge::{Finding, Judge};
 use crate::logs::{breaks, no_part};
 use crate::operators::{joint, open_before, open_of};
 use crate::symbols::{MAX, MIN, symbol};
-use crate::types::{class_of, same, typed_scalar};
+use crate::types::{class_of, is_modular, same, typed_scalar};
 use crate::values::{asked, asked_before, is_number, kind_of, suits};
 use ada_base::Op;
 use name_rules::found::{Denoted, Folding, Found, Going};
@@ -253,6 +253,22 @@ fn numeric(
     }
 }
 
+fn modular_or(kind: Option<Kind>, other: Kind) -> Kind
+    ensures { result ≡ spec.modular_or kind other }
+{
+    match kind {
+        None => other,
+        Some(kind) => { if is_modular(kind) { kind } else { other } }
+    }
+}
+
+/// The type that a logical operator folds values of: Boolean, unless one of the two is of a modular type.
+fn logical_kind(value: Option<Kind>, initial: Option<Kind>) -> Kind
+    ensures { result ≡ spec.logical_kind value initial }
+{
+    modular_or(value, modular_or(initial, Kind::Boolean))
+}
+
 fn by_operator(
     judge: &mut Judge,
     going: Going,
@@ -264,7 +280,8 @@ fn by_operator(
     ensures { JudgesOn (pop (pop (pop (pop (parts judge.old.out))))) (spec.by_operator going (fourth (parts judge.old.out)) (third (parts judge.old.out)) at op (found value (second (parts judge.old.out))) (found initial (top (parts judge.old.out)))) judge.old result judge.new }
 {
     if is_logical(op) {
-        return of_kind(judge, going, at, op, Kind::Boolean, value, initial);
+        let kind = logical_kind(kind_of(value), kind_of(initial));
+        return of_kind(judge, going, at, op, kind, value, initial);
     }
     if is_number(value) && is_number(initial) {
         numeric(judge, going, at, op, value, initial)

@@ -1,7 +1,7 @@
 //! The rules of relations (4.5.2), of logical operators (4.5.1), and of operators on strings (4.5.3): the operands'
 //! parts are the latest, and the result's part comes in their place. A wrong operand is blamed at the operator.
 
-ghost use Rattle.std.specs.Prelude.{◌≡◌};
+ghost use Rattle.std.specs.Prelude.{◌≡◌, Some};
 ghost use Rattle.name_rules.specs.Judges.{found, found_of};
 ghost use Rattle.name_values.specs.Judged.{JudgesOn, JudgesOne, JudgesThree, JudgesTwo};
 ghost use Rattle.name_rules.specs.Judging.{fault};
@@ -12,15 +12,51 @@ ghost use Rattle.typed_parts.specs.Stack.{parts};
 use crate::judge::{Finding, Judge};
 use crate::logs::{also_all, no_part, no_parts, none_of_two};
 use crate::operators::operation_on;
-use crate::types::class_of;
-use crate::values::{asked, asked_before, first_of, is_kind, is_scalar, kind_of, suits};
+use crate::types::{class_of, is_modular};
+use crate::values::{asked, asked_before, first_of, is_scalar, kind_of, suits};
 use ada_base::{Comparison, Op};
 use name_rules::found::Found;
 use name_rules::log::Rule;
 use name_rules::types::{Kind, Scalar};
-use typed_tree::{Class, Sign};
+use typed_tree::Sign;
 
-/// `not`, which takes a Boolean: WrongType at the operator.
+/// Whether logical operators take values of a type.
+fn is_logical_kind(kind: Kind) -> bool
+    ensures { result ≡ spec.is_logical_kind kind }
+{
+    match kind {
+        Kind::Boolean => true,
+        _ => is_modular(kind),
+    }
+}
+
+/// `not` of an operand that takes a type.
+fn complement(judge: &mut Judge, at: u32, operand: Found, kind: Kind) -> Finding
+    ensures { JudgesOne (λ x. spec.complement at x kind) (found operand) judge.old result judge.new }
+{
+    if !attempt!(asked(judge, kind, operand)) {
+        return Ok(None);
+    }
+    attempt!(judge.out.unary(at, Sign::Not, class_of(kind)));
+    Ok(Some(Found::Scalar {
+        first: at,
+        kind,
+        nominal: None,
+    }))
+}
+
+/// `not` of an operand of a type.
+fn not_kind(judge: &mut Judge, at: u32, operand: Found, kind: Kind) -> Finding
+    ensures { JudgesOne (λ x. spec.not_by at x (Some kind)) (found operand) judge.old result judge.new }
+{
+    if is_logical_kind(kind) {
+        complement(judge, at, operand, kind)
+    } else {
+        no_part(judge, at, Rule::WrongType)
+    }
+}
+
+/// `not`, which takes a Boolean or a number of a modular type: WrongType at the operator.
 #[tactic(auto, unfolding(name_rules::specs::Operators::not_of))]
 pub fn not_of(judge: &mut Judge, at: u32, operand: Option<Found>) -> Finding
     ensures { JudgesOne (spec.not_of at) (found_of operand) judge.old result judge.new }
@@ -28,18 +64,10 @@ pub fn not_of(judge: &mut Judge, at: u32, operand: Option<Found>) -> Finding
     let Some(operand) = operand else {
         return Ok(None);
     };
-    if !is_kind(Kind::Boolean, kind_of(operand)) {
-        return no_part(judge, at, Rule::WrongType);
+    match kind_of(operand) {
+        None => no_part(judge, at, Rule::WrongType),
+        Some(kind) => not_kind(judge, at, operand, kind),
     }
-    if !attempt!(asked(judge, Kind::Boolean, operand)) {
-        return Ok(None);
-    }
-    attempt!(judge.out.unary(at, Sign::Not, Class::Boolean));
-    Ok(Some(Found::Scalar {
-        first: at,
-        kind: Kind::Boolean,
-        nominal: None,
-    }))
 }
 
 /// `&`, which joins strings: WrongType at the operator.
@@ -59,7 +87,7 @@ pub fn joined_text(judge: &mut Judge, at: u32, left: Option<Found>, right: Optio
     }
 }
 
-/// `and`, `or` and `xor`, which take Booleans: WrongType at the operator.
+/// `and`, `or` and `xor`, which take Booleans or numbers of one modular type: WrongType at the operator.
 #[tactic(auto, unfolding(name_rules::specs::Operators::logical))]
 pub fn logical(
     judge: &mut Judge,
@@ -73,8 +101,9 @@ pub fn logical(
     let (Some(left), Some(right)) = (left, right) else {
         return none_of_two(judge);
     };
-    if is_kind(Kind::Boolean, kind_of(left)) && is_kind(Kind::Boolean, kind_of(right)) {
-        operation_on(judge, op, at, Kind::Boolean, Kind::Boolean, left, right)
+    let kind = common_kind(kind_of(left), kind_of(right));
+    if is_logical_kind(kind) && suits(kind, left) && suits(kind, right) {
+        operation_on(judge, op, at, kind, kind, left, right)
     } else {
         no_parts(judge, at, Rule::WrongType)
     }

@@ -1,6 +1,6 @@
 //! Static ranges (3.6, 4.3.3) and the values of choices (3.8.1): what they mention is their part.
 
-ghost use Rattle.std.specs.Prelude.{◌≡◌, ◌&&◌};
+ghost use Rattle.std.specs.Prelude.{◌≡◌, ◌&&◌, OnOk};
 ghost use Rattle.name_rules.specs.Judges.{Says, found, found_of};
 ghost use Rattle.name_values.specs.Judged.{JudgesOn, JudgesTwo};
 ghost use Rattle.name_rules.specs.Judging.{fault};
@@ -16,15 +16,15 @@ use crate::logs::{breaks, none_of_two};
 use crate::names::denoted_first;
 use crate::operators::both_mentions;
 use crate::relations::common_kind;
-use crate::types::{in_base, is_integer, lies_in, same};
-use crate::values::{beyond, first_of, is_number, kind_of, mentions, static_value, suits};
-use name_rules::found::{Denoted, Found, ObjectName};
+use crate::types::{in_base, is_integer, is_modular, kept, lies_in, same};
+use crate::values::{beyond, first_of, is_number, kind_of, mentions, suits, value_of};
+use name_rules::found::{Denoted, Found, Limits, ObjectName};
 use name_rules::log::{Dimension, Log, Rule};
 use name_rules::types::{Kind, Scalar, Subtype};
 use std::alloc::AllocError;
 use typed_tree::Span;
 
-/// The values of a choice, from the first to the last, with its first token.
+/// The values of a choice, from the first to the last as cells keep them, with its first token.
 #[derive(Clone, Copy)]
 pub struct Chosen {
     pub at: u32,
@@ -48,9 +48,32 @@ fn place_takes(log: &mut Log, kind: Kind, place: ObjectName) -> Result<bool, All
 {
     match place.subtype {
         Subtype::Scalar(scalar) => {
-            or_breaks(log, same(scalar.kind, kind), place.first, Rule::WrongType)
+            if same(scalar.kind, kind) {
+                value_takes(log, kind, place.first, place.value)
+            } else {
+                or_breaks(log, false, place.first, Rule::WrongType)
+            }
         }
         Subtype::Composite(_) => or_breaks(log, false, place.first, Rule::WrongType),
+    }
+}
+
+fn value_takes(
+    log: &mut Log,
+    kind: Kind,
+    first: u32,
+    value: Option<i64>,
+) -> Result<bool, AllocError>
+    ensures { Says (statics.value_takes kind first value log.old) result log.new }
+{
+    match value {
+        None => Ok(true),
+        Some(value) => or_breaks(
+            log,
+            in_base(kind, i128::from(value)),
+            first,
+            Rule::StaticRange,
+        ),
     }
 }
 
@@ -63,10 +86,32 @@ fn within(log: &mut Log, at: Option<u32>) -> Result<bool, AllocError>
     }
 }
 
-/// Whether an expression takes the type that its place asks for, where its part isn't needed: WrongType, StaticRange.
+/// Whether an expression, the latest part, takes the type that its place asks for: WrongType, StaticRange. The part stays
+/// as it is.
 #[tactic(auto, unfolding(crate::specs::Statics::takes))]
-pub fn takes(log: &mut Log, kind: Kind, given: Found) -> Result<bool, AllocError>
-    ensures { Says (statics.takes kind given log.old) result log.new }
+fn takes(judge: &mut Judge, kind: Kind, given: Found) -> Result<bool, AllocError>
+    ensures { Says (statics.takes kind given (top (parts judge.old.out)) judge.old.log) result judge.new.log × OnOk result ((top (parts judge.new.out) ≡ top (parts judge.old.out)) × (pop (parts judge.new.out) ≡ pop (parts judge.old.out))) }
+{
+    if let Found::Open { first, limits } = given {
+        return open_takes(judge, kind, first, limits);
+    }
+    closed_takes(&mut judge.log, kind, given)
+}
+
+/// The same of a universal expression that isn't static.
+fn open_takes(judge: &mut Judge, kind: Kind, first: u32, limits: Limits) -> Result<bool, AllocError>
+    ensures { Says (statics.open_takes kind first limits (top (parts judge.old.out)) judge.old.log) result judge.new.log × OnOk result ((top (parts judge.new.out) ≡ top (parts judge.old.out)) × (pop (parts judge.new.out) ≡ pop (parts judge.old.out))) }
+{
+    if !is_integer(kind) {
+        return or_breaks(&mut judge.log, false, first, Rule::WrongType);
+    }
+    let at = attempt!(beyond(&mut judge.out, kind, limits));
+    within(&mut judge.log, at)
+}
+
+/// The same of another one.
+fn closed_takes(log: &mut Log, kind: Kind, given: Found) -> Result<bool, AllocError>
+    ensures { Says (statics.closed_takes kind given log.old) result log.new }
 {
     match given {
         Found::Universal { first, value, .. } => {
@@ -76,18 +121,17 @@ pub fn takes(log: &mut Log, kind: Kind, given: Found) -> Result<bool, AllocError
                 or_breaks(log, false, first, Rule::WrongType)
             }
         }
-        Found::Open { first, limits } => {
-            if is_integer(kind) {
-                within(log, beyond(kind, limits))
+        Found::Static {
+            first,
+            kind: own,
+            value,
+        } => {
+            if same(own, kind) {
+                or_breaks(log, in_base(kind, value), first, Rule::StaticRange)
             } else {
                 or_breaks(log, false, first, Rule::WrongType)
             }
         }
-        Found::Static {
-            first,
-            kind: own,
-            ..
-        } => or_breaks(log, same(own, kind), first, Rule::WrongType),
         Found::Object(place) => place_takes(log, kind, place),
         Found::Scalar {
             first,
@@ -98,21 +142,19 @@ pub fn takes(log: &mut Log, kind: Kind, given: Found) -> Result<bool, AllocError
     }
 }
 
-/// The static value of an expression in the base range of a type.
+/// The static value of an expression in the base range of a type, as a cell keeps it.
 fn value_in(kind: Kind, given: Found) -> Option<i64>
     ensures { result ≡ statics.value_in kind given }
 {
-    match given {
-        Found::Universal { value, .. } => {
+    match value_of(given) {
+        None => None,
+        Some(value) => {
             if in_base(kind, value) {
-                Some(value as i64)
+                Some(kept(kind, value))
             } else {
                 None
             }
         }
-        Found::Static { value, .. } => Some(value),
-        Found::Object(place) => place.value,
-        _ => None,
     }
 }
 
@@ -129,13 +171,14 @@ fn has_value(log: &mut Log, first: u32, value: Option<i64>) -> Result<Option<i64
     }
 }
 
-/// The value of a static expression whose place asks for a type: WrongType, StaticRange, NotStatic.
+/// The value of a static expression, the latest part, whose place asks for a type: WrongType, StaticRange, NotStatic. The
+/// part stays as it is.
 #[tactic(auto, unfolding(crate::specs::Statics::value_taken))]
-fn value_taken(log: &mut Log, kind: Kind, given: Found) -> Result<Option<i64>, AllocError>
-    ensures { Says (statics.value_taken kind given log.old) result log.new }
+fn value_taken(judge: &mut Judge, kind: Kind, given: Found) -> Result<Option<i64>, AllocError>
+    ensures { Says (statics.value_taken kind given (top (parts judge.old.out)) judge.old.log) result judge.new.log × OnOk result ((top (parts judge.new.out) ≡ top (parts judge.old.out)) × (pop (parts judge.new.out) ≡ pop (parts judge.old.out))) }
 {
-    if attempt!(takes(log, kind, given)) {
-        has_value(log, first_of(given), value_in(kind, given))
+    if attempt!(takes(judge, kind, given)) {
+        has_value(&mut judge.log, first_of(given), value_in(kind, given))
     } else {
         Ok(None)
     }
@@ -157,20 +200,23 @@ fn both_values(
     }
 }
 
-/// Two static bounds of a type: WrongType, StaticRange, and NotStatic at one that isn't static.
+/// Two static bounds of a type, the latest parts, which stay as they are: WrongType, StaticRange, and NotStatic at one
+/// that isn't static.
 #[tactic(auto, unfolding(crate::specs::Statics::span_taken))]
 pub fn span_taken(
-    log: &mut Log,
+    judge: &mut Judge,
     kind: Kind,
     low: Found,
     high: Found,
 ) -> Result<Option<Span>, AllocError>
-    ensures { Says (statics.span_taken kind low high log.old) result log.new }
+    ensures { Says (statics.span_taken kind (found low (second (parts judge.old.out))) (found high (top (parts judge.old.out))) judge.old.log) result judge.new.log × OnOk result (statics.StayTwo (parts judge.old.out) (parts judge.new.out)) }
 {
-    let x = attempt!(takes(log, kind, low));
-    let y = attempt!(takes(log, kind, high));
+    attempt!(judge.out.swap());
+    let x = attempt!(takes(judge, kind, low));
+    attempt!(judge.out.swap());
+    let y = attempt!(takes(judge, kind, high));
     if x && y {
-        both_values(log, kind, low, high)
+        both_values(&mut judge.log, kind, low, high)
     } else {
         Ok(None)
     }
@@ -293,13 +339,13 @@ pub fn static_bounds(
     ensures { JudgesTwo (spec.static_bounds first must_hold want) (found low) (found high) judge.old result judge.new }
 {
     let kind = preferred(want, low, high);
-    if !is_number(low) {
+    if !is_number(low) || is_modular(kind) {
         return no_span(judge, first_of(low), Rule::WrongType);
     }
     if !(suits(kind, low) && suits(kind, high)) {
         return no_span(judge, first_of(high), Rule::WrongType);
     }
-    match attempt!(span_taken(&mut judge.log, kind, low, high)) {
+    match attempt!(span_taken(judge, kind, low, high)) {
         None => {
             judge.out.leave_out();
             Ok(None)
@@ -308,7 +354,14 @@ pub fn static_bounds(
     }
 }
 
-/// The dimension of a scalar subtype, which mentions nothing: WrongType where it is no integer one.
+/// Whether a type may be that of an index: an integer type that isn't modular.
+fn is_index(kind: Kind) -> bool
+    ensures { result ≡ spec.is_index kind }
+{
+    is_integer(kind) && !is_modular(kind)
+}
+
+/// The dimension of a scalar subtype, which mentions nothing: WrongType where it is no integer one, or a modular one.
 fn static_scalar(
     judge: &mut Judge,
     first: u32,
@@ -318,7 +371,7 @@ fn static_scalar(
 {
     judge.out.leave_out();
     attempt!(judge.out.nothing());
-    if is_integer(scalar.kind) {
+    if is_index(scalar.kind) {
         return Ok(Some(Dimension {
             kind: scalar.kind,
             low: scalar.low,
@@ -362,10 +415,10 @@ pub fn static_checked(
 ) -> Result<Option<Dimension>, AllocError>
     ensures { JudgesTwo (spec.static_checked first must_hold scalar) (found low) (found high) judge.old result judge.new }
 {
-    if !is_integer(scalar.kind) {
+    if !is_index(scalar.kind) {
         return no_span(judge, first, Rule::WrongType);
     }
-    match attempt!(span_taken(&mut judge.log, scalar.kind, low, high)) {
+    match attempt!(span_taken(judge, scalar.kind, low, high)) {
         None => {
             judge.out.leave_out();
             Ok(None)
@@ -379,7 +432,7 @@ pub fn static_checked(
 fn one_value(judge: &mut Judge, kind: Kind, given: Found) -> Result<Option<Chosen>, AllocError>
     ensures { statics.Chooses (spec.one_value kind (found given (top (parts judge.old.out))) judge.old.log) (pop (parts judge.old.out)) result judge.new.log (parts judge.new.out) }
 {
-    match attempt!(value_taken(&mut judge.log, kind, given)) {
+    match attempt!(value_taken(judge, kind, given)) {
         None => Ok(None),
         Some(value) => {
             attempt!(mentions(&mut judge.out, given));
@@ -393,7 +446,7 @@ fn one_value(judge: &mut Judge, kind: Kind, given: Found) -> Result<Option<Chose
 }
 
 /// The values of a choice from a bound to another, the latest parts.
-#[tactic(auto, using(crate::proofs::Taken::one_taken))]
+#[tactic(auto, using(crate::proofs::Taken::two_taken))]
 fn two_values(
     judge: &mut Judge,
     kind: Kind,
@@ -402,8 +455,10 @@ fn two_values(
 ) -> Result<Option<Chosen>, AllocError>
     ensures { statics.Chooses (spec.two_values kind (found low (second (parts judge.old.out))) (found high (top (parts judge.old.out))) judge.old.log) (pop (pop (parts judge.old.out))) result judge.new.log (parts judge.new.out) }
 {
-    let u = attempt!(value_taken(&mut judge.log, kind, low));
-    let v = attempt!(value_taken(&mut judge.log, kind, high));
+    attempt!(judge.out.swap());
+    let u = attempt!(value_taken(judge, kind, low));
+    attempt!(judge.out.swap());
+    let v = attempt!(value_taken(judge, kind, high));
     let (Some(u), Some(v)) = (u, v) else {
         judge.out.leave_out();
         return Ok(None);

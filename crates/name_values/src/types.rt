@@ -1,6 +1,7 @@
 //! Scalar types and subtypes (3.5).
 
-ghost use Rattle.std.specs.Prelude.{◌≡◌};
+ghost use Rattle.std.specs.Prelude.{◌≡◌, ◌-◌, pos, true};
+ghost use Rattle.ada_base.specs.Operation.{modulus};
 ghost use Rattle.name_rules.specs.Judges.{Says};
 ghost use Rattle.name_rules.specs.Types as spec;
 
@@ -18,6 +19,7 @@ pub fn same(a: Kind, b: Kind) -> bool
         (Kind::Boolean, Kind::Boolean) => true,
         (Kind::Integer, Kind::Integer) => true,
         (Kind::Own(m), Kind::Own(n)) => m == n,
+        (Kind::Modular(m, j), Kind::Modular(n, k)) => m == n && j == k,
         _ => false,
     }
 }
@@ -40,6 +42,7 @@ pub fn class_of(kind: Kind) -> Class
         Kind::Boolean => Class::Boolean,
         Kind::Integer => Class::Integer(Base::Narrow),
         Kind::Own(_) => Class::Integer(Base::Wide),
+        Kind::Modular(_, k) => Class::Integer(Base::Modulo(k)),
     }
 }
 
@@ -51,6 +54,99 @@ pub fn in_base(kind: Kind, z: i128) -> bool
         Kind::Boolean => 0 <= z && z <= 1,
         Kind::Integer => -2_147_483_648 <= z && z <= 2_147_483_647,
         Kind::Own(_) => -9_223_372_036_854_775_808 <= z && z <= 9_223_372_036_854_775_807,
+        Kind::Modular(_, k) => 0 <= z && z <= greatest(k),
+    }
+}
+
+/// Whether a type is a modular one.
+pub fn is_modular(kind: Kind) -> bool
+    ensures { result ≡ spec.is_modular kind }
+{
+    matches!(kind, Kind::Modular(_, _))
+}
+
+/// The greatest number of so many binary digits.
+fn greatest(digits: u8) -> i128
+    ensures { result ≡ pos (modulus digits - 1) }
+{
+    if digits < 64 {
+        (1_i128 << digits) - 1
+    } else {
+        18_446_744_073_709_551_615
+    }
+}
+
+/// What a cell keeps of a number of a type's base range.
+pub fn kept(kind: Kind, z: i128) -> i64
+    requires { spec.in_base kind z ≡ true }
+    ensures { result ≡ spec.kept kind z }
+{
+    match kind {
+        Kind::Modular(_, _) => ada_base::kept(z as u64),
+        _ => z as i64,
+    }
+}
+
+/// The number that a cell of a type keeps.
+pub fn number(kind: Kind, value: i64) -> i128
+    ensures { result ≡ spec.kept kind value }
+{
+    match kind {
+        Kind::Modular(_, k) => i128::from(ada_base::digits(value)),
+        _ => i128::from(value),
+    }
+}
+
+/// Whether numbers of a type have 64 binary digits, so that cells keep some of them as negative ones.
+pub fn is_word(kind: Kind) -> bool
+    ensures { result ≡ spec.is_word kind }
+{
+    matches!(kind, Kind::Modular(_, 64))
+}
+
+fn from_word(scalar: Scalar) -> typed_tree::Scalar
+    ensures { result ≡ spec.from_word scalar }
+{
+    if is_modular(scalar.kind) {
+        return typed_scalar(scalar);
+    }
+    typed_tree::Scalar {
+        class: class_of(scalar.kind),
+        low: scalar.low.max(0),
+        high: scalar.high,
+    }
+}
+
+fn to_word(scalar: Scalar) -> typed_tree::Scalar
+    ensures { result ≡ spec.to_word scalar }
+{
+    let class = Class::Integer(Base::Wide);
+    if scalar.low < 0 {
+        return typed_tree::Scalar {
+            class,
+            low: 1,
+            high: 0,
+        };
+    }
+    typed_tree::Scalar {
+        class,
+        low: scalar.low,
+        high: if scalar.high < 0 {
+            9_223_372_036_854_775_807
+        } else {
+            scalar.high
+        },
+    }
+}
+
+/// The subtype that is asked of what a value of another type keeps, for its number to be one of a subtype (4.6).
+pub fn converted_from(kind: Kind, scalar: Scalar) -> typed_tree::Scalar
+    ensures { result ≡ spec.converted_from kind scalar }
+{
+    match (is_word(kind), is_word(scalar.kind)) {
+        (true, false) => from_word(scalar),
+        (false, true) => to_word(scalar),
+        _ => typed_scalar(scalar),
     }
 }
 
@@ -74,6 +170,11 @@ pub fn base_of(kind: Kind) -> Scalar
             low: -9_223_372_036_854_775_808,
             high: 9_223_372_036_854_775_807,
         },
+        Kind::Modular(_, k) => Scalar {
+            kind,
+            low: 0,
+            high: kept(kind, greatest(k)),
+        },
     }
 }
 
@@ -81,7 +182,7 @@ pub fn base_of(kind: Kind) -> Scalar
 pub fn lies_in(scalar: Scalar, z: i128) -> bool
     ensures { result ≡ spec.lies_in scalar z }
 {
-    i128::from(scalar.low) <= z && z <= i128::from(scalar.high)
+    number(scalar.kind, scalar.low) <= z && z <= number(scalar.kind, scalar.high)
 }
 
 /// A subtype as the typed program has it.

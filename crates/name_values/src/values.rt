@@ -1,7 +1,7 @@
 //! What an expression was found to be, static values (4.9), and how an expression takes the type of its place.
 
-ghost use Rattle.std.specs.Prelude.{◌≡◌, ◌∷◌, OnOk};
-ghost use Rattle.typed_tree.specs.Decoded.{as_expr};
+ghost use Rattle.std.specs.Prelude.{◌≡◌, ◌∷◌, IfOk, OnOk};
+ghost use Rattle.typed_tree.specs.Decoded.{AnExpr, as_expr};
 ghost use Rattle.typed_tree.specs.Latest.{pop, second, top};
 ghost use Rattle.name_rules.specs.Judges.{Says, found};
 ghost use Rattle.name_values.specs.Judged.{GivesBefore, GivesOn, GivesOne};
@@ -11,7 +11,9 @@ ghost use Rattle.typed_parts.specs.Stack.{parts};
 
 use crate::judge::{Giving, Judge};
 use crate::logs::{breaks, cleared, not_given};
-use crate::types::{check_at, class_of, in_base, is_integer, same, typed_scalar};
+use crate::types::{
+    check_at, class_of, in_base, is_integer, is_modular, is_word, kept, same, typed_scalar,
+};
 use name_rules::found::{Found, Limits, ObjectName};
 use name_rules::log::{Log, Rule};
 use name_rules::types::{Kind, Scalar, Subtype};
@@ -65,7 +67,7 @@ pub fn value_of(found: Found) -> Option<i128>
 {
     match found {
         Found::Universal { value, .. } => Some(value),
-        Found::Static { value, .. } => Some(i128::from(value)),
+        Found::Static { value, .. } => Some(value),
         Found::Object(place) => match place.value {
             Some(value) => Some(i128::from(value)),
             None => None,
@@ -175,13 +177,25 @@ fn valued(judge: &mut Judge, kind: Kind, first: u32, value: i128, alone: bool) -
     if !in_base(kind, value) {
         return not_given(judge, first, Rule::StaticRange);
     }
-    attempt!(literal(&mut judge.out, first, value as i64, alone));
+    attempt!(literal(&mut judge.out, first, kept(kind, value), alone));
     Ok(true)
 }
 
-/// The first static part of a universal expression that isn't in a type's base range.
-pub fn beyond(kind: Kind, limits: Limits) -> Option<u32>
-    ensures { result ≡ spec.beyond kind limits }
+/// The first static part of a universal expression, the latest part, that isn't in a type's base range. The part stays as
+/// it is.
+pub fn beyond(out: &mut Parts, kind: Kind, limits: Limits) -> Result<Option<u32>, AllocError>
+    ensures { IfOk result (λ at. (at ≡ spec.beyond kind limits (as_expr (top (parts out.old)))) × (top (parts out.new) ≡ top (parts out.old)) × (pop (parts out.new) ≡ pop (parts out.old))) }
+{
+    match kind {
+        Kind::Modular(_, digits) if digits < 64 => out.beyond_digits(digits),
+        Kind::Modular(_, _) => Ok(limits.word),
+        _ => Ok(beyond_range(kind, limits)),
+    }
+}
+
+/// The same of a type that isn't modular.
+fn beyond_range(kind: Kind, limits: Limits) -> Option<u32>
+    ensures { result ≡ spec.beyond_range kind limits }
 {
     match kind {
         Kind::Own(_) => limits.wide,
@@ -193,7 +207,7 @@ pub fn beyond(kind: Kind, limits: Limits) -> Option<u32>
 fn settled(judge: &mut Judge, kind: Kind, limits: Limits) -> Giving
     ensures { GivesOn (pop (parts judge.old.out)) (spec.settled kind limits (as_expr (top (parts judge.old.out)))) judge.old result judge.new }
 {
-    match beyond(kind, limits) {
+    match attempt!(beyond(&mut judge.out, kind, limits)) {
         Some(at) => not_given(judge, at, Rule::StaticRange),
         None => {
             attempt!(judge.out.settle(class_of(kind)));
@@ -202,13 +216,9 @@ fn settled(judge: &mut Judge, kind: Kind, limits: Limits) -> Giving
     }
 }
 
-fn object_value(out: &mut Parts, place: ObjectName, scalar: Scalar) -> Result<(), AllocError>
-    ensures { OnOk result (parts out.new ≡ spec.object_value place (selections_of (top (parts out.old))) scalar place.value ∷ pop (parts out.old)) }
+fn object_expr(out: &mut Parts, place: ObjectName, scalar: Scalar) -> Result<(), AllocError>
+    ensures { OnOk result (parts out.new ≡ AnExpr (spec.object_expr place (selections_of (top (parts out.old))) scalar place.variable) ∷ pop (parts out.old)) }
 {
-    if let Some(value) = place.value {
-        attempt!(cleared(out));
-        return literal(out, place.first, value, false);
-    }
     attempt!(out.turn());
     if place.variable {
         out.variable(place.first, place.root, typed_scalar(scalar))
@@ -217,14 +227,24 @@ fn object_value(out: &mut Parts, place: ObjectName, scalar: Scalar) -> Result<()
     }
 }
 
+fn object_value(judge: &mut Judge, kind: Kind, place: ObjectName, scalar: Scalar) -> Giving
+    ensures { GivesOn (pop (parts judge.old.out)) (spec.object_value kind place (selections_of (top (parts judge.old.out))) scalar place.value) judge.old result judge.new }
+{
+    if let Some(value) = place.value {
+        attempt!(cleared(&mut judge.out));
+        return valued(judge, kind, place.first, i128::from(value), false);
+    }
+    attempt!(object_expr(&mut judge.out, place, scalar));
+    Ok(true)
+}
+
 fn place_asked(judge: &mut Judge, kind: Kind, place: ObjectName) -> Giving
     ensures { GivesOn (pop (parts judge.old.out)) (spec.place_asked kind place (selections_of (top (parts judge.old.out))) place.subtype) judge.old result judge.new }
 {
     match place.subtype {
         Subtype::Scalar(scalar) => {
             if same(scalar.kind, kind) {
-                attempt!(object_value(&mut judge.out, place, scalar));
-                Ok(true)
+                object_value(judge, kind, place, scalar)
             } else {
                 not_given(judge, place.first, Rule::WrongType)
             }
@@ -264,8 +284,7 @@ pub fn asked(judge: &mut Judge, kind: Kind, given: Found) -> Giving
             value,
         } => {
             if same(own, kind) {
-                attempt!(literal(&mut judge.out, first, value, false));
-                Ok(true)
+                valued(judge, kind, first, value, false)
             } else {
                 not_given(judge, first, Rule::WrongType)
             }
@@ -306,12 +325,32 @@ pub fn settled_found(judge: &mut Judge, given: Found) -> Giving
     asked(judge, own_kind(given), given)
 }
 
-/// An expression whose place asks for some integer type: WrongType where it has another one.
+/// Whether it is a modular type with 64 binary digits.
+fn is_word_kind(kind: Option<Kind>) -> bool
+    ensures { result ≡ spec.is_word_kind kind }
+{
+    match kind {
+        None => false,
+        Some(kind) => is_word(kind),
+    }
+}
+
+/// Whether it is a modular type.
+pub fn is_modular_kind(kind: Option<Kind>) -> bool
+    ensures { result ≡ spec.is_modular_kind kind }
+{
+    match kind {
+        None => false,
+        Some(kind) => is_modular(kind),
+    }
+}
+
+/// An expression whose place asks for some integer type, but none of 64 binary digits: WrongType where it has another one.
 #[tactic(auto, unfolding(name_rules::specs::Values::any_integer))]
 pub fn any_integer(judge: &mut Judge, given: Found) -> Giving
     ensures { GivesOne spec.any_integer (found given) judge.old result judge.new }
 {
-    if is_number(given) {
+    if is_number(given) && !is_word_kind(kind_of(given)) {
         settled_found(judge, given)
     } else {
         not_given(judge, first_of(given), Rule::WrongType)
