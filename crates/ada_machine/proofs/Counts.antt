@@ -1,5 +1,5 @@
--- How many numbers there are from a first to a last, and how many cells between two components.
-use Rattle.std.proofs.Common.{◌≡◌, ℕ, ◌+◌, ◌*◌, ℤ, pos, negsuc, ◌+ℤ◌, ◌-ℤ◌, ◌*ℤ◌, ◌≤ℤ◌, ◌<ℤ◌, ap, sym, refl, arith}
+-- How many numbers there are from a first to a last.
+use Rattle.std.proofs.Common.{◌≡◌, ◌+◌, ℤ, pos, negsuc, ◌+ℤ◌, ◌-ℤ◌, ◌≤ℤ◌, ◌<ℤ◌, ap, sym, refl, arith}
 use Rattle.std.proofs.lemmas.Int.{ints}
 use Rattle.std.specs.Prelude.{unsigned_abs}
 use Rattle.stack_code.specs.Deeds.{many, natural}
@@ -17,10 +17,3 @@ more_by_one (negsuc n) w l e = absurd (omega (arith, ints, l))
 
 pub many_some : (first last : ℤ) → first ≤ℤ last → unsigned_abs (last -ℤ first) + 1 ≡ many first last
 many_some first last l = more_by_one (last -ℤ first) (last +ℤ pos 1 -ℤ first) (omega (arith, ints, l)) (omega (arith, ints))
-
-cells_of_steps : (z : ℤ) (n size : ℕ) → pos 0 ≤ℤ z → n ≡ unsigned_abs z → z *ℤ pos size ≡ pos (n * size)
-cells_of_steps (pos m) n size l e = ap (λ k. pos (k * size)) (sym e)
-cells_of_steps (negsuc m) n size l e = absurd (omega (arith, ints, l))
-
-pub cells_between : (low index : ℤ) (n size : ℕ) → low ≤ℤ index → n ≡ unsigned_abs (index -ℤ low) → (index -ℤ low) *ℤ pos size ≡ pos (n * size)
-cells_between low index n size l e = cells_of_steps (index -ℤ low) n size (omega (arith, ints, l)) e

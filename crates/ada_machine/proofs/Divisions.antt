@@ -6,9 +6,10 @@ use Rattle.std.proofs.lemmas.Int.{ints}
 use Rattle.std.specs.Prelude.{int_div, int_rem}
 use Rattle.ada_base.specs.declared.operation.Base.{Base}
 use Rattle.ada_base.specs.declared.operation.Op.TheVariants as op
-use Rattle.ada_base.specs.declared.operation.Base.TheVariants.{Narrow, Wide}
+use Rattle.ada_base.specs.declared.operation.Base.TheVariants.{Narrow, Wide, Modulo}
 use Rattle.ada_base.specs.Operation.{is_in_base, unless_zero, within, aligned, modulo}
-use Rattle.stack_code.specs.Deeds.{truth, value_or_zero, unless_divisor_zero, applied}
+use Rattle.ada_base.proofs.Turning.{not-kept}
+use Rattle.stack_code.specs.Deeds.{truth, value_or_zero, unless_divisor_zero, on_range}
 
 above_zero : (n : ℕ) (z : ℤ) → unless_zero (pos (suc n)) z ≡ Some z
 above_zero n z = grind (arith, nat_tests)
@@ -44,20 +45,20 @@ left_some base y v w o t e f = ap Some f ∙ ap (λ o. Some (value_or_zero o)) e
 left_none : (y : ℤ) (o : Option ℤ) → truth y ≡ false → None ≡ unless_divisor_zero (truth y) o
 left_none y o t = ap (λ b. unless_divisor_zero b o) (sym t)
 
-pub modulus_some : (base : Base) (x y r v w : ℤ) (o : Option ℤ) → Some r ≡ unless_zero y (int_rem x y) → v ≡ aligned r y → o ≡ within base (Some v) → w ≡ value_or_zero o → Some w ≡ applied op.Mod base x y
+pub modulus_some : (base : Base) (x y r v w : ℤ) (o : Option ℤ) → Some r ≡ unless_zero y (int_rem x y) → v ≡ aligned r y → o ≡ within base (Some v) → w ≡ value_or_zero o → Some w ≡ on_range op.Mod base x y
 modulus_some base x y r v w o e f g h =
     let k = found y (int_rem x y) r e in
     left_some base y (modulo x y) w o k.0 (g ∙ ap (λ v. within base (Some v)) (f ∙ ap (λ r. aligned r y) k.1)) h
 
-pub modulus_none : (base : Base) (x y : ℤ) → None ≡ unless_zero y (int_rem x y) → None ≡ applied op.Mod base x y
+pub modulus_none : (base : Base) (x y : ℤ) → None ≡ unless_zero y (int_rem x y) → None ≡ on_range op.Mod base x y
 modulus_none base x y e = left_none y (within base (unless_zero y (modulo x y))) (lost y (int_rem x y) e)
 
-pub remainder_some : (base : Base) (x y r w : ℤ) (o : Option ℤ) → Some r ≡ unless_zero y (int_rem x y) → o ≡ within base (Some r) → w ≡ value_or_zero o → Some w ≡ applied op.Rem base x y
+pub remainder_some : (base : Base) (x y r w : ℤ) (o : Option ℤ) → Some r ≡ unless_zero y (int_rem x y) → o ≡ within base (Some r) → w ≡ value_or_zero o → Some w ≡ on_range op.Rem base x y
 remainder_some base x y r w o e g h =
     let k = found y (int_rem x y) r e in
     left_some base y (int_rem x y) w o k.0 (g ∙ ap (λ v. within base (Some v)) k.1) h
 
-pub remainder_none : (base : Base) (x y : ℤ) → None ≡ unless_zero y (int_rem x y) → None ≡ applied op.Rem base x y
+pub remainder_none : (base : Base) (x y : ℤ) → None ≡ unless_zero y (int_rem x y) → None ≡ on_range op.Rem base x y
 remainder_none base x y e = left_none y (within base (unless_zero y (int_rem x y))) (lost y (int_rem x y) e)
 
 -- what 64 bits don't hold is in no base range
@@ -65,6 +66,7 @@ beyond : (base : Base) (z : ℤ) → is_in_base Wide z ≡ false → is_in_base 
 beyond Wide z e = e
 beyond Narrow (pos n) e = grind (arith, ints, nat_tests)
 beyond Narrow (negsuc n) e = grind (arith, ints, nat_tests)
+beyond (Modulo k) z e = not-kept k z e
 
 within_both : (base : Base) (o : Option ℤ) → within base (within Wide o) ≡ within base o
 within_both base None = refl
@@ -74,5 +76,5 @@ within_both base (Some z) = by_test (is_in_base Wide z) refl
     by_test true e = refl
     by_test false e = ap (λ b. if b then Some z else None) (sym (beyond base z e))
 
-pub quotient_is : (base : Base) (x y : ℤ) (o v : Option ℤ) → o ≡ within Wide (unless_zero y (int_div x y)) → v ≡ within base o → v ≡ applied op.Div base x y
+pub quotient_is : (base : Base) (x y : ℤ) (o v : Option ℤ) → o ≡ within Wide (unless_zero y (int_div x y)) → v ≡ within base o → v ≡ on_range op.Div base x y
 quotient_is base x y o v e f = f ∙ ap (within base) e ∙ within_both base (unless_zero y (int_div x y))

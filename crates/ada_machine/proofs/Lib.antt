@@ -4,6 +4,7 @@ pub mod Callers
 pub mod Changes
 pub mod Classes
 pub mod Counts
+pub mod Descents
 pub mod Divisions
 pub mod Doings
 pub mod Frames
@@ -13,6 +14,7 @@ pub mod Keeping
 pub mod Looking
 pub mod Memories
 pub mod Narrows
+pub mod Numbers
 pub mod Outcomes
 pub mod Readies
 pub mod Rounding

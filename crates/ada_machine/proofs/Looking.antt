@@ -7,10 +7,10 @@ use Rattle.ada_base.specs.declared.reason.Reason.TheVariants.{StorageError}
 use Rattle.stack_code.specs.declared.path.Asked.{Asked}
 use Rattle.stack_code.specs.declared.code.Code.{Code}
 use Rattle.stack_code.specs.declared.instr.Instr.{Instr}
-use Rattle.stack_code.specs.declared.instr.Instr.TheVariants.{Call, CallAt, CallTo, Part, Repeat, Again, Combine, Ret, RetV, Exit, Leave, LeaveV, Fork, Unnest, Words, Img, Bool, Wide, Send, SendLn, Get, End, EndV, Halt}
+use Rattle.stack_code.specs.declared.instr.Instr.TheVariants.{Call, CallAt, CallTo, Part, Repeat, Again, Combine, Ret, RetV, Exit, Leave, LeaveV, Fork, Unnest, Words, Img, UImg, Bool, Wide, Send, SendLn, Get, End, EndV, Halt}
 use Rattle.stack_code.specs.Deeds as Deeds
-use Rattle.stack_code.specs.Deeds.{Deed, called, called_at, truth, GoesOn, Fails, Loads, Stores, Forks, on_one, forked, can_fork, asked, many, deed_of}
-use Rattle.stack_code.specs.Machine.{State, Goes, Stop, step, Comes_to, entry_of}
+use Rattle.stack_code.specs.Deeds.{Deed, called, called_at, truth, GoesOn, Fails, Loads, Stores, Points, Forks, on_one, forked, can_fork, asked, many, deed_of}
+use Rattle.stack_code.specs.Machine.{State, Goes, Stop, step, Comes_to, entry_of, points}
 use Rattle.stack_code.specs.Looks.{counting, value_looks, cells_looks, kept_looks, deed_looks, act_looks, step_looks, looks_of, raise_looks, Looks, Looks_to}
 use Rattle.stack_code.proofs.Looks.{looks_one, looks_stop, looks_on, looks_end, looks_none, looks_cut}
 use Rattle.ada_machine.specs.declared.machine.Machine.{Machine}
@@ -18,7 +18,7 @@ use Rattle.ada_machine.specs.declared.machine.Stop as stops
 use Rattle.ada_machine.specs.declared.machine.Stop.TheVariants as stop
 use Rattle.ada_machine.specs.declared.machine.Went as wents
 use Rattle.ada_machine.specs.declared.machine.Went.TheVariants as went
-use Rattle.ada_machine.specs.Played.{Played, Onward, Raised, on_value, on_cells, plays}
+use Rattle.ada_machine.specs.Played.{Played, Neither, Onward, Raised, on_value, on_cells, plays}
 use Rattle.ada_machine.specs.States.{state_of, Ready, EndsAt, more, LooksBy, TookLooks}
 use Rattle.ada_machine.proofs.Doings.{fine_at, sub_at, sub_to, sub_there, sub_with, top}
 
@@ -48,10 +48,15 @@ cells_none : (o : Option (List Cell)) (k : List Cell → Played) (n : List Cell 
 cells_none None k n to st w e h = refl
 cells_none (Some v) k n to st w e h = h v e
 
+points_none : (b : Bools) (p : Played) (n : ℕ) (to : ℕ) (st : List ℤ) (w : List Cell) → cond b p Neither ≡ Onward to st w → (p ≡ Onward to st w → n ≡ 0) → cond b n 0 ≡ 0
+points_none false p n to st w e h = refl
+points_none true p n to st w e h = h e
+
 pub onward_none : (d : Deed) (s : State) (to : ℕ) (st : List ℤ) (w : List Cell) → plays d s.cells ≡ Onward to st w → deed_looks d s ≡ 0
 onward_none (GoesOn q x) s to st w e = refl
 onward_none (Loads a k) s to st w e = value_none (seen s.cells a) (λ v. plays (k v) s.cells) (λ v. deed_looks (k v) s) to st w e (λ v g. onward_none (k v) s to st w g)
 onward_none (Stores a v d) s to st w e = cells_none (written s.cells a v) (λ x. plays d x) (λ x. deed_looks d (record s { cells = x })) to st w e (λ x g. onward_none d (record s { cells = x }) to st w g)
+onward_none (Points a d) s to st w e = points_none (points s.cells a) (plays d s.cells) (deed_looks d s) to st w e (λ g. onward_none d s to st w g)
 onward_none d s to st w e = cc
 
 value_raised : (o : Option ℤ) (k : ℤ → Played) (n : ℤ → ℕ) (r : Reason) (st : List ℤ) (w : List Cell) → on_value o k ≡ Raised r st w → ((v : ℤ) → k v ≡ Raised r st w → n v ≡ 0) → value_looks o n ≡ 0
@@ -62,10 +67,15 @@ cells_raised : (o : Option (List Cell)) (k : List Cell → Played) (n : List Cel
 cells_raised None k n r st w e h = refl
 cells_raised (Some v) k n r st w e h = h v e
 
+points_raised : (b : Bools) (p : Played) (n : ℕ) (r : Reason) (st : List ℤ) (w : List Cell) → cond b p Neither ≡ Raised r st w → (p ≡ Raised r st w → n ≡ 0) → cond b n 0 ≡ 0
+points_raised false p n r st w e h = refl
+points_raised true p n r st w e h = h e
+
 pub raised_none : (d : Deed) (s : State) (r : Reason) (st : List ℤ) (w : List Cell) → plays d s.cells ≡ Raised r st w → deed_looks d s ≡ 0
 raised_none (Fails q x) s r st w e = refl
 raised_none (Loads a k) s r st w e = value_raised (seen s.cells a) (λ v. plays (k v) s.cells) (λ v. deed_looks (k v) s) r st w e (λ v g. raised_none (k v) s r st w g)
 raised_none (Stores a v d) s r st w e = cells_raised (written s.cells a v) (λ x. plays d x) (λ x. deed_looks d (record s { cells = x })) r st w e (λ x g. raised_none d (record s { cells = x }) r st w g)
+raised_none (Points a d) s r st w e = points_raised (points s.cells a) (plays d s.cells) (deed_looks d s) r st w e (λ g. raised_none d s r st w g)
 raised_none d s r st w e = cc
 
 -- those that ask for more, but begin nothing
@@ -79,6 +89,7 @@ IsQuiet (Fork site) = Unit {0}
 IsQuiet Unnest = Unit {0}
 IsQuiet (Words text) = Unit {0}
 IsQuiet Img = Unit {0}
+IsQuiet UImg = Unit {0}
 IsQuiet Bool = Unit {0}
 IsQuiet (Wide width) = Unit {0}
 IsQuiet Send = Unit {0}
@@ -118,6 +129,7 @@ quiet_none c s (Fork site) q = fork_none s site s.stack
 quiet_none c s Unnest q = refl
 quiet_none c s (Words text) q = refl
 quiet_none c s Img q = one_none s s.stack _ (λ x rest. refl)
+quiet_none c s UImg q = one_none s s.stack _ (λ x rest. refl)
 quiet_none c s Bool q = one_none s s.stack _ (λ x rest. refl)
 quiet_none c s (Wide width) q = one_none s s.stack _ (λ x rest. refl)
 quiet_none c s Send q = refl

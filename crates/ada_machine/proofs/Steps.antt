@@ -1,18 +1,18 @@
 -- One step of a machine, by its instruction.
-use Rattle.std.proofs.Common.{◌≡◌, ℕ, ◌≤◌, ℤ, List, Option, Some, None, refl, ap, ◌∙◌}
+use Rattle.std.proofs.Common.{◌≡◌, ℕ, ◌≤◌, ℤ, List, Option, Some, None, Bool, true, false, cond, refl, ap, ◌∙◌}
 use Rattle.std.specs.Prelude.{IsSomeAnd, slice_get}
 use Rattle.ada_base.specs.declared.reason.Reason.{Reason}
 use Rattle.stack_code.specs.declared.code.Code.{Code}
 use Rattle.stack_code.specs.declared.instr.Instr.{Instr}
 use Rattle.ada_base.specs.Cells.{Cell, seen, written}
-use Rattle.stack_code.specs.Deeds.{Deed, GoesOn, Fails, Loads, Stores, deed_of}
-use Rattle.stack_code.specs.Machine.{State, Went, Goes, Stops, Stuck, with_value, with_cells, acted, stepped, step, done}
+use Rattle.stack_code.specs.Deeds.{Deed, GoesOn, Fails, Loads, Stores, Points, deed_of}
+use Rattle.stack_code.specs.Machine.{State, Went, Goes, Stops, Stuck, with_value, with_cells, points, if_pointing, acted, stepped, step, done}
 use Rattle.stack_code.specs.Runs.{NeverStuck}
 use Rattle.stack_code.proofs.Runs.{stops_one, falls_one, within_one}
 use Rattle.ada_machine.specs.declared.machine.Machine.{Machine}
 use Rattle.ada_machine.specs.declared.machine.Stop as stops
 use Rattle.ada_machine.specs.declared.machine.Went.TheVariants as went
-use Rattle.ada_machine.specs.Played.{IsClear, Played, Onward, Raised, on_value, on_cells, plays}
+use Rattle.ada_machine.specs.Played.{IsClear, Played, Neither, Onward, Raised, on_value, on_cells, plays}
 use Rattle.ada_machine.specs.States.{state_of, Ready, ReadyAfter, EndsAt, Steps}
 
 -- ---- deeds with operands and cells alone
@@ -25,6 +25,10 @@ cells_plays : (o : Option (List Cell)) (s t : State) (k : List Cell → Played) 
 cells_plays None s t k j to st cells e h = cc
 cells_plays (Some w) s t k j to st cells e h = h w e
 
+points_plays : (b : Bool) (s t : State) (p : Played) (j : Went) (to : ℕ) (st : List ℤ) (cells : List Cell) → cond b p Neither ≡ Onward to st cells → (p ≡ Onward to st cells → j ≡ Goes t) → if_pointing b s j ≡ Goes t
+points_plays false s t p j to st cells e h = cc
+points_plays true s t p j to st cells e h = h e
+
 pub done_plays : (limit : ℕ) (d : Deed) (s : State) (to : ℕ) (st : List ℤ) (cells : List Cell) → plays d s.cells ≡ Onward to st cells → done limit d s ≡ Goes (record s { pc = to; stack = st; cells = cells })
 done_plays limit (GoesOn q w) s to st cells e =
     let a : q ≡ to = cc in
@@ -33,6 +37,7 @@ done_plays limit (GoesOn q w) s to st cells e =
     ap (λ n. Goes (record s { pc = n; stack = w })) a ∙ ap (λ n. Goes (record s { pc = to; stack = n })) b ∙ ap (λ n. Goes (record s { pc = to; stack = st; cells = n })) f
 done_plays limit (Loads a k) s to st cells e = value_plays (seen s.cells a) s (record s { pc = to; stack = st; cells = cells }) (λ v. plays (k v) s.cells) (λ v. done limit (k v) s) to st cells e (λ v g. done_plays limit (k v) s to st cells g)
 done_plays limit (Stores a v d) s to st cells e = cells_plays (written s.cells a v) s (record s { pc = to; stack = st; cells = cells }) (λ w. plays d w) (λ s. done limit d s) to st cells e (λ w g. done_plays limit d (record s { cells = w }) to st cells g)
+done_plays limit (Points a d) s to st cells e = points_plays (points s.cells a) s (record s { pc = to; stack = st; cells = cells }) (plays d s.cells) (done limit d s) to st cells e (λ g. done_plays limit d s to st cells g)
 done_plays limit d s to st cells e = cc
 
 value_raises : (o : Option ℤ) (s t : State) (k : ℤ → Played) (j : ℤ → Went) (r : Reason) (st : List ℤ) (cells : List Cell) → on_value o k ≡ Raised r st cells → ((v : ℤ) → k v ≡ Raised r st cells → j v ≡ Goes t) → with_value o s j ≡ Goes t
@@ -43,6 +48,10 @@ cells_raises : (o : Option (List Cell)) (s t : State) (k : List Cell → Played)
 cells_raises None s t k j r st cells e h = cc
 cells_raises (Some w) s t k j r st cells e h = h w e
 
+points_raises : (b : Bool) (s t : State) (p : Played) (j : Went) (r : Reason) (st : List ℤ) (cells : List Cell) → cond b p Neither ≡ Raised r st cells → (p ≡ Raised r st cells → j ≡ Goes t) → if_pointing b s j ≡ Goes t
+points_raises false s t p j r st cells e h = cc
+points_raises true s t p j r st cells e h = h e
+
 pub done_raises : (limit : ℕ) (d : Deed) (s : State) (r : Reason) (st : List ℤ) (cells : List Cell) → plays d s.cells ≡ Raised r st cells → done limit d s ≡ Goes (record s { stack = st; raising = Some r; cells = cells })
 done_raises limit (Fails q w) s r st cells e =
     let a : q ≡ r = cc in
@@ -51,6 +60,7 @@ done_raises limit (Fails q w) s r st cells e =
     ap (λ n. Goes (record s { stack = w; raising = Some n })) a ∙ ap (λ n. Goes (record s { stack = n; raising = Some r })) b ∙ ap (λ n. Goes (record s { stack = st; raising = Some r; cells = n })) f
 done_raises limit (Loads a k) s r st cells e = value_raises (seen s.cells a) s (record s { stack = st; raising = Some r; cells = cells }) (λ v. plays (k v) s.cells) (λ v. done limit (k v) s) r st cells e (λ v g. done_raises limit (k v) s r st cells g)
 done_raises limit (Stores a v d) s r st cells e = cells_raises (written s.cells a v) s (record s { stack = st; raising = Some r; cells = cells }) (λ w. plays d w) (λ s. done limit d s) r st cells e (λ w g. done_raises limit d (record s { cells = w }) r st cells g)
+done_raises limit (Points a d) s r st cells e = points_raises (points s.cells a) s (record s { stack = st; raising = Some r; cells = cells }) (plays d s.cells) (done limit d s) r st cells e (λ g. done_raises limit d s r st cells g)
 done_raises limit d s r st cells e = cc
 
 -- what isn't stuck finds its cells
@@ -62,9 +72,14 @@ cells_clear : (o : Option (List Cell)) (s : State) (j : State → Went) (P : Lis
 cells_clear None s j P n h = n s refl
 cells_clear (Some w) s j P n h = h w n
 
+points_clear : (b : Bool) (s : State) (j : Went) (P : Type 0) → (((q : State) → if_pointing b s j ≡ Stops Stuck q → ⊥)) → ((((q : State) → j ≡ Stops Stuck q → ⊥)) → P) → (b ≡ true) × P
+points_clear false s j P n h = absurd (n s refl)
+points_clear true s j P n h = (refl, h n)
+
 pub clear_done : (limit : ℕ) (d : Deed) (s : State) → ((q : State) → done limit d s ≡ Stops Stuck q → ⊥) → IsClear d s.cells
 clear_done limit (Loads a k) s n = value_clear (seen s.cells a) s (λ v. done limit (k v) s) (λ v. IsClear (k v) s.cells) n (λ v m. clear_done limit (k v) s m)
 clear_done limit (Stores a v d) s n = cells_clear (written s.cells a v) s (λ s. done limit d s) (λ w. IsClear d w) n (λ w m. clear_done limit d (record s { cells = w }) m)
+clear_done limit (Points a d) s n = points_clear (points s.cells a) s (done limit d s) (IsClear d s.cells) n (λ m. clear_done limit d s m)
 clear_done limit d s n = tt
 
 -- ---- the instruction at a state

@@ -1,7 +1,6 @@
 -- Blocks of cells.
 use Rattle.std.proofs.Common.{◌≡◌, ℕ, zero, suc, ◌+◌, ◌<◌, ◌≤◌, ◌+ℤ◌, ℤ, pos, negsuc, List, [], ◌∷◌, reverse, replicate, Option, Some, None, refl, sym, ap, ◌∙◌, subst, inl, inr, arith, w64}
-use Rattle.std.proofs.lemmas.Int.{ints}
-use Rattle.std.specs.Prelude.{◌⊎◌, ◌^◌, ◌<ℤ◌, FitsSigned, IsSome, IsSomeAnd, slice_get, set}
+use Rattle.std.specs.Prelude.{◌⊎◌, ◌^◌, FitsSigned, IsSome, IsSomeAnd, slice_get, set}
 use Rattle.std.proofs.lemmas.Bool.{false≢true}
 use Rattle.ada_base.specs.Cells.{Cell, Gone, Seen, Mine, value_in, where_mine, seen, written}
 use Rattle.stack_code.specs.Deeds.{Deed, Lacks, GoesOn, Stores, on_one, on_two, loads_all, stores_all}
@@ -58,7 +57,7 @@ module _ (cells : List Cell) (n from : ℕ) (a v : ℤ) (l : 0 < n) (e : from �
 
 -- ---- copying
 
-other_cell : (cells : List Cell) (t a : ℕ) (c : Cell) → (a ≡ t → ⊥) → slice_get (set cells t c) a ≡ slice_get cells a
+pub other_cell : (cells : List Cell) (t a : ℕ) (c : Cell) → (a ≡ t → ⊥) → slice_get (set cells t c) a ≡ slice_get cells a
 other_cell [] zero a c n = refl
 other_cell [] (suc t) a c n = refl
 other_cell (x ∷ xs) zero zero c n = absurd (n refl)
@@ -75,7 +74,7 @@ set_of (Some (Mine v)) w w' e = let s : w ≡ w' = cc in s
 seen_other : (cells cells' : List Cell) (t a : ℕ) (v : ℤ) → written cells (pos t) v ≡ Some cells' → (a ≡ t → ⊥) → seen cells (pos a) ≡ seen cells' (pos a)
 seen_other cells cells' t a v e n = ap value_in (sym (other_cell cells t a (Mine v) n) ∙ ap (λ l. slice_get l a) (set_of (slice_get cells t) (set cells t (Mine v)) cells' e))
 
-value_same : (o : Option ℤ) (f g : ℤ → Played) → ((w : ℤ) → f w ≡ g w) → on_value o f ≡ on_value o g
+pub value_same : (o : Option ℤ) (f g : ℤ → Played) → ((w : ℤ) → f w ≡ g w) → on_value o f ≡ on_value o g
 value_same None f g h = refl
 value_same (Some w) f g h = h w
 
@@ -84,7 +83,7 @@ module _ (cells cells' : List Cell) (t : ℕ) (v : ℤ) (e : written cells (pos 
   apart k a (inl l) = (λ q. omega (arith, l, q), inl (omega (arith, l)))
   apart k a (inr l) = (λ q. omega (arith, l, q), inr (omega (arith, l)))
 
-  swap_plays : (k a : ℕ) (F : List ℤ → Deed) → (t < a) ⊎ (a + k ≤ t) → plays (loads_all k (pos a) (λ vs. Stores (pos t) v (F vs))) cells ≡ plays (loads_all k (pos a) F) cells'
+  pub swap_plays : (k a : ℕ) (F : List ℤ → Deed) → (t < a) ⊎ (a + k ≤ t) → plays (loads_all k (pos a) (λ vs. Stores (pos t) v (F vs))) cells ≡ plays (loads_all k (pos a) F) cells'
   swap_plays zero a F l = ap (λ o. on_cells o (λ c. plays (F []) c)) e
   swap_plays (suc k) a F l =
       let p = apart k a l in
@@ -192,11 +191,6 @@ module _ (cells : List Cell) (n from to : ℕ) (s t : ℤ) (l : 0 < n) (e : from
     where
       near : (k : ℕ) (z : ℤ) → z ≡ pos k → FitsSigned w64 z → k + n < 2 ^ 64
       near k z e f = let g : FitsSigned w64 (pos k) = subst (FitsSigned w64) e f in omega (arith, g, r)
-
-  -- the target begins within the source, above its start
-  pub copy_overlaps : from < to → to < from + n → (s <ℤ t) × (t <ℤ (s +ℤ pos n))
-  copy_overlaps a b = subst (λ z. (z <ℤ t) × (t <ℤ (z +ℤ pos n))) (sym from_is) (subst (λ z. (pos from <ℤ z) × (z <ℤ (pos from +ℤ pos n))) (sym to_is)
-      ((let x : pos from <ℤ pos to = omega (arith, ints, a) in x), (let x : pos to <ℤ (pos from +ℤ pos n) = omega (arith, ints, b) in x)))
 
   pub copy_moved : IsClear (loads_all n (pos from) (λ vs. stores_all vs (pos to) Lacks)) cells
   copy_moved = subst (λ z. IsClear (loads_all n z (λ vs. stores_all vs (pos to) Lacks)) cells) from_is (subst (λ z. IsClear (loads_all n s (λ vs. stores_all vs z Lacks)) cells) to_is h)

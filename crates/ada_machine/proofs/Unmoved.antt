@@ -1,11 +1,10 @@
 -- A stretch at the instruction that it came to.
 use Rattle.std.proofs.Common.{◌≡◌, ℕ, ◌≤◌, List, Some, None, reverse, refl, inr, sym, ap, ◌∙◌, subst, arith}
-use Rattle.std.specs.Prelude.{◌⊎◌, slice_get, vec_capacity}
+use Rattle.std.specs.Prelude.{slice_get, vec_capacity}
 use Rattle.ada_base.specs.Cells.{Cell}
 use Rattle.stack_code.specs.declared.code.Code.{Code}
 use Rattle.stack_code.specs.declared.instr.Instr.{Instr}
 use Rattle.stack_code.specs.declared.instr.Instr.TheVariants.{Turn, CallAt, Ret, RetV}
-use Rattle.stack_code.specs.Deeds.{deed_of}
 use Rattle.stack_code.specs.Machine.{Comes}
 use Rattle.stack_code.specs.Runs.{NeverStuck}
 use Rattle.stack_code.specs.Stands.{Stands, rank}
@@ -16,7 +15,7 @@ use Rattle.ada_machine.specs.declared.machine.Machine.{Machine}
 use Rattle.ada_machine.specs.declared.machine.Stop as stops
 use Rattle.ada_machine.specs.declared.machine.Stop.TheVariants as stop
 use Rattle.ada_machine.specs.declared.machine.Went.TheVariants as went
-use Rattle.ada_machine.specs.Played.{AsksMore, Exceeds, Overlaps}
+use Rattle.ada_machine.specs.Played.{AsksMore, Strays}
 use Rattle.ada_machine.specs.States.{state_of, frames_of, Ready, Roomy, Steps, LooksBy, Unlooked, more}
 use Rattle.ada_machine.specs.Strides.{Strides, IsHandedOn, IsRare}
 use Rattle.ada_machine.proofs.Looking.{looked_step, looked_stops}
@@ -70,8 +69,8 @@ module _ (limit : ℕ) (c : Code) (m m' : Machine) (cells cells' : List Cell) (e
     falls = subst (λ s. rank c limit s ≤ rank c limit (state_of m0 cells0)) (sym e) a.falls;
   }
 
-  -- a number of the instruction isn't in 64 bits, or it would overwrite what it has yet to copy
-  pub beyond_still : vec_capacity m'.stack ≡ vec_capacity m.stack → Ready c m cells → m.turns ≤ limit → m.raising ≡ None → (i : Instr) → slice_get c.instrs m.pc ≡ Some i → Exceeds (deed_of c m.pc (reverse m.stack.items) m.base m.outward.items i) cells ⊎ Overlaps i (reverse m.stack.items) → Steps limit c (went.Stopped stop.NoMemory) m cells m' cells'
+  -- the instruction raises again an exception of no number of 32 bits
+  pub beyond_still : vec_capacity m'.stack ≡ vec_capacity m.stack → Ready c m cells → m.turns ≤ limit → m.raising ≡ None → (i : Instr) → slice_get c.instrs m.pc ≡ Some i → Strays i (reverse m.stack.items) → Steps limit c (went.Stopped stop.NoMemory) m cells m' cells'
   beyond_still v r w n i at x = record { goes = (e, (n, i, at, inr x)); ready = ready_still v r; within = subst (λ s. s.turns ≤ limit) (sym e) w; falls = tt }
 
 -- nor what its stack holds

@@ -1,14 +1,14 @@
 -- What an instruction comes to that asks for no more than operands and cells.
-use Rattle.std.specs.Prelude.{◌≡◌, ℕ, ℤ, pos, negsuc, ◌^◌, ◌-◌, ◌≤◌, ◌+ℤ◌, ◌<ℤ◌, ◌⊎◌, FitsSigned, List, [], ◌∷◌, ◌+◌, reverse, Option, Some, None, IsSomeAnd}
-use Rattle.std.specs.Int.{w64}
+use Rattle.std.specs.Prelude.{◌≡◌, ℕ, ℤ, pos, negsuc, ◌^◌, ◌-◌, ◌≤◌, ◌<◌, List, reverse, Option, Some, None, IsSomeAnd, cond, true}
 use Rattle.ada_base.specs.declared.reason.Reason.{Reason}
 use Rattle.ada_base.specs.declared.reason.Reason.TheVariants.{Declared}
 use Rattle.stack_code.specs.declared.instr.Instr.{Instr}
-use Rattle.stack_code.specs.declared.instr.Instr.TheVariants.{Turn, Call, CallAt, CallTo, Part, Repeat, Again, Ret, RetV, Exit, Leave, LeaveV, Fork, Nest, Unnest, Words, Img, Bool, Wide, Send, SendLn, Get, End, EndV, Halt, Combine, Copy}
+use Rattle.stack_code.specs.declared.instr.Instr.TheVariants.{Turn, Call, CallAt, CallTo, Part, Repeat, Again, Ret, RetV, Exit, Leave, LeaveV, Fork, Nest, Unnest, Words, Img, Bool, Wide, Send, SendLn, Get, End, EndV, Halt, Combine, UImg, Reraise}
 use Rattle.ada_base.specs.Cells.{Cell, seen, written}
-use Rattle.stack_code.specs.Deeds.{Deed, GoesOn, Fails, Loads, Stores, on_two, loads_all, stores_all}
+use Rattle.stack_code.specs.Deeds.{Deed, GoesOn, Fails, Loads, Stores, Points, on_one, reason_of}
+use Rattle.stack_code.specs.Machine.{points}
 use Rattle.ada_machine.specs.declared.memory.Placed.{Placed}
-use Rattle.ada_machine.specs.declared.memory.Placed.TheVariants.{At, Outside, Beyond as Far}
+use Rattle.ada_machine.specs.declared.memory.Placed.TheVariants.{At, Outside}
 use Rattle.ada_machine.specs.declared.operands.Computed.{Computed}
 use Rattle.ada_machine.specs.declared.operands.Computed.TheVariants.{To, Failed, Beyond, Other}
 
@@ -17,10 +17,11 @@ abbrev pub cell_of : ℤ → ℕ
 cell_of (pos n) = n
 cell_of (negsuc n) = 2 ^ 64 - 1 - n
 
--- each cell that it reads is there to read, and each that it writes to write
+-- each cell that it reads is there to read, each that it writes to write, and each address that it moves is a cell's or the end
 abbrev pub IsClear : Deed → List Cell → Type 0
 IsClear (Loads a k) cells = IsSomeAnd (seen cells a) (λ v. IsClear (k v) cells)
 IsClear (Stores a v d) cells = IsSomeAnd (written cells a v) (λ cells. IsClear d cells)
+IsClear (Points a d) cells = (points cells a ≡ true) × IsClear d cells
 IsClear d cells = Unit {0}
 
 -- where it goes on, or what it raises, with that stack and these cells
@@ -42,29 +43,24 @@ plays (GoesOn to st) cells = Onward to st cells
 plays (Fails r st) cells = Raised r st cells
 plays (Loads a k) cells = on_value (seen cells a) (λ v. plays (k v) cells)
 plays (Stores a v d) cells = on_cells (written cells a v) (λ cells. plays d cells)
+plays (Points a d) cells = cond (points cells a) (plays d cells) Neither
 plays d cells = Neither
 
--- a number that 64 bits don't hold
-abbrev pub IsFar : ℤ → Type 0
-IsFar z = FitsSigned w64 z → ⊥
+-- the deed would raise a declared exception of a number above 32 bits
+abbrev pub Exceeds : Deed → Type 0
+Exceeds (Fails (Declared n) st) = 2 ^ 32 ≤ n
+Exceeds d = ⊥
 
--- the deed would push such a number, or read a cell at one, or raise a declared exception of a number above 32 bits
-abbrev pub Exceeds : Deed → List Cell → Type 0
-Exceeds (GoesOn to (v ∷ st)) cells = IsFar v
-Exceeds (Fails (Declared n) st) cells = 2 ^ 32 ≤ n
-Exceeds (Loads a k) cells = IsFar a ⊎ IsSomeAnd (seen cells a) (λ v. Exceeds (k v) cells)
-Exceeds d cells = ⊥
+-- RERAISE on a number of no exception of 32 bits
+abbrev pub Strays : Instr → (stack : List ℤ) → Type 0
+Strays Reraise st = Exceeds (on_one st (λ n st. Fails (reason_of n) st))
+Strays i st = ⊥
 
 -- an exception, where its number is one of 32 bits
 abbrev pub IsReason : Reason → Option Reason → Type 0
 IsReason r (Some q) = q ≡ r
 IsReason (Declared n) None = 2 ^ 32 ≤ n
 IsReason r None = ⊥
-
--- it copies cells onto some of themselves, from below
-abbrev pub Overlaps : Instr → List ℤ → Type 0
-Overlaps (Copy n) (source ∷ target ∷ st) = (source <ℤ target) × (target <ℤ (source +ℤ pos n))
-Overlaps i st = ⊥
 
 -- the deed is done with the operands alone
 abbrev pub Does : Deed → Computed → (new : List ℤ) → Type 0
@@ -73,11 +69,11 @@ Does d (Failed reason) new = d ≡ Fails reason new
 Does d Beyond new = ⊥
 Does d Other new = ⊥
 
--- or the number that it would push isn't in 64 bits, and the stack is as it was
+-- or the exception that it would raise has such a number, and the stack is as it was
 abbrev pub Settles : Deed → Computed → (old new : List ℤ) → Type 0
 Settles d (To pc) old new = d ≡ GoesOn pc new
 Settles d (Failed reason) old new = d ≡ Fails reason new
-Settles d Beyond old new = Exceeds d [] × (new ≡ old)
+Settles d Beyond old new = Exceeds d × (new ≡ old)
 Settles d Other old new = ⊥
 
 -- the same of vectors, whose last item is a stack's top
@@ -97,28 +93,20 @@ PlaysIn d Other new cells cells' = ⊥
 abbrev pub Plays : Deed → Computed → (new : List ℤ) → (cells cells' : List Cell) → Type 0
 Plays d r new cells cells' = PlaysIn d r (reverse new) cells cells'
 
-abbrev pub PlaysOrIn : Deed → Computed → (old new : List ℤ) → (cells cells' : List Cell) → Type 0
-PlaysOrIn d (To pc) old new cells cells' = plays d cells ≡ Onward pc new cells'
-PlaysOrIn d (Failed reason) old new cells cells' = plays d cells ≡ Raised reason new cells'
-PlaysOrIn d Beyond old new cells cells' = Exceeds d cells × (new ≡ old) × (cells' ≡ cells)
-PlaysOrIn d Other old new cells cells' = ⊥
+-- an address of a cell or the end of all cells, where there is one
+abbrev pub IsThere : List Cell → Option ℤ → Type 0
+IsThere cells None = Unit {0}
+IsThere cells (Some a) = points cells a ≡ true
 
-abbrev pub PlaysOr : Deed → Computed → (old new : List ℤ) → (cells cells' : List Cell) → Type 0
-PlaysOr d r old new cells cells' = PlaysOrIn d r (reverse old) (reverse new) cells cells'
+-- a number of 63 bits, as each such address is
+abbrev pub IsNear : ℤ → Type 0
+IsNear (pos n) = n < 2 ^ 63
+IsNear (negsuc n) = ⊥
 
--- cells are copied, or they overlap from below, and all is as it was
-abbrev pub CopiesOrIn : (pc count : ℕ) → Computed → (old new : List ℤ) → (cells cells' : List Cell) → Type 0
-CopiesOrIn pc count Beyond old new cells cells' = Overlaps (Copy count) old × (new ≡ old) × (cells' ≡ cells)
-CopiesOrIn pc count r old new cells cells' = PlaysIn (on_two old (λ t s st. loads_all count s (λ vs. stores_all vs t (GoesOn (pc + 1) st)))) r new cells cells'
-
-abbrev pub CopiesOr : (pc count : ℕ) → Computed → (old new : List ℤ) → (cells cells' : List Cell) → Type 0
-CopiesOr pc count r old new cells cells' = CopiesOrIn pc count r (reverse old) (reverse new) cells cells'
-
--- an index finds its component, is outside, or gives an address that isn't in 64 bits
+-- an index finds its component, or is outside
 abbrev pub IsPlaced : Option ℤ → Placed → Type 0
 IsPlaced o (At to) = o ≡ Some to
 IsPlaced o Outside = o ≡ None
-IsPlaced o Far = IsSomeAnd o IsFar
 
 -- the instructions that ask for more
 abbrev pub AsksMore : Instr → Type 0
@@ -139,6 +127,7 @@ AsksMore Nest = Unit {0}
 AsksMore Unnest = Unit {0}
 AsksMore (Words text) = Unit {0}
 AsksMore Img = Unit {0}
+AsksMore UImg = Unit {0}
 AsksMore Bool = Unit {0}
 AsksMore (Wide width) = Unit {0}
 AsksMore Send = Unit {0}
@@ -153,5 +142,5 @@ AsksMore _ = ⊥
 abbrev pub Outcome : Deed → Instr → Computed → (old new : List ℤ) → (cells cells' : List Cell) → Type 0
 Outcome d i (To pc) old new cells cells' = plays d cells ≡ Onward pc (reverse new) cells'
 Outcome d i (Failed reason) old new cells cells' = plays d cells ≡ Raised reason (reverse new) cells'
-Outcome d i Beyond old new cells cells' = (Exceeds d cells ⊎ Overlaps i (reverse old)) × (reverse new ≡ reverse old) × (cells' ≡ cells)
+Outcome d i Beyond old new cells cells' = Strays i (reverse old) × (reverse new ≡ reverse old) × (cells' ≡ cells)
 Outcome d i Other old new cells cells' = AsksMore i × (new ≡ old) × (cells' ≡ cells)

@@ -5,7 +5,7 @@ use Rattle.stack_code.specs.declared.code.Code.{Code}
 use Rattle.stack_code.specs.declared.code.CodeSub.{CodeSub}
 use Rattle.stack_code.specs.declared.code.Spot.{Spot}
 use Rattle.stack_code.specs.declared.instr.Instr.{Instr}
-use Rattle.stack_code.specs.declared.instr.Instr.TheVariants.{Call, CallAt, CallTo, Combine, Repeat, Words, Img, Bool, Wide, Send, SendLn}
+use Rattle.stack_code.specs.declared.instr.Instr.TheVariants.{Call, CallAt, CallTo, Combine, Repeat, Words, Img, UImg, Bool, Wide, Send, SendLn}
 use Rattle.stack_code.specs.Operands.{takes}
 use Rattle.stack_code.specs.Valid.{Has, HasStack, IsValid}
 use Rattle.ada_base.specs.Cells.{Cell}
@@ -14,7 +14,7 @@ use Rattle.stack_code.specs.declared.path.Asked.{Asked}
 use Rattle.stack_code.specs.declared.path.Gave.{Gave}
 use Rattle.stack_code.specs.declared.path.Gave.TheVariants as gave
 use Rattle.stack_code.specs.declared.path.Leave.TheVariants.{Raise}
-use Rattle.stack_code.specs.Deeds.{Deed, Fails, Forks, deed_of, truth}
+use Rattle.stack_code.specs.Deeds.{Deed, Fails, Forks, truth}
 use Rattle.stack_code.specs.Machine as spec
 use Rattle.stack_code.specs.Machine.{Frame, State, Comes, Comes_to}
 use Rattle.stack_code.specs.Answers.{IsIo}
@@ -35,7 +35,7 @@ use Rattle.ada_machine.specs.declared.machine.Stop.{Stop}
 use Rattle.ada_machine.specs.declared.machine.Stop.TheVariants as stop
 use Rattle.ada_machine.specs.declared.machine.Went.{Went}
 use Rattle.ada_machine.specs.declared.machine.Went.TheVariants as went
-use Rattle.ada_machine.specs.Played.{Exceeds, Overlaps}
+use Rattle.ada_machine.specs.Played.{Strays}
 
 -- what a body that waits set aside
 abbrev pub kept_of : Option (Box Aside Global) → List ℤ
@@ -152,17 +152,17 @@ Allocates (Combine sub) q = IsMore q.kept × (q.calls < 1000)
 Allocates (Repeat rounds) q = Unit {0}
 Allocates (Words text) q = Unit {0}
 Allocates Img q = Unit {0}
+Allocates UImg q = Unit {0}
 Allocates Bool q = Unit {0}
 Allocates (Wide width) q = Unit {0}
 Allocates Send q = Unit {0}
 Allocates SendLn q = Unit {0}
 Allocates i q = ⊥
 
--- the instruction wants memory, or a number that it would push or read at isn't in 64 bits, or it copies cells onto some of
--- themselves from below
+-- the instruction wants memory, or it raises again an exception of no number of 32 bits, which no code declares
 abbrev pub Wants : Code → State → Type 0
 Wants c q = (q.raising ≡ None) × (i : Instr) × (slice_get c.instrs q.pc ≡ Some i)
-    × (Allocates i q ⊎ (Exceeds (deed_of c q.pc q.stack q.base q.outward i) q.cells ⊎ Overlaps i q.stack))
+    × (Allocates i q ⊎ Strays i q.stack)
 
 -- a count that stands still at the greatest number of 64 bits
 abbrev pub more : ℕ → ℕ → ℕ

@@ -1,8 +1,8 @@
 // Addresses: cells of frames outward, and a record's fields.
 ghost use Rattle.std.specs.Prelude.{◌≡◌, ◌+◌, ◌-◌, ◌^◌, ◌<◌, ◌≤◌, ◌+ℤ◌, ◌∷◌, reverse, length, vec_len, vec_capacity, Some, pos, slice_get, slice_index, EachIndex};
-ghost use Rattle.stack_code.specs.Deeds.{cell_of_frame, load_of_frame, store_of_frame, unary};
+ghost use Rattle.stack_code.specs.Deeds.{cell_of_frame, load_of_frame, store_of_frame, on_one, Points, GoesOn};
 ghost use Rattle.ada_machine.specs.Places.{Stays};
-ghost use Rattle.ada_machine.specs.Played.{IsClear, Computes, ComputesOr, Plays};
+ghost use Rattle.ada_machine.specs.Played.{IsClear, Computes, Plays};
 
 use crate::cells::Cells;
 use crate::memory::{load_cell, store_cell};
@@ -88,22 +88,16 @@ pub(crate) fn store_outer<C: Cells>(
 }
 
 #[inline(always)]
-#[tactic(auto, using(crate::proofs::Memories::unary_far))]
-pub(crate) fn select(stack: &mut Vec<i64>, pc: usize, field: u32) -> Computed
+#[tactic(auto, using(crate::proofs::Memories::field_near, crate::proofs::Memories::field_plays))]
+pub(crate) fn select<C: Cells>(stack: &mut Vec<i64>, pc: usize, view: &C, field: u32) -> Computed
     requires one { 1 ≤ vec_len stack.old }
+    requires clear { IsClear (on_one (reverse stack.old.items) (λ a st. Points a (GoesOn (pc + 1) ((a +ℤ pos field) ∷ st)))) (C.cells view.now) }
     requires next { pc < usize.MAX }
-    ensures deed { ComputesOr (unary pc (reverse stack.old.items) (λ a. Some (a +ℤ pos field))) result stack.old.items stack.new.items }
+    ensures deed { Plays (on_one (reverse stack.old.items) (λ a st. Points a (GoesOn (pc + 1) ((a +ℤ pos field) ∷ st)))) result stack.new.items (C.cells view.now) (C.cells view.now) }
     ensures room { vec_capacity stack.new ≡ vec_capacity stack.old }
 {
+    let _cells = view.len();
     let address = take(stack);
-    match address.checked_add(i64::from(field)) {
-        Some(moved) => {
-            put(stack, moved);
-            Computed::To(pc + 1)
-        }
-        None => {
-            put(stack, address);
-            Computed::Beyond
-        }
-    }
+    put(stack, address + i64::from(field));
+    Computed::To(pc + 1)
 }

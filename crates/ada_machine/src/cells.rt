@@ -1,4 +1,4 @@
-ghost use Rattle.std.specs.Prelude.{◌≡◌, ◌++◌, ◌≤◌, ℕ, pos, List, length, take, drop, IsSome, Some, OnOk, OnErr};
+ghost use Rattle.std.specs.Prelude.{◌≡◌, ◌++◌, ◌^◌, ◌<◌, ◌≤◌, ℕ, pos, List, length, take, drop, IsSome, Some, OnOk, OnErr};
 ghost use Rattle.ada_base.specs.Cells.{Cell, seen, written, zeros};
 ghost use Rattle.ada_machine.specs.Places.{Stays};
 
@@ -33,6 +33,7 @@ pub trait Cells {
     /// How many cells there are.
     fn len(&self) -> u64
         ensures len { result ≡ length (cells self.now) }
+        ensures small { length (cells self.now) < 2 ^ 33 }
         ensures own { floor self.now ≤ length (cells self.now) };
 
     /// A new frame of so many cells of 0 at the end. An Err is want of memory, and leaves the cells as they were.

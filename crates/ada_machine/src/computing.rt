@@ -10,14 +10,14 @@ use crate::blocks::{copy, fill};
 use crate::cells::Cells;
 use crate::memory::{
     Dimension, index, index_cell, index_main, item, item_cell, item_main, load, load_cell, next,
-    prior, set_cell, store, store_cell,
+    prior, set_cell, set_number, store, store_cell,
 };
 use crate::operands::{
-    Computed, add, add_constant, check_range, combine_digits, compare, differ, divide, double,
-    exchange, flip, greater, invert, jump_if_false, jump_if_true, jump_unless, lesser,
-    make_absolute, measure, multiply, multiply_by_constant, negate, pop, push, push_local,
-    push_number, raise_again, raise_to, reduce, reduce_by_constant, remain, subtract,
-    subtract_constant,
+    Computed, add, add_constant, check_numbers, check_range, combine_digits, compare,
+    compare_numbers, differ, divide, double, exchange, flip, greater, greater_number, invert,
+    jump_if_false, jump_if_true, jump_unless, lesser, lesser_number, make_absolute, measure,
+    multiply, multiply_by_constant, negate, pop, push, push_local, push_number, raise_again,
+    raise_to, reduce, reduce_by_constant, remain, subtract, subtract_constant, turn_digits,
 };
 use leave_board::Halt;
 use stack_code::{Code, Digits, Instr, Relation};
@@ -62,8 +62,10 @@ pub fn compute<C: Cells, H: Halt>(
         Instr::Local(cell) => push_local(stack, pc, frames.base, cell),
         Instr::Outer(steps, cell) => push_outer(stack, pc, frames.outward, steps, cell),
         Instr::Global(cell) => push_number(stack, pc, cell),
-        Instr::Index(low, high, size) => index(stack, pc, low, high, size),
-        Instr::Field(field) => select(stack, pc, field),
+        Instr::Index(low, high, size) => {
+            index::<C, H>(stack, pc, view, Dimension { low, high, size })
+        }
+        Instr::Field(field) => select(stack, pc, view, field),
         Instr::Load => load(stack, pc, view),
         Instr::Store => store(stack, pc, view),
         Instr::Copy(count) => copy(stack, pc, view, count),
@@ -118,7 +120,9 @@ pub fn compute<C: Cells, H: Halt>(
                 Dimension { low, high, size },
             )
         }
-        Instr::Item(low, high, size) => item::<C, H>(stack, pc, view, low, high, size),
+        Instr::Item(low, high, size) => {
+            item::<C, H>(stack, pc, view, Dimension { low, high, size })
+        }
         Instr::ItemL(cell, low, high, size) => {
             item_cell::<C, H>(
                 stack,
@@ -176,6 +180,17 @@ pub fn compute<C: Cells, H: Halt>(
         }
         Instr::Flip => flip(stack, pc),
         Instr::Differ => differ(stack, pc),
+        Instr::BNot(k) => turn_digits(stack, pc, k),
+        Instr::ULt => compare_numbers(stack, pc, Relation::Less),
+        Instr::ULe => compare_numbers(stack, pc, Relation::AtMost),
+        Instr::UGt => compare_numbers(stack, pc, Relation::Greater),
+        Instr::UGe => compare_numbers(stack, pc, Relation::AtLeast),
+        Instr::UMax => greater_number(stack, pc),
+        Instr::UMin => lesser_number(stack, pc),
+        Instr::URange(low, high) => check_numbers(stack, pc, low, high),
+        Instr::USetL(cell, low, high) => {
+            set_number(stack, pc, view, frames.base + u64::from(cell), low, high)
+        }
         _ => Computed::Other,
     }
 }

@@ -12,7 +12,7 @@ ghost use Rattle.ada_machine.specs.Strides.{IsHandedOn, IsRare};
 use crate::calls::{enter, enter_at, return_to};
 use crate::cells::Cells;
 use crate::effects::{begin_construct, begin_part, end_construct, end_round, fail};
-use crate::lines::{add_image, add_padded, add_truth, add_words, ask, give_line};
+use crate::lines::{add_image, add_number_image, add_padded, add_truth, add_words, ask, give_line};
 use crate::machine::{Machine, Stop, Went};
 use crate::operands::{put, take, truth};
 use ada_base::Reason;
@@ -154,6 +154,24 @@ fn put_image(code: &Code, m: &mut Machine, limit: u64) -> Went
     let _ = code;
     let _ = limit;
     match add_image(m) {
+        Ok(()) => Went::On,
+        Err(_) => Went::Stopped(Stop::NoMemory),
+    }
+}
+
+fn put_number_image(code: &Code, m: &mut Machine, limit: u64) -> Went
+    requires ready { (cells : List Cell) × Ready code.now m.old cells }
+    requires calm { m.old.raising ≡ None }
+    requires at { slice_get code.now.instrs m.old.pc ≡ Some Instr.UImg }
+    requires within { m.old.turns ≤ limit }
+    requires next { m.old.pc < usize.MAX }
+    ensures steps { (cells : List Cell) → Ready code.now m.old cells → Steps limit code.now result m.old cells m.new cells }
+    ensures paused { result ≡ Went.Stopped Stop.Paused → ⊥ }
+    ensures looks { m.new.looks ≡ m.old.looks }
+{
+    let _ = code;
+    let _ = limit;
+    match add_number_image(m) {
         Ok(()) => Went::On,
         Err(_) => Went::Stopped(Stop::NoMemory),
     }
@@ -633,6 +651,7 @@ fn rare_effect<C: Cells, H: Halt>(
         Instr::Unnest => unnest(code, m, limit),
         Instr::Words(number) => words(code, m, limit, number),
         Instr::Img => put_image(code, m, limit),
+        Instr::UImg => put_number_image(code, m, limit),
         Instr::Bool => put_truth(code, m, limit),
         Instr::Wide(width) => put_padded(code, m, limit, width),
         Instr::Send => send(code, m, limit),

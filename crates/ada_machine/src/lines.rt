@@ -1,5 +1,6 @@
 // The line that is being built, and what asks the caller.
 ghost use Rattle.std.specs.Prelude.{◌≡◌, ◌+◌, ◌++◌, ◌-◌, ◌^◌, ◌<◌, ◌≤◌, ◌∷◌, [], ℕ, ℤ, List, length, reverse, vec_len, vec_capacity, Option, Some, None, pos, cond, IfOk, OnOk, OnErr};
+ghost use Rattle.ada_base.specs.Operation.{turned};
 ghost use Rattle.ada_base.specs.Image.{image, truth_image, padded};
 ghost use Rattle.ada_base.specs.Cells.{Cell};
 ghost use Rattle.stack_code.specs.Deeds.{can_fork, forked, many, truth};
@@ -8,8 +9,8 @@ ghost use Rattle.ada_machine.specs.States.{state_of, Forking};
 
 use crate::machine::Machine;
 use crate::operands::{put, take};
-use ada_base::Items;
-use ada_io::{append_image, append_padded, truth_image};
+use ada_base::{Items, digits};
+use ada_io::{append_digits, append_image, append_padded, truth_image};
 use stack_code::Asked;
 use std::alloc::AllocError;
 use std::mem;
@@ -52,6 +53,37 @@ pub(crate) fn add_image(m: &mut Machine) -> Result<(), AllocError>
             Err(e)
         }
     }
+}
+
+// The same of a number of a modular type.
+pub(crate) fn add_number_image(m: &mut Machine) -> Result<(), AllocError>
+    requires one { 1 ≤ vec_len m.old.stack }
+    requires room { vec_len m.old.stack ≤ vec_capacity m.old.stack }
+    requires next { m.old.pc < usize.MAX }
+    ensures ok { OnOk result ((cells : List Cell) (v : ℤ) (st : List ℤ) → reverse m.old.stack.items ≡ v ∷ st → state_of m.new cells ≡ on st (record (state_of m.old cells) { line = m.old.line ++ image (turned v) })) }
+    ensures err { OnErr result ((cells : List Cell) → state_of m.new cells ≡ state_of m.old cells) }
+    ensures room { vec_capacity m.new.stack ≡ vec_capacity m.old.stack }
+    ensures looks { m.new.looks ≡ m.old.looks }
+{
+    let value = take(&mut m.stack);
+    match append_number(&mut m.line, value) {
+        Ok(()) => {
+            m.pc += 1;
+            Ok(())
+        }
+        Err(e) => {
+            put(&mut m.stack, value);
+            Err(e)
+        }
+    }
+}
+
+#[tactic(auto, using(ada_base::proofs::Turning::number_of))]
+fn append_number(line: &mut Items<u8>, value: i64) -> Result<(), AllocError>
+    ensures ok { OnOk result (line.new ≡ line.old ++ image (turned value)) }
+    ensures err { OnErr result (line.new ≡ line.old) }
+{
+    append_digits(line, digits(value))
 }
 
 pub(crate) fn add_padded(m: &mut Machine, width: u32) -> Result<(), AllocError>

@@ -2,12 +2,12 @@
 ghost use Rattle.std.specs.Prelude.{◌≡◌, ◌+◌, ◌-◌, ◌*◌, ◌^◌, ◌<◌, ◌≤◌, ◌-ℤ◌, ◌+ℤ◌, ◌*ℤ◌, ◌≤ℤ◌, ◌∷◌, reverse, length, vec_len, vec_capacity, Option, Some, None, SomeIff, FitsSigned, IsSome, IsSomeAnd, pos, ℤ, int_lt, List, replicate, slice_get, slice_index, EachIndex};
 ghost use Rattle.std.specs.Int.{w64};
 ghost use Rattle.ada_base.specs.Cells.{seen, written};
-ghost use Rattle.stack_code.specs.Deeds.{on_one, on_two, unary, binary, load_from, store_to, item_at, stored, stepped, pushed, indexed, if_between, loads_all, stores_all, Loads, Stores, GoesOn};
+ghost use Rattle.stack_code.specs.Deeds.{on_one, on_two, load_from, store_to, item_at, pointed, stored, stepped, indexed, if_among, if_between, loads_all, stores_all, Loads, Stores, GoesOn};
 ghost use Rattle.ada_machine.specs.Places.{Stays};
-ghost use Rattle.ada_machine.specs.Played.{cell_of, IsClear, IsPlaced, ComputesOr, Plays, PlaysOr};
+ghost use Rattle.ada_machine.specs.Played.{cell_of, IsClear, IsNear, IsPlaced, IsThere, Plays};
 
 use crate::cells::Cells;
-use crate::operands::{Computed, is_between, put, set_top, take, top};
+use crate::operands::{Computed, is_among, is_between, put, set_top, take, top};
 use ada_base::Reason;
 use leave_board::Halt;
 
@@ -129,40 +129,44 @@ pub(crate) fn set_cell<C: Cells>(
     }
 }
 
+#[inline(always)]
+#[tactic(auto, using(crate::proofs::Memories::set_number_clear, crate::proofs::Memories::set_number_in, crate::proofs::Memories::set_number_out))]
+pub(crate) fn set_number<C: Cells>(
+    stack: &mut Vec<i64>,
+    pc: usize,
+    view: &mut C,
+    at: u64,
+    low: i64,
+    high: i64,
+) -> Computed
+    requires one { 1 ≤ vec_len stack.old }
+    requires clear { IsClear (on_one (reverse stack.old.items) (λ v st. stored pc (pos at) (if_among low high v) st)) (C.cells view.old) }
+    requires next { pc < usize.MAX }
+    ensures deed { Plays (on_one (reverse stack.old.items) (λ v st. stored pc (pos at) (if_among low high v) st)) result stack.new.items (C.cells view.old) (C.cells view.new) }
+    ensures room { vec_capacity stack.new ≡ vec_capacity stack.old }
+    ensures stays { Stays C.floor C.whole C.place view.old view.new }
+{
+    let value = take(stack);
+    if is_among(low, value, high) {
+        view.set(at, value);
+        Computed::To(pc + 1)
+    } else {
+        Computed::Failed(Reason::ConstraintError)
+    }
+}
+
 // ---- addresses of components
 
-// The product of two numbers of 32 bits needs no test.
+// An address moved to a component. Where that is an address of 63 bits nothing is tested: what is above 64 bits in between
+// is dropped.
 #[inline(always)]
-#[tactic(auto, using(crate::proofs::Memories::within_64))]
-fn cells_of(steps: u32, size: u32) -> u64
-    ensures { result ≡ steps * size }
+fn component(address: i64, low: i64, index: i64, size: u32) -> i64
+    requires order { low ≤ℤ index }
+    requires near { IsNear (address +ℤ ((index -ℤ low) *ℤ pos size)) }
+    ensures { result ≡ address +ℤ ((index -ℤ low) *ℤ pos size) }
 {
-    u64::from(steps) * u64::from(size)
-}
-
-// From an address below 2^30, fewer than 2^30 components of fewer than 2^32 cells lead to one below 2^63.
-const SMALL: u64 = 1_073_741_824;
-
-// An address so many components further, where 64 bits hold it. Addresses of cells and numbers of components are small.
-#[inline(always)]
-#[tactic(auto, using(crate::proofs::Memories::within_62, crate::proofs::Narrows::from_zero, crate::proofs::Narrows::below_30))]
-fn moved(address: i64, steps: u64, size: u32) -> Option<i64>
-    ensures { SomeIff result (FitsSigned w64 (address +ℤ pos (steps * size))) (address +ℤ pos (steps * size)) }
-{
-    if steps < SMALL && cell_of(address) < SMALL {
-        return Some(address + cells_of(steps as u32, size) as i64);
-    }
-    let cells = steps.checked_mul(u64::from(size))?;
-    address.checked_add_unsigned(cells)
-}
-
-// An address moved to a component.
-#[inline(always)]
-fn component(address: i64, low: i64, index: i64, size: u32) -> Option<i64>
-    requires { low ≤ℤ index }
-    ensures { SomeIff result (FitsSigned w64 (address +ℤ ((index -ℤ low) *ℤ pos size))) (address +ℤ ((index -ℤ low) *ℤ pos size)) }
-{
-    moved(address, index.abs_diff(low), size)
+    let cells = index.abs_diff(low).wrapping_mul(u64::from(size));
+    cell_of(address).wrapping_add(cells) as i64
 }
 
 /// A dimension of an array: its least index, its greatest, and the cells of one component (4.1.1).
@@ -176,52 +180,49 @@ pub struct Dimension {
     pub size: u32,
 }
 
-// Where the component with an index stands; or the index is outside, or the address isn't in 64 bits.
+// Where the component with an index stands; or the index is outside.
 #[derive(Clone, Copy)]
 pub enum Placed {
     /// There.
     At(i64),
     /// The index isn't between the least and the greatest.
     Outside,
-    /// The address isn't in 64 bits.
-    Beyond,
 }
 
 #[inline(always)]
-#[tactic(auto, using(crate::proofs::Memories::placed_in, crate::proofs::Memories::placed_far, crate::proofs::Memories::placed_out))]
-fn place(address: i64, low: i64, high: i64, index: i64, size: u32) -> Placed
-    ensures { IsPlaced (indexed low high size address index) result }
+fn place<C: Cells>(view: &C, address: i64, dimension: Dimension, index: i64) -> Placed
+    requires there { IsThere (C.cells view.now) (indexed dimension.low dimension.high dimension.size address index) }
+    ensures { IsPlaced (indexed dimension.low dimension.high dimension.size address index) result }
 {
-    if is_between(low, index, high) {
-        match component(address, low, index, size) {
-            Some(to) => Placed::At(to),
-            None => Placed::Beyond,
-        }
+    let _cells = view.len();
+    if is_between(dimension.low, index, dimension.high) {
+        Placed::At(component(address, dimension.low, index, dimension.size))
     } else {
         Placed::Outside
     }
 }
 
 #[inline(always)]
-pub(crate) fn index(stack: &mut Vec<i64>, pc: usize, low: i64, high: i64, size: u32) -> Computed
+pub(crate) fn index<C: Cells, H: Halt>(
+    stack: &mut Vec<i64>,
+    pc: usize,
+    view: &C,
+    dimension: Dimension,
+) -> Computed
     requires two { 2 ≤ vec_len stack.old }
+    requires clear { IsClear (on_two (reverse stack.old.items) (λ a i st. pointed pc (indexed dimension.low dimension.high dimension.size a i) st)) (C.cells view.now) }
     requires next { pc < usize.MAX }
-    ensures deed { ComputesOr (binary pc (reverse stack.old.items) (λ a i. indexed low high size a i)) result stack.old.items stack.new.items }
+    ensures deed { Plays (on_two (reverse stack.old.items) (λ a i st. pointed pc (indexed dimension.low dimension.high dimension.size a i) st)) result stack.new.items (C.cells view.now) (C.cells view.now) }
     ensures room { vec_capacity stack.new ≡ vec_capacity stack.old }
 {
     let number = take(stack);
     let address = take(stack);
-    match place(address, low, high, number, size) {
+    match place(view, address, dimension, number) {
         Placed::At(to) => {
             put(stack, to);
             Computed::To(pc + 1)
         }
         Placed::Outside => Computed::Failed(Reason::ConstraintError),
-        Placed::Beyond => {
-            put(stack, address);
-            put(stack, number);
-            Computed::Beyond
-        }
     }
 }
 
@@ -235,20 +236,14 @@ pub(crate) fn index_cell<C: Cells, H: Halt>(
     dimension: Dimension,
 ) -> Computed
     requires one { 1 ≤ vec_len stack.old }
-    requires clear { IsClear (Loads (pos at) (λ i. unary pc (reverse stack.old.items) (λ a. indexed dimension.low dimension.high dimension.size a i))) (C.cells view.now) }
+    requires clear { IsClear (Loads (pos at) (λ i. on_one (reverse stack.old.items) (λ a st. pointed pc (indexed dimension.low dimension.high dimension.size a i) st))) (C.cells view.now) }
     requires next { pc < usize.MAX }
-    ensures deed { PlaysOr (Loads (pos at) (λ i. unary pc (reverse stack.old.items) (λ a. indexed dimension.low dimension.high dimension.size a i))) result stack.old.items stack.new.items (C.cells view.now) (C.cells view.now) }
+    ensures deed { Plays (Loads (pos at) (λ i. on_one (reverse stack.old.items) (λ a st. pointed pc (indexed dimension.low dimension.high dimension.size a i) st))) result stack.new.items (C.cells view.now) (C.cells view.now) }
     ensures room { vec_capacity stack.new ≡ vec_capacity stack.old }
 {
     let number = view.get(at);
     let address = top(stack);
-    match place(
-        address,
-        dimension.low,
-        dimension.high,
-        number,
-        dimension.size,
-    ) {
+    match place(view, address, dimension, number) {
         Placed::At(to) => {
             set_top(stack, to);
             Computed::To(pc + 1)
@@ -257,7 +252,6 @@ pub(crate) fn index_cell<C: Cells, H: Halt>(
             let _ = take(stack);
             Computed::Failed(Reason::ConstraintError)
         }
-        Placed::Beyond => Computed::Beyond,
     }
 }
 
@@ -266,35 +260,28 @@ pub(crate) fn item<C: Cells, H: Halt>(
     stack: &mut Vec<i64>,
     pc: usize,
     view: &C,
-    low: i64,
-    high: i64,
-    size: u32,
+    dimension: Dimension,
 ) -> Computed
     requires two { 2 ≤ vec_len stack.old }
-    requires clear { IsClear (on_two (reverse stack.old.items) (λ a i st. item_at pc (indexed low high size a i) st)) (C.cells view.now) }
+    requires clear { IsClear (on_two (reverse stack.old.items) (λ a i st. item_at pc (indexed dimension.low dimension.high dimension.size a i) st)) (C.cells view.now) }
     requires next { pc < usize.MAX }
-    ensures deed { PlaysOr (on_two (reverse stack.old.items) (λ a i st. item_at pc (indexed low high size a i) st)) result stack.old.items stack.new.items (C.cells view.now) (C.cells view.now) }
+    ensures deed { Plays (on_two (reverse stack.old.items) (λ a i st. item_at pc (indexed dimension.low dimension.high dimension.size a i) st)) result stack.new.items (C.cells view.now) (C.cells view.now) }
     ensures room { vec_capacity stack.new ≡ vec_capacity stack.old }
 {
     let number = take(stack);
     let address = take(stack);
-    match place(address, low, high, number, size) {
+    match place(view, address, dimension, number) {
         Placed::At(to) => {
             let value = read_at(view, to);
             put(stack, value);
             Computed::To(pc + 1)
         }
         Placed::Outside => Computed::Failed(Reason::ConstraintError),
-        Placed::Beyond => {
-            put(stack, address);
-            put(stack, number);
-            Computed::Beyond
-        }
     }
 }
 
 #[inline(always)]
-#[tactic(auto, using(crate::proofs::Memories::cell_clear, crate::proofs::Memories::item_cell_clear, crate::proofs::Memories::item_cell_at, crate::proofs::Memories::item_cell_far, crate::proofs::Memories::item_cell_out))]
+#[tactic(auto, using(crate::proofs::Memories::cell_clear, crate::proofs::Memories::item_cell_clear, crate::proofs::Memories::item_cell_at, crate::proofs::Memories::item_cell_out))]
 pub(crate) fn item_cell<C: Cells, H: Halt>(
     stack: &mut Vec<i64>,
     pc: usize,
@@ -305,18 +292,12 @@ pub(crate) fn item_cell<C: Cells, H: Halt>(
     requires one { 1 ≤ vec_len stack.old }
     requires clear { IsClear (Loads (pos at) (λ i. on_one (reverse stack.old.items) (λ a st. item_at pc (indexed dimension.low dimension.high dimension.size a i) st))) (C.cells view.now) }
     requires next { pc < usize.MAX }
-    ensures deed { PlaysOr (Loads (pos at) (λ i. on_one (reverse stack.old.items) (λ a st. item_at pc (indexed dimension.low dimension.high dimension.size a i) st))) result stack.old.items stack.new.items (C.cells view.now) (C.cells view.now) }
+    ensures deed { Plays (Loads (pos at) (λ i. on_one (reverse stack.old.items) (λ a st. item_at pc (indexed dimension.low dimension.high dimension.size a i) st))) result stack.new.items (C.cells view.now) (C.cells view.now) }
     ensures room { vec_capacity stack.new ≡ vec_capacity stack.old }
 {
     let number = view.get(at);
     let address = top(stack);
-    match place(
-        address,
-        dimension.low,
-        dimension.high,
-        number,
-        dimension.size,
-    ) {
+    match place(view, address, dimension, number) {
         Placed::At(to) => {
             let value = read_at(view, to);
             set_top(stack, value);
@@ -326,14 +307,13 @@ pub(crate) fn item_cell<C: Cells, H: Halt>(
             let _ = take(stack);
             Computed::Failed(Reason::ConstraintError)
         }
-        Placed::Beyond => Computed::Beyond,
     }
 }
 
 // ---- components of an object in the main frame, whose address an instruction has
 
 #[inline(always)]
-#[tactic(auto, using(crate::proofs::Memories::cell_clear, crate::proofs::Memories::index_main_at, crate::proofs::Memories::index_main_far, crate::proofs::Memories::index_main_out))]
+#[tactic(auto, using(crate::proofs::Memories::cell_clear, crate::proofs::Memories::index_main_at, crate::proofs::Memories::index_main_out))]
 pub(crate) fn index_main<C: Cells, H: Halt>(
     stack: &mut Vec<i64>,
     pc: usize,
@@ -343,30 +323,23 @@ pub(crate) fn index_main<C: Cells, H: Halt>(
     dimension: Dimension,
 ) -> Computed
     requires room { vec_len stack.old < vec_capacity stack.old }
-    requires clear { IsClear (Loads (pos at) (λ i. pushed pc (indexed dimension.low dimension.high dimension.size (pos object) i) (reverse stack.old.items))) (C.cells view.now) }
+    requires clear { IsClear (Loads (pos at) (λ i. pointed pc (indexed dimension.low dimension.high dimension.size (pos object) i) (reverse stack.old.items))) (C.cells view.now) }
     requires next { pc < usize.MAX }
-    ensures deed { PlaysOr (Loads (pos at) (λ i. pushed pc (indexed dimension.low dimension.high dimension.size (pos object) i) (reverse stack.old.items))) result stack.old.items stack.new.items (C.cells view.now) (C.cells view.now) }
+    ensures deed { Plays (Loads (pos at) (λ i. pointed pc (indexed dimension.low dimension.high dimension.size (pos object) i) (reverse stack.old.items))) result stack.new.items (C.cells view.now) (C.cells view.now) }
     ensures room { vec_capacity stack.new ≡ vec_capacity stack.old }
 {
     let number = view.get(at);
-    match place(
-        i64::from(object),
-        dimension.low,
-        dimension.high,
-        number,
-        dimension.size,
-    ) {
+    match place(view, i64::from(object), dimension, number) {
         Placed::At(to) => {
             put(stack, to);
             Computed::To(pc + 1)
         }
         Placed::Outside => Computed::Failed(Reason::ConstraintError),
-        Placed::Beyond => Computed::Beyond,
     }
 }
 
 #[inline(always)]
-#[tactic(auto, using(crate::proofs::Memories::cell_clear, crate::proofs::Memories::item_main_clear, crate::proofs::Memories::item_main_at, crate::proofs::Memories::item_main_far, crate::proofs::Memories::item_main_out))]
+#[tactic(auto, using(crate::proofs::Memories::cell_clear, crate::proofs::Memories::item_main_clear, crate::proofs::Memories::item_main_at, crate::proofs::Memories::item_main_out))]
 pub(crate) fn item_main<C: Cells, H: Halt>(
     stack: &mut Vec<i64>,
     pc: usize,
@@ -378,24 +351,17 @@ pub(crate) fn item_main<C: Cells, H: Halt>(
     requires room { vec_len stack.old < vec_capacity stack.old }
     requires clear { IsClear (Loads (pos at) (λ i. item_at pc (indexed dimension.low dimension.high dimension.size (pos object) i) (reverse stack.old.items))) (C.cells view.now) }
     requires next { pc < usize.MAX }
-    ensures deed { PlaysOr (Loads (pos at) (λ i. item_at pc (indexed dimension.low dimension.high dimension.size (pos object) i) (reverse stack.old.items))) result stack.old.items stack.new.items (C.cells view.now) (C.cells view.now) }
+    ensures deed { Plays (Loads (pos at) (λ i. item_at pc (indexed dimension.low dimension.high dimension.size (pos object) i) (reverse stack.old.items))) result stack.new.items (C.cells view.now) (C.cells view.now) }
     ensures room { vec_capacity stack.new ≡ vec_capacity stack.old }
 {
     let number = view.get(at);
-    match place(
-        i64::from(object),
-        dimension.low,
-        dimension.high,
-        number,
-        dimension.size,
-    ) {
+    match place(view, i64::from(object), dimension, number) {
         Placed::At(to) => {
             let value = read_at(view, to);
             put(stack, value);
             Computed::To(pc + 1)
         }
         Placed::Outside => Computed::Failed(Reason::ConstraintError),
-        Placed::Beyond => Computed::Beyond,
     }
 }
 

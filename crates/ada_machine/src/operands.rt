@@ -1,14 +1,14 @@
 // The operand stack: a vector whose last item is the top, with room for the greatest height of its body.
 ghost use Rattle.std.specs.Prelude.{◌≡◌, ◌+◌, ◌^◌, ◌<◌, ◌≤◌, ◌-ℤ◌, ◌+ℤ◌, ◌*ℤ◌, ◌≤ℤ◌, ◌∷◌, reverse, drop, length, vec_len, vec_capacity, Option, Some, None, IfSome, pos, nat_abs, ℤ, cond, slice_get, slice_index, not, int_div, int_rem};
 ghost use Rattle.std.specs.Int.{int_max, int_min};
-ghost use Rattle.ada_base.specs.Operation.{is_in_base, within, aligned, unless_zero, result_of, CanApply, AreOperands};
-ghost use Rattle.stack_code.specs.Deeds.{applied, is_related, digits_of, is_far, is_between, truth, differ, bit, pushed, unary, binary, unless, cell_of_frame, on_one, on_two, if_between, indexed, unless_divisor_zero, value_or_zero, reason_of, GoesOn, Fails};
+ghost use Rattle.ada_base.specs.Operation.{is_in_base, within, aligned, unless_zero, result_of, CanApply, AreOperands, turned, digits, unbounded};
+ghost use Rattle.stack_code.specs.Deeds.{applied, is_related, digits_of, is_far, is_between, truth, differ, bit, pushed, unary, binary, unless, cell_of_frame, on_one, on_two, if_between, indexed, unless_divisor_zero, value_or_zero, reason_of, GoesOn, Fails, on_range, negated, unsigned, complemented, if_among};
 ghost use Rattle.ada_machine.specs.Played.{Computes, ComputesOr, IsReason};
 
-use ada_base::{Base, Op, Reason, apply};
+use ada_base::{Base, Op, Reason, apply, complement, digits, kept, modular, opposite};
 use stack_code::{Digits, Relation};
 
-/// What an instruction came to: it goes on there, or raises an exception; or a number isn't in 64 bits, or the
+/// What an instruction came to: it goes on there, or raises an exception; or the exception's number isn't in 32 bits, or the
 /// instruction asks for more than operands and cells.
 #[derive(Clone, Copy)]
 pub enum Computed {
@@ -16,7 +16,7 @@ pub enum Computed {
     To(usize),
     /// It raises that exception.
     Failed(Reason),
-    /// A number isn't in 64 bits, or a copy would overwrite what it has yet to read; nothing was changed.
+    /// It would raise an exception whose number isn't in 32 bits; nothing was changed.
     Beyond,
     /// It asks for more, and nothing was changed.
     Other,
@@ -86,19 +86,14 @@ pub(crate) fn settle(stack: &mut Vec<i64>, pc: usize, value: Option<i64>) -> Com
     }
 }
 
-// What 32 bits hold lies in each base range, and most values do: then nothing asks which range it is.
 #[inline(always)]
-#[tactic(auto, using(crate::proofs::Narrows::narrow_whole))]
 fn is_in_base(base: Base, value: i64) -> bool
     ensures { result ≡ is_in_base base value }
 {
-    if is_narrow(value) {
-        true
-    } else {
-        match base {
-            Base::Narrow => false,
-            Base::Wide => true,
-        }
+    match base {
+        Base::Narrow => is_narrow(value),
+        Base::Wide => true,
+        Base::Modulo(_) => ada_base::is_in_base(base, value),
     }
 }
 
@@ -127,39 +122,35 @@ fn within(base: Base, value: Option<i64>) -> Option<i64>
 }
 
 #[inline(always)]
-fn sum(base: Base, x: i64, y: i64) -> Option<i64>
-    ensures { result ≡ applied Op.Add base x y }
+fn plain_sum(base: Base, x: i64, y: i64) -> Option<i64>
+    ensures { result ≡ on_range Op.Add base x y }
 {
     within(base, x.checked_add(y))
 }
 
 #[inline(always)]
-fn difference(base: Base, x: i64, y: i64) -> Option<i64>
-    ensures { result ≡ applied Op.Sub base x y }
+fn plain_difference(base: Base, x: i64, y: i64) -> Option<i64>
+    ensures { result ≡ on_range Op.Sub base x y }
 {
     within(base, x.checked_sub(y))
 }
 
 // The product of two numbers of 32 bits is one of 64, for which nothing is to be tested.
 #[inline(always)]
-fn product(base: Base, x: i64, y: i64) -> Option<i64>
-    ensures { result ≡ applied Op.Mul base x y }
+fn plain_product(base: Base, x: i64, y: i64) -> Option<i64>
+    ensures { result ≡ on_range Op.Mul base x y }
 {
     if is_narrow(x) && is_narrow(y) {
         let near = x * y;
-        if is_narrow(near) {
-            Some(near)
-        } else {
-            within(base, Some(near))
-        }
+        within(base, Some(near))
     } else {
         within(base, x.checked_mul(y))
     }
 }
 
-fn result_of(op: Op, base: Base, x: i64, y: i64) -> Option<i64>
-    requires { AreOperands op x y }
-    ensures { result ≡ result_of op base x y }
+fn result_in(op: Op, base: Base, x: i64, y: i64) -> Option<i64>
+    requires { AreOperands op Base.Wide x y }
+    ensures { result ≡ within base (unbounded op x y) }
 {
     let value = apply(op, Base::Wide, x, y)?;
     if is_in_base(base, value) {
@@ -178,16 +169,16 @@ fn divided(x: i64, y: i64) -> Option<i64>
 
 #[inline(always)]
 #[tactic(auto, using(crate::proofs::Divisions::quotient_is))]
-fn quotient(base: Base, x: i64, y: i64) -> Option<i64>
-    ensures { result ≡ applied Op.Div base x y }
+fn plain_quotient(base: Base, x: i64, y: i64) -> Option<i64>
+    ensures { result ≡ on_range Op.Div base x y }
 {
     within(base, divided(x, y))
 }
 
-fn power(base: Base, x: i64, y: i64) -> Option<i64>
-    ensures { result ≡ applied Op.Pow base x y }
+fn plain_power(base: Base, x: i64, y: i64) -> Option<i64>
+    ensures { result ≡ on_range Op.Pow base x y }
 {
-    result_of(Op::Pow, base, x, y)
+    result_in(Op::Pow, base, x, y)
 }
 
 // The remainder, moved by the divisor where the two have opposite signs.
@@ -216,8 +207,8 @@ fn remainder_unless_zero(x: i64, y: i64) -> Option<i64>
 
 #[inline(always)]
 #[tactic(auto, using(crate::proofs::Divisions::modulus_some, crate::proofs::Divisions::modulus_none))]
-fn modulus(base: Base, x: i64, y: i64) -> Option<i64>
-    ensures { result ≡ applied Op.Mod base x y }
+fn plain_modulus(base: Base, x: i64, y: i64) -> Option<i64>
+    ensures { result ≡ on_range Op.Mod base x y }
 {
     match remainder_unless_zero(x, y) {
         Some(r) => Some(value_or_zero(within(base, Some(aligned(r, y))))),
@@ -227,8 +218,8 @@ fn modulus(base: Base, x: i64, y: i64) -> Option<i64>
 
 #[inline(always)]
 #[tactic(auto, using(crate::proofs::Divisions::remainder_some, crate::proofs::Divisions::remainder_none))]
-fn remainder(base: Base, x: i64, y: i64) -> Option<i64>
-    ensures { result ≡ applied Op.Rem base x y }
+fn plain_remainder(base: Base, x: i64, y: i64) -> Option<i64>
+    ensures { result ≡ on_range Op.Rem base x y }
 {
     match remainder_unless_zero(x, y) {
         Some(r) => Some(value_or_zero(within(base, Some(r)))),
@@ -246,25 +237,116 @@ fn value_or_zero(value: Option<i64>) -> i64
     }
 }
 
+// Those of numbers of a modular type are that type's.
+#[inline(always)]
+fn sum(base: Base, x: i64, y: i64) -> Option<i64>
+    ensures { result ≡ applied Op.Add base x y }
+{
+    match base {
+        Base::Modulo(k) => modular(Op::Add, k, x, y),
+        Base::Narrow => plain_sum(Base::Narrow, x, y),
+        Base::Wide => plain_sum(Base::Wide, x, y),
+    }
+}
+
+#[inline(always)]
+fn difference(base: Base, x: i64, y: i64) -> Option<i64>
+    ensures { result ≡ applied Op.Sub base x y }
+{
+    match base {
+        Base::Modulo(k) => modular(Op::Sub, k, x, y),
+        Base::Narrow => plain_difference(Base::Narrow, x, y),
+        Base::Wide => plain_difference(Base::Wide, x, y),
+    }
+}
+
+#[inline(always)]
+fn product(base: Base, x: i64, y: i64) -> Option<i64>
+    ensures { result ≡ applied Op.Mul base x y }
+{
+    match base {
+        Base::Modulo(k) => modular(Op::Mul, k, x, y),
+        Base::Narrow => plain_product(Base::Narrow, x, y),
+        Base::Wide => plain_product(Base::Wide, x, y),
+    }
+}
+
+#[inline(always)]
+fn quotient(base: Base, x: i64, y: i64) -> Option<i64>
+    ensures { result ≡ applied Op.Div base x y }
+{
+    match base {
+        Base::Modulo(k) => modular(Op::Div, k, x, y),
+        Base::Narrow => plain_quotient(Base::Narrow, x, y),
+        Base::Wide => plain_quotient(Base::Wide, x, y),
+    }
+}
+
+#[inline(always)]
+fn power(base: Base, x: i64, y: i64) -> Option<i64>
+    ensures { result ≡ applied Op.Pow base x y }
+{
+    match base {
+        Base::Modulo(k) => modular(Op::Pow, k, x, y),
+        Base::Narrow => plain_power(Base::Narrow, x, y),
+        Base::Wide => plain_power(Base::Wide, x, y),
+    }
+}
+
+#[inline(always)]
+fn modulus(base: Base, x: i64, y: i64) -> Option<i64>
+    ensures { result ≡ applied Op.Mod base x y }
+{
+    match base {
+        Base::Modulo(k) => modular(Op::Mod, k, x, y),
+        Base::Narrow => plain_modulus(Base::Narrow, x, y),
+        Base::Wide => plain_modulus(Base::Wide, x, y),
+    }
+}
+
+#[inline(always)]
+fn remainder(base: Base, x: i64, y: i64) -> Option<i64>
+    ensures { result ≡ applied Op.Rem base x y }
+{
+    match base {
+        Base::Modulo(k) => modular(Op::Rem, k, x, y),
+        Base::Narrow => plain_remainder(Base::Narrow, x, y),
+        Base::Wide => plain_remainder(Base::Wide, x, y),
+    }
+}
+
+/// The operation on two numbers of another type than a modular one, or None where it raises Constraint_Error (4.5).
+#[inline(always)]
+pub fn plain_applied(op: Op, base: Base, x: i64, y: i64) -> Option<i64>
+    requires { AreOperands op Base.Wide x y }
+    ensures { result ≡ on_range op base x y }
+{
+    match op {
+        Op::Add => plain_sum(base, x, y),
+        Op::Sub => plain_difference(base, x, y),
+        Op::Mul => plain_product(base, x, y),
+        Op::Div => plain_quotient(base, x, y),
+        Op::Pow => plain_power(base, x, y),
+        Op::Mod => plain_modulus(base, x, y),
+        Op::Rem => plain_remainder(base, x, y),
+        Op::And => result_in(Op::And, base, x, y),
+        Op::Or => result_in(Op::Or, base, x, y),
+        Op::Xor => result_in(Op::Xor, base, x, y),
+        Op::Min => result_in(Op::Min, base, x, y),
+        Op::Max => result_in(Op::Max, base, x, y),
+    }
+}
+
 /// The operation on any two numbers that it takes, or None where it raises Constraint_Error (4.5).
 #[inline(always)]
 pub fn applied(op: Op, base: Base, x: i64, y: i64) -> Option<i64>
-    requires { AreOperands op x y }
+    requires { AreOperands op base x y }
     ensures { result ≡ applied op base x y }
 {
-    match op {
-        Op::Add => sum(base, x, y),
-        Op::Sub => difference(base, x, y),
-        Op::Mul => product(base, x, y),
-        Op::Div => quotient(base, x, y),
-        Op::Pow => power(base, x, y),
-        Op::Mod => modulus(base, x, y),
-        Op::Rem => remainder(base, x, y),
-        Op::And => result_of(Op::And, base, x, y),
-        Op::Or => result_of(Op::Or, base, x, y),
-        Op::Xor => result_of(Op::Xor, base, x, y),
-        Op::Min => result_of(Op::Min, base, x, y),
-        Op::Max => result_of(Op::Max, base, x, y),
+    match base {
+        Base::Modulo(k) => modular(op, k, x, y),
+        Base::Narrow => plain_applied(op, Base::Narrow, x, y),
+        Base::Wide => plain_applied(op, Base::Wide, x, y),
     }
 }
 
@@ -297,13 +379,13 @@ fn is_far(distance: u32, first: i64, last: i64) -> bool
 }
 
 #[inline(always)]
-fn digits_of(digits: Digits, x: i64, y: i64) -> i64
-    ensures { result ≡ digits_of digits x y }
+fn digits_of(which: Digits, x: i64, y: i64) -> i64
+    ensures { result ≡ digits_of which x y }
 {
-    match digits {
-        Digits::Both => x & y,
-        Digits::Either => x | y,
-        Digits::Differ => x ^ y,
+    match which {
+        Digits::Both => kept(digits(x) & digits(y)),
+        Digits::Either => kept(digits(x) | digits(y)),
+        Digits::Differ => kept(digits(x) ^ digits(y)),
     }
 }
 
@@ -492,15 +574,15 @@ pub(crate) fn measure(stack: &mut Vec<i64>, pc: usize, distance: u32) -> Compute
 }
 
 #[inline(always)]
-pub(crate) fn combine_digits(stack: &mut Vec<i64>, pc: usize, digits: Digits) -> Computed
+pub(crate) fn combine_digits(stack: &mut Vec<i64>, pc: usize, which: Digits) -> Computed
     requires two { 2 ≤ vec_len stack.old }
     requires next { pc < usize.MAX }
-    ensures deed { Computes (binary pc (reverse stack.old.items) (λ x y. Some (digits_of digits x y))) result stack.new.items }
+    ensures deed { Computes (binary pc (reverse stack.old.items) (λ x y. Some (digits_of which x y))) result stack.new.items }
     ensures room { vec_capacity stack.new ≡ vec_capacity stack.old }
 {
     let y = take(stack);
     let x = take(stack);
-    put(stack, digits_of(digits, x, y));
+    put(stack, digits_of(which, x, y));
     Computed::To(pc + 1)
 }
 
@@ -548,7 +630,7 @@ pub(crate) fn differ(stack: &mut Vec<i64>, pc: usize) -> Computed
 pub(crate) fn negate(stack: &mut Vec<i64>, pc: usize, base: Base) -> Computed
     requires one { 1 ≤ vec_len stack.old }
     requires next { pc < usize.MAX }
-    ensures deed { Computes (unary pc (reverse stack.old.items) (λ x. within base (Some (pos 0 -ℤ x)))) result stack.new.items }
+    ensures deed { Computes (unary pc (reverse stack.old.items) (λ x. negated base x)) result stack.new.items }
     ensures room { vec_capacity stack.new ≡ vec_capacity stack.old }
 {
     let x = top(stack);
@@ -556,14 +638,36 @@ pub(crate) fn negate(stack: &mut Vec<i64>, pc: usize, base: Base) -> Computed
 }
 
 #[inline(always)]
-fn negated(base: Base, x: i64) -> Option<i64>
+fn plain_negated(base: Base, x: i64) -> Option<i64>
     ensures { result ≡ within base (Some (pos 0 -ℤ x)) }
 {
     within(base, 0i64.checked_sub(x))
 }
 
 #[inline(always)]
+fn negated(base: Base, x: i64) -> Option<i64>
+    ensures { result ≡ negated base x }
+{
+    match base {
+        Base::Modulo(k) => Some(opposite(k, x)),
+        Base::Narrow => plain_negated(Base::Narrow, x),
+        Base::Wide => plain_negated(Base::Wide, x),
+    }
+}
+
+#[inline(always)]
 fn absolute(base: Base, x: i64) -> Option<i64>
+    ensures { result ≡ unsigned base x }
+{
+    match base {
+        Base::Modulo(_) => Some(x),
+        Base::Narrow => plain_absolute(Base::Narrow, x),
+        Base::Wide => plain_absolute(Base::Wide, x),
+    }
+}
+
+#[inline(always)]
+fn plain_absolute(base: Base, x: i64) -> Option<i64>
     ensures { result ≡ within base (Some (pos (nat_abs x))) }
 {
     if x < 0 {
@@ -578,7 +682,7 @@ fn absolute(base: Base, x: i64) -> Option<i64>
 pub(crate) fn make_absolute(stack: &mut Vec<i64>, pc: usize, base: Base) -> Computed
     requires one { 1 ≤ vec_len stack.old }
     requires next { pc < usize.MAX }
-    ensures deed { Computes (unary pc (reverse stack.old.items) (λ x. within base (Some (pos (nat_abs x))))) result stack.new.items }
+    ensures deed { Computes (unary pc (reverse stack.old.items) (λ x. unsigned base x)) result stack.new.items }
     ensures room { vec_capacity stack.new ≡ vec_capacity stack.old }
 {
     let x = top(stack);
@@ -780,22 +884,131 @@ pub(crate) fn raise_again(stack: &mut Vec<i64>) -> Computed
 }
 
 #[inline(always)]
-#[tactic(auto, using(crate::proofs::Memories::unary_far))]
 pub(crate) fn flip(stack: &mut Vec<i64>, pc: usize) -> Computed
     requires one { 1 ≤ vec_len stack.old }
     requires next { pc < usize.MAX }
-    ensures deed { ComputesOr (unary pc (reverse stack.old.items) (λ x. Some (pos 1 -ℤ x))) result stack.old.items stack.new.items }
+    ensures deed { Computes (unary pc (reverse stack.old.items) (λ x. Some (bit (not (truth x))))) result stack.new.items }
+    ensures room { vec_capacity stack.new ≡ vec_capacity stack.old }
+{
+    invert(stack, pc)
+}
+
+// ---- numbers of modular types
+
+#[inline(always)]
+fn compares(relation: Relation, x: u64, y: u64) -> bool
+    ensures { result ≡ is_related relation (pos x) (pos y) }
+{
+    match relation {
+        Relation::Equal => x <= y && y <= x,
+        Relation::Unequal => !(x <= y && y <= x),
+        Relation::Less => x < y,
+        Relation::AtMost => x <= y,
+        Relation::Greater => y < x,
+        Relation::AtLeast => y <= x,
+    }
+}
+
+// Whether two that are kept are so related as numbers.
+#[inline(always)]
+#[tactic(auto, using(crate::proofs::Numbers::related_as))]
+fn are_related(relation: Relation, x: i64, y: i64) -> bool
+    ensures { result ≡ is_related relation (turned x) (turned y) }
+{
+    compares(relation, digits(x), digits(y))
+}
+
+#[inline(always)]
+pub(crate) fn compare_numbers(stack: &mut Vec<i64>, pc: usize, relation: Relation) -> Computed
+    requires two { 2 ≤ vec_len stack.old }
+    requires next { pc < usize.MAX }
+    ensures deed { Computes (binary pc (reverse stack.old.items) (λ x y. Some (bit (is_related relation (turned x) (turned y))))) result stack.new.items }
+    ensures room { vec_capacity stack.new ≡ vec_capacity stack.old }
+{
+    let y = take(stack);
+    let x = take(stack);
+    put(stack, bit(are_related(relation, x, y)));
+    Computed::To(pc + 1)
+}
+
+#[inline(always)]
+fn number_of(op: Op, x: i64, y: i64) -> Option<i64>
+    ensures { result ≡ result_of op (Base.Modulo 64) x y }
+{
+    modular(op, 64, x, y)
+}
+
+#[inline(always)]
+#[tactic(auto, using(crate::proofs::Classes::binary_by))]
+pub(crate) fn greater_number(stack: &mut Vec<i64>, pc: usize) -> Computed
+    requires two { 2 ≤ vec_len stack.old }
+    requires next { pc < usize.MAX }
+    ensures deed { Computes (binary pc (reverse stack.old.items) (λ x y. result_of Op.Max (Base.Modulo 64) x y)) result stack.new.items }
+    ensures room { vec_capacity stack.new ≡ vec_capacity stack.old }
+{
+    let y = take(stack);
+    let x = top(stack);
+    settle(stack, pc, number_of(Op::Max, x, y))
+}
+
+#[inline(always)]
+#[tactic(auto, using(crate::proofs::Classes::binary_by))]
+pub(crate) fn lesser_number(stack: &mut Vec<i64>, pc: usize) -> Computed
+    requires two { 2 ≤ vec_len stack.old }
+    requires next { pc < usize.MAX }
+    ensures deed { Computes (binary pc (reverse stack.old.items) (λ x y. result_of Op.Min (Base.Modulo 64) x y)) result stack.new.items }
+    ensures room { vec_capacity stack.new ≡ vec_capacity stack.old }
+{
+    let y = take(stack);
+    let x = top(stack);
+    settle(stack, pc, number_of(Op::Min, x, y))
+}
+
+#[inline(always)]
+fn complemented(k: u8, x: i64) -> i64
+    ensures { result ≡ complemented k x }
+{
+    complement(k, x)
+}
+
+#[inline(always)]
+pub(crate) fn turn_digits(stack: &mut Vec<i64>, pc: usize, k: u8) -> Computed
+    requires one { 1 ≤ vec_len stack.old }
+    requires next { pc < usize.MAX }
+    ensures deed { Computes (unary pc (reverse stack.old.items) (λ x. Some (complemented k x))) result stack.new.items }
     ensures room { vec_capacity stack.new ≡ vec_capacity stack.old }
 {
     let x = take(stack);
-    match 1i64.checked_sub(x) {
-        Some(other) => {
-            put(stack, other);
-            Computed::To(pc + 1)
-        }
-        None => {
-            put(stack, x);
-            Computed::Beyond
-        }
+    put(stack, complemented(k, x));
+    Computed::To(pc + 1)
+}
+
+#[inline(always)]
+pub(crate) fn is_among(low: i64, value: i64, high: i64) -> bool
+    ensures { result ≡ is_between (turned low) (turned value) (turned high) }
+{
+    are_related(Relation::AtMost, low, value) && are_related(Relation::AtMost, value, high)
+}
+
+#[inline(always)]
+fn if_among(low: i64, high: i64, x: i64) -> Option<i64>
+    ensures { result ≡ if_among low high x }
+{
+    if is_among(low, x, high) {
+        Some(x)
+    } else {
+        None
     }
+}
+
+#[inline(always)]
+#[tactic(auto, using(crate::proofs::Classes::unary_by))]
+pub(crate) fn check_numbers(stack: &mut Vec<i64>, pc: usize, low: i64, high: i64) -> Computed
+    requires one { 1 ≤ vec_len stack.old }
+    requires next { pc < usize.MAX }
+    ensures deed { Computes (unary pc (reverse stack.old.items) (λ x. if_among low high x)) result stack.new.items }
+    ensures room { vec_capacity stack.new ≡ vec_capacity stack.old }
+{
+    let x = top(stack);
+    settle(stack, pc, if_among(low, high, x))
 }

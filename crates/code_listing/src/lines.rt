@@ -1,10 +1,11 @@
 // The lines of a listing.
 ghost use Rattle.std.specs.Prelude.{◌≡◌, ◌++◌, ◌∷◌, [], ℤ, pos, codes, decimal, string_bytes, IfOk, OnOk};
-ghost use Rattle.stack_code.specs.Listing.{one_or_zero, spaced, line, instr_line, unwind_line, site_line, sub_line, lines_from, listing_of};
+ghost use Rattle.stack_code.specs.Listing.{one_or_zero, spaced, base_after, line, instr_line, unwind_line, site_line, sub_line, lines_from, listing_of};
 ghost use Rattle.code_listing.specs.Shown.{numbers_of};
 
 use crate::names::name_of;
-use crate::operands::{Operands, operands_of};
+use crate::operands::{Operands, base_in, operands_of};
+use ada_base::Base;
 use stack_code::{Code, CodeSite, CodeSub, Instr, Unwind};
 use std::alloc::{AllocError, Global};
 
@@ -52,6 +53,17 @@ fn put_operands(text: &mut String, operands: Operands) -> Result<(), AllocError>
     }
 }
 
+fn put_base(text: &mut String, base: Option<Base>) -> Result<(), AllocError>
+    ensures { OnOk result (string_bytes text.new ≡ string_bytes text.old ++ base_after base) }
+{
+    match base {
+        Some(Base::Narrow) => text.push_str(" 32"),
+        Some(Base::Wide) => text.push_str(" 64"),
+        Some(Base::Modulo(digits)) => write!(text, " m{digits}"),
+        None => Ok(()),
+    }
+}
+
 fn put_instr(text: &mut String, number: usize, instr: Instr) -> Result<(), AllocError>
     ensures { OnOk result (string_bytes text.new ≡ string_bytes text.old ++ instr_line number instr) }
 {
@@ -59,6 +71,7 @@ fn put_instr(text: &mut String, number: usize, instr: Instr) -> Result<(), Alloc
     write!(text, "{number} ")?;
     text.push_str(name_of(instr, operands))?;
     put_operands(text, operands)?;
+    put_base(text, base_in(instr))?;
     text.push('\n')
 }
 

@@ -1,12 +1,12 @@
-// What follows the name of an instruction in its line.
+// What follows the name of an instruction in its line: numbers, and then a base range.
 ghost use Rattle.std.specs.Prelude.{◌≡◌, ◌≤◌, length};
-ghost use Rattle.stack_code.specs.Listing.{bits_of, operands_of};
+ghost use Rattle.stack_code.specs.Listing.{base_in, operands_of};
 ghost use Rattle.code_listing.specs.Shown.{numbers_of};
 
 use ada_base::Base;
 use stack_code::{Instr, reason_number};
 
-/// What follows the name of an instruction in its line.
+/// The numbers that follow the name of an instruction in its line.
 #[derive(Clone, Copy)]
 pub enum Operands {
     /// Nothing.
@@ -31,12 +31,25 @@ pub enum Operands {
     FoundBy(u32, i64, i64, u32, u32),
 }
 
-fn bits_of(base: Base) -> u32
-    ensures { result ≡ bits_of base }
+/// The base range in which an instruction's result lies, which stands behind its numbers.
+pub(crate) fn base_in(instr: Instr) -> Option<Base>
+    ensures { result ≡ base_in instr }
 {
-    match base {
-        Base::Narrow => 32,
-        Base::Wide => 64,
+    match instr {
+        Instr::Add(base)
+        | Instr::Sub(base)
+        | Instr::Mul(base)
+        | Instr::Div(base)
+        | Instr::Mod(base)
+        | Instr::Rem(base)
+        | Instr::Pow(base)
+        | Instr::Neg(base)
+        | Instr::Abs(base)
+        | Instr::AddI(_, base)
+        | Instr::SubI(_, base)
+        | Instr::MulI(_, base)
+        | Instr::ModI(_, base) => Some(base),
+        _ => None,
     }
 }
 
@@ -73,15 +86,9 @@ fn operand_of(instr: Instr) -> Operands
         | Instr::JfGt(n)
         | Instr::JfGe(n)
         | Instr::Again(n) => Operands::Number(u64::from(n)),
-        Instr::Add(base)
-        | Instr::Sub(base)
-        | Instr::Mul(base)
-        | Instr::Div(base)
-        | Instr::Mod(base)
-        | Instr::Rem(base)
-        | Instr::Pow(base)
-        | Instr::Neg(base)
-        | Instr::Abs(base) => Operands::Number(u64::from(bits_of(base))),
+        Instr::BNot(digits) => Operands::Number(u64::from(digits)),
+        Instr::AddI(v, _) | Instr::SubI(v, _) | Instr::MulI(v, _) | Instr::ModI(v, _) =>
+            Operands::Signed(v),
         Instr::Raise(reason) => Operands::Number(reason_number(reason)),
         _ => Operands::Nothing,
     }
@@ -98,12 +105,8 @@ pub(crate) fn operands_of(instr: Instr) -> Operands
             Operands::Three(a, b, c)
         }
         Instr::Fill(n, v) => Operands::Both(i64::from(n), v),
-        Instr::Range(lo, hi) => Operands::Both(lo, hi),
-        Instr::SetL(n, lo, hi) => Operands::Bounded(n, lo, hi),
-        Instr::AddI(v, base) => Operands::Both(v, i64::from(bits_of(base))),
-        Instr::SubI(v, base) => Operands::Both(v, i64::from(bits_of(base))),
-        Instr::MulI(v, base) => Operands::Both(v, i64::from(bits_of(base))),
-        Instr::ModI(v, base) => Operands::Both(v, i64::from(bits_of(base))),
+        Instr::Range(lo, hi) | Instr::URange(lo, hi) => Operands::Both(lo, hi),
+        Instr::SetL(n, lo, hi) | Instr::USetL(n, lo, hi) => Operands::Bounded(n, lo, hi),
         Instr::Index(lo, hi, size) | Instr::Item(lo, hi, size) => Operands::Indexed(lo, hi, size),
         Instr::IndexL(n, lo, hi, size) | Instr::ItemL(n, lo, hi, size) => {
             Operands::Found(n, lo, hi, size)

@@ -4,6 +4,7 @@ ghost use Rattle.std.specs.Prelude.{◌≡◌, ◌<◌, ◌↔◌, true, slice_g
 ghost use Rattle.stack_code.specs.Valid.{Has, CallsFunction, ForksFold, FollowsFold, Belongs, HasFrame, outward};
 
 use crate::bodies::{frame_exceeds, is_callee, is_thread, outward};
+use crate::ranges::{are_digits, is_range};
 use stack_code::{Around, Code, Instr, SiteKind};
 
 fn calls_function(kind: SiteKind) -> bool
@@ -97,6 +98,7 @@ pub(crate) fn belongs(code: &Code, at: usize, body: Around, instr: Instr) -> boo
         | Instr::LoadL(cell)
         | Instr::StoreL(cell)
         | Instr::SetL(cell, _, _)
+        | Instr::USetL(cell, _, _)
         | Instr::IndexL(cell, _, _, _)
         | Instr::ItemL(cell, _, _, _) => frame_exceeds(code, body, cell),
         Instr::Outer(steps, cell) | Instr::LoadO(steps, cell) | Instr::StoreO(steps, cell) => {
@@ -121,6 +123,20 @@ pub(crate) fn belongs(code: &Code, at: usize, body: Around, instr: Instr) -> boo
         Instr::Ret => is_callee(code, body, false),
         Instr::RetV => is_callee(code, body, true),
         Instr::Halt => body == Around::Sub(0),
+        Instr::Add(base)
+        | Instr::Sub(base)
+        | Instr::Mul(base)
+        | Instr::Div(base)
+        | Instr::Mod(base)
+        | Instr::Rem(base)
+        | Instr::Pow(base)
+        | Instr::Neg(base)
+        | Instr::Abs(base)
+        | Instr::AddI(_, base)
+        | Instr::SubI(_, base)
+        | Instr::MulI(_, base)
+        | Instr::ModI(_, base) => is_range(base),
+        Instr::BNot(digits) => are_digits(digits),
         _ => true,
     }
 }

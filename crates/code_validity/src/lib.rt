@@ -6,6 +6,7 @@ pub mod belonging;
 pub mod bodies;
 pub mod fitting;
 pub mod operands;
+pub mod ranges;
 pub mod slack;
 pub mod tables;
 pub mod validity;

@@ -78,7 +78,11 @@ pub(crate) fn takes_of(code: &Code, instr: Instr) -> u32
         | Instr::ModI(_, _)
         | Instr::IndexL(_, _, _, _)
         | Instr::ItemL(_, _, _, _)
-        | Instr::Flip => 1,
+        | Instr::Flip
+        | Instr::BNot(_)
+        | Instr::URange(_, _)
+        | Instr::USetL(_, _, _)
+        | Instr::UImg => 1,
         Instr::Item(_, _, _)
         | Instr::Differ
         | Instr::JfEq(_)
@@ -109,7 +113,13 @@ pub(crate) fn takes_of(code: &Code, instr: Instr) -> u32
         | Instr::Far(_)
         | Instr::And
         | Instr::Or
-        | Instr::Xor => 2,
+        | Instr::Xor
+        | Instr::ULt
+        | Instr::ULe
+        | Instr::UGt
+        | Instr::UGe
+        | Instr::UMax
+        | Instr::UMin => 2,
         Instr::Fork(_) => 5,
         Instr::Call(sub) => taken_by(code, sub),
         _ => 0,
@@ -167,7 +177,15 @@ pub(crate) fn pushes_of(code: &Code, instr: Instr) -> u32
         | Instr::IndexG(_, _, _, _, _)
         | Instr::ItemG(_, _, _, _, _)
         | Instr::Flip
-        | Instr::Differ => 1,
+        | Instr::Differ
+        | Instr::BNot(_)
+        | Instr::ULt
+        | Instr::ULe
+        | Instr::UGt
+        | Instr::UGe
+        | Instr::UMax
+        | Instr::UMin
+        | Instr::URange(_, _) => 1,
         Instr::Dup | Instr::Swap | Instr::Part => 2,
         Instr::Call(sub) | Instr::CallAt(sub, _) | Instr::CallTo(sub, _, _) => given_by(code, sub),
         Instr::Fork(site) => answered_by(code, site),

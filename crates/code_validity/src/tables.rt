@@ -4,6 +4,7 @@ ghost use Rattle.std.specs.Prelude.{◌↔◌, IsTrue};
 ghost use Rattle.stack_code.specs.Valid.{Each, HandlerFits, HasMain, IsEarlier, Lands, LeaseFits, SiteFits, SubFits};
 
 use crate::bodies::outward;
+use crate::ranges::fold_fits;
 use stack_code::{Around, Code, CodeSite, CodeSub, Lease, Unwind};
 
 fn enters_site(code: &Code, number: usize, entry: u32) -> bool
@@ -61,6 +62,7 @@ fn leases_fit(code: &Code, around: Around, leases: &[Lease]) -> bool
     true
 }
 
+#[tactic(auto, using(crate::proofs::Sites::site_whole))]
 fn site_fits(code: &Code, number: usize, site: &CodeSite) -> bool
     ensures { IsTrue result ↔ SiteFits code.now number site.now }
 {
@@ -73,11 +75,14 @@ fn site_fits(code: &Code, number: usize, site: &CodeSite) -> bool
     if !is_earlier(code, number, site.around) {
         return false;
     }
+    if !fold_fits(site.kind) {
+        return false;
+    }
     leases_fit(code, site.around, site.leases.as_slice())
 }
 
-/// Whether each construct's entry is where its threads begin, its frame has the four cells of a thread, and it stands in
-/// an earlier body with its leases.
+/// Whether each construct's entry is where its threads begin, its frame has the four cells of a thread, it stands in an
+/// earlier body with its leases, and its operator has a base range of code.
 pub(crate) fn sites_fit(code: &Code) -> bool
     ensures { IsTrue result ↔ Each code.now.sites (SiteFits code.now) }
 {

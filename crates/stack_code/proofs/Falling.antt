@@ -17,9 +17,9 @@ use Rattle.stack_code.specs.declared.flow.Flow.TheVariants.{On, To, Branch, Back
 use Rattle.stack_code.specs.Operands.{flow_of}
 use Rattle.stack_code.specs.Valid.{IsValid}
 use Rattle.ada_base.specs.Cells.{Cell, seen, written}
-use Rattle.stack_code.specs.Deeds.{Deed, Lacks, GoesOn, Fails, Loads, Stores, Turns, Calls, CallsAt, Combines, Draws, Repeats, Rounds, Ends, Leaves, Forks, Nests, Unnests, Writes, Sends, Gets, Gives, deed_of}
+use Rattle.stack_code.specs.Deeds.{Deed, Lacks, GoesOn, Fails, Loads, Stores, Points, Turns, Calls, CallsAt, Combines, Draws, Repeats, Rounds, Ends, Leaves, Forks, Nests, Unnests, Writes, Sends, Gets, Gives, deed_of}
 use Rattle.stack_code.specs.Fits.{IsFit, IsNext, IsCalm}
-use Rattle.stack_code.specs.Machine.{Frame, State, Went, Goes, Stops, Spent, look_by, look, with_value, with_cells, cut, on, moved_to, failed, entered, entered_at, ended, pushed_for, entry_of, handled, unwound, raised, turned, entering, calling, entering_at, calling_at, combining, drawing, another, rounding, ending, nesting, done, acted, stepped, step}
+use Rattle.stack_code.specs.Machine.{Frame, State, Went, Goes, Stops, Spent, points, if_pointing, look_by, look, with_value, with_cells, cut, on, moved_to, failed, entered, entered_at, ended, pushed_for, entry_of, handled, unwound, raised, turned, entering, calling, entering_at, calling_at, combining, drawing, another, rounding, ending, nesting, done, acted, stepped, step}
 use Rattle.stack_code.specs.Stands.{Stands, IsForward, IsTarget, wait, cost, cost_from, cost_of_rounds, cost_of_waiting, way, rank, Falls}
 use Rattle.stack_code.proofs.Standing.{Here, here_of, fit_of, entry_holds, instr_there}
 
@@ -96,6 +96,10 @@ module _ (c : Code) (low : Around) (limit : ℕ) where
   cells_falls : (o : Option (List Cell)) (r : ℕ) (s : State) (k : State → Went) → s.turns ≤ limit → ((cells : List Cell) → Falls c limit r (k (record s { cells = cells }))) → Falls c limit r (with_cells o s k)
   cells_falls None r s k t h = t
   cells_falls (Some cells) r s k t h = h cells
+
+  pointing_falls : (b : Bool) (r : ℕ) (s : State) (w : Went) → s.turns ≤ limit → Falls c limit r w → Falls c limit r (if_pointing b s w)
+  pointing_falls true r s w t h = h
+  pointing_falls false r s w t h = t
 
   look_falls : (o : Option ℕ) (r : ℕ) (s : State) (k : State → Went) → s.turns ≤ limit → ((l : Option ℕ) → Falls c limit r (k (record s { left = l }))) → Falls c limit r (look_by o s k)
   look_falls None r s k t h = h s.left
@@ -237,6 +241,7 @@ module _ (c : Code) (low : Around) (limit : ℕ) where
       where
         here_cells : (s : State) (i : Instr) (cells : List Cell) → Here c low valid s i → Here c low valid (record s { cells = cells }) i
         here_cells s i cells h = record { spot = h.spot; at = h.at; instr = h.instr; fits = h.fits; height = h.height; calm = h.calm; nest = h.nest; within = h.within; chain = h.chain }
+    done_falls (Points a d) s r i h f l e = pointing_falls (points s.cells a) r s (done limit d s) l (done_falls d s r i h f l e)
     done_falls Turns s r i h f l e = subst (λ n. Falls c limit n (turned limit s (λ s. Goes (on s.stack s)))) e
         (turned_falls (rank c limit s) s (λ s. Goes (on s.stack s)) l (λ left t. (fewer s (on s.stack (record s { left = left; turns = s.turns + 1 })) (omega (arith, t)) (omega arith), omega (arith, t))))
     done_falls (Calls f) s r i h w l e = subst (λ n. Falls c limit n (calling limit f (s.pc + 1) s.kept s)) e (calling_falls s f (s.pc + 1) s.kept l)

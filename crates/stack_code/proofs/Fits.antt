@@ -1,16 +1,16 @@
 -- Each instruction that finds its operands does a deed that fits.
 use Rattle.std.proofs.Common.{◌≡◌, ℕ, zero, suc, ◌+◌, ◌-◌, ◌<◌, ◌≤◌, ℤ, pos, ◌+ℤ◌, ◌-ℤ◌, replicate, List, [], ◌∷◌, length, get_or, Option, Some, None, Bool, true, false, cond, refl, sym, ap, subst, inl, inr, arith}
-use Rattle.std.specs.Prelude.{slice_get, IsSome}
+use Rattle.std.specs.Prelude.{slice_get, IsSome, not}
 use Rattle.std.proofs.lemmas.Option.{slice_get-get_or}
 use Rattle.std.proofs.lemmas.Bool.{false≢true}
 use Rattle.stack_code.specs.declared.code.Code.{Code}
 use Rattle.stack_code.specs.declared.code.CodeSub.{CodeSub}
 use Rattle.stack_code.specs.declared.instr.Instr.{Instr}
-use Rattle.stack_code.specs.declared.instr.Instr.TheVariants.{Push, Pop, Dup, Swap, Local, Outer, Global, Index, Field, Load, Store, Copy, Fill, Add, Sub, Mul, Div, Mod, Rem, Pow, Neg, Abs, Max, Min, Eq, Ne, Lt, Le, Gt, Ge, Far, And, Or, Xor, Not, Range, Jump, JFalse, JTrue, Turn, Call, CallAt, CallTo, Ret, RetV, Raise, Reraise, Exit, Leave as LeaveNow, LeaveV, Fork, Nest, Unnest, Words, Img, Bool as BoolImage, Wide, Send, SendLn, Get, End, EndV, Halt, Combine, Part, Repeat, Again, LoadL, LoadO, LoadG, StoreL, StoreO, StoreG, SetL, AddI, SubI, MulI, ModI, IndexL, Item, ItemL, IndexG, ItemG, JfEq, JfNe, JfLt, JfLe, JfGt, JfGe, Next, Prior, Flip, Differ}
+use Rattle.stack_code.specs.declared.instr.Instr.TheVariants.{Push, Pop, Dup, Swap, Local, Outer, Global, Index, Field, Load, Store, Copy, Fill, Add, Sub, Mul, Div, Mod, Rem, Pow, Neg, Abs, Max, Min, Eq, Ne, Lt, Le, Gt, Ge, Far, And, Or, Xor, Not, Range, Jump, JFalse, JTrue, Turn, Call, CallAt, CallTo, Ret, RetV, Raise, Reraise, Exit, Leave as LeaveNow, LeaveV, Fork, Nest, Unnest, Words, Img, Bool as BoolImage, Wide, Send, SendLn, Get, End, EndV, Halt, Combine, Part, Repeat, Again, LoadL, LoadO, LoadG, StoreL, StoreO, StoreG, SetL, AddI, SubI, MulI, ModI, IndexL, Item, ItemL, IndexG, ItemG, JfEq, JfNe, JfLt, JfLe, JfGt, JfGe, Next, Prior, Flip, Differ, BNot, ULt, ULe, UGt, UGe, UMax, UMin, URange, USetL, UImg}
 use Rattle.stack_code.specs.declared.path.Asked.{Asked}
 use Rattle.stack_code.specs.declared.flow.Flow.TheVariants.{On, Branch}
 use Rattle.stack_code.specs.Operands.{takes, pushes, flow_of}
-use Rattle.stack_code.specs.Deeds.{Deed, GoesOn, Fails, Forks, on_one, on_two, pushed, unary, binary, unless, cell_of_frame, load_from, load_of_frame, store_to, store_of_frame, item_at, stored, if_between, stepped, loads_all, stores_all, called, called_at, combining, can_fork, many, asked, forked, deed_of, truth, differ, bit, indexed, is_related}
+use Rattle.stack_code.specs.Deeds.{Deed, GoesOn, Fails, Forks, on_one, on_two, pushed, unary, binary, unless, cell_of_frame, load_from, load_of_frame, store_to, store_of_frame, item_at, pointed, stored, if_between, if_among, complemented, stepped, loads_all, stores_all, called, called_at, combining, can_fork, many, asked, forked, deed_of, truth, differ, bit, indexed, is_related}
 use Rattle.stack_code.specs.declared.operators.Relation.{Relation}
 use Rattle.stack_code.specs.declared.operators.Relation.TheVariants.{Equal, Unequal, Less, AtMost, Greater, AtLeast}
 use Rattle.ada_base.specs.declared.reason.Reason.TheVariants.{StorageError}
@@ -59,6 +59,11 @@ module _ (c : Code) (pc : ℕ) (i : Instr) (calm : IsCalm i) where
   stored_fit : (st rest : List ℤ) (a : ℤ) (v : Option ℤ) → takes c i + length rest ≡ length st → pushes c i ≡ 0 → flow_of i ≡ On → IsFit c pc st i (stored pc a v rest)
   stored_fit st rest a (Some v) l p f = (omega (arith, l, p), next_fit f, calm)
   stored_fit st rest a None l p f = (omega (arith, l), calm)
+
+  -- an address is pushed in the place of the operands
+  pointed_fit : (st rest : List ℤ) (a : Option ℤ) → takes c i + length rest ≡ length st → pushes c i ≡ 1 → flow_of i ≡ On → IsFit c pc st i (pointed pc a rest)
+  pointed_fit st rest (Some a) l p f = (omega (arith, l, p), next_fit f, calm)
+  pointed_fit st rest None l p f = (omega (arith, l), calm)
 
   item_fit : (st rest : List ℤ) (a : Option ℤ) → takes c i + length rest ≡ length st → pushes c i ≡ 1 → flow_of i ≡ On → IsFit c pc st i (item_at pc a rest)
   item_fit st rest (Some a) l p f = load_fit st rest a l p f
@@ -115,8 +120,8 @@ fits c pc st base outward Swap l h = two_fit c pc Swap tt st _ l (λ x y rest. (
 fits c pc st base outward (Local n) l h = (omega arith, refl, tt)
 fits c pc st base outward (Outer k n) l h = cell_fit c pc (Outer k n) tt st outward k n h refl refl refl
 fits c pc st base outward (Global n) l h = (omega arith, refl, tt)
-fits c pc st base outward (Index lo hi size) l h = binary_fit c pc (Index lo hi size) tt st _ l refl refl refl
-fits c pc st base outward (Field n) l h = unary_fit c pc (Field n) tt st (λ a. Some (a +ℤ pos n)) l refl refl refl
+fits c pc st base outward (Index lo hi size) l h = two_fit c pc (Index lo hi size) tt st _ l (λ x y rest. pointed_fit c pc (Index lo hi size) tt (y ∷ x ∷ rest) rest (indexed lo hi size x y) (omega arith) refl refl)
+fits c pc st base outward (Field n) l h = one_fit c pc (Field n) tt st _ l (λ x rest. (omega arith, refl, tt))
 fits c pc st base outward Load l h = one_fit c pc Load tt st _ l (λ x rest. load_fit c pc Load tt (x ∷ rest) rest x (omega arith) refl refl)
 fits c pc st base outward Store l h = two_fit c pc Store tt st _ l (λ x y rest. (omega arith, refl, tt))
 fits c pc st base outward (Copy n) l h = two_fit c pc (Copy n) tt st _ l (λ x y rest. loads_fit c pc (Copy n) tt (y ∷ x ∷ rest) n y (λ vs. stores_all vs x (GoesOn (pc + 1) rest)) (λ vs. stores_fit c pc (Copy n) tt (y ∷ x ∷ rest) vs x (GoesOn (pc + 1) rest) (omega arith, refl, tt)))
@@ -186,10 +191,10 @@ fits c pc st base outward (AddI v kind) l h = unary_fit c pc (AddI v kind) tt st
 fits c pc st base outward (SubI v kind) l h = unary_fit c pc (SubI v kind) tt st _ l refl refl refl
 fits c pc st base outward (MulI v kind) l h = unary_fit c pc (MulI v kind) tt st _ l refl refl refl
 fits c pc st base outward (ModI v kind) l h = unary_fit c pc (ModI v kind) tt st _ l refl refl refl
-fits c pc st base outward (IndexL n lo hi size) l h = λ k. unary_fit c pc (IndexL n lo hi size) tt st _ l refl refl refl
+fits c pc st base outward (IndexL n lo hi size) l h = λ k. one_fit c pc (IndexL n lo hi size) tt st _ l (λ x rest. pointed_fit c pc (IndexL n lo hi size) tt (x ∷ rest) rest (indexed lo hi size x k) (omega arith) refl refl)
 fits c pc st base outward (Item lo hi size) l h = two_fit c pc (Item lo hi size) tt st _ l (λ x y rest. item_fit c pc (Item lo hi size) tt (y ∷ x ∷ rest) rest (indexed lo hi size x y) (omega arith) refl refl)
 fits c pc st base outward (ItemL n lo hi size) l h = λ k. one_fit c pc (ItemL n lo hi size) tt st _ l (λ x rest. item_fit c pc (ItemL n lo hi size) tt (x ∷ rest) rest (indexed lo hi size x k) (omega arith) refl refl)
-fits c pc st base outward (IndexG g lo hi size n) l h = λ k. pushed_fit c pc (IndexG g lo hi size n) tt st st (indexed lo hi size (pos g) k) (omega arith) refl refl
+fits c pc st base outward (IndexG g lo hi size n) l h = λ k. pointed_fit c pc (IndexG g lo hi size n) tt st st (indexed lo hi size (pos g) k) (omega arith) refl refl
 fits c pc st base outward (ItemG g lo hi size n) l h = λ k. item_fit c pc (ItemG g lo hi size n) tt st st (indexed lo hi size (pos g) k) (omega arith) refl refl
 fits c pc st base outward (JfEq to) l h = unless_fit c pc (JfEq to) tt st Equal to l refl refl refl
 fits c pc st base outward (JfNe to) l h = unless_fit c pc (JfNe to) tt st Unequal to l refl refl refl
@@ -199,5 +204,15 @@ fits c pc st base outward (JfGt to) l h = unless_fit c pc (JfGt to) tt st Greate
 fits c pc st base outward (JfGe to) l h = unless_fit c pc (JfGe to) tt st AtLeast to l refl refl refl
 fits c pc st base outward (Next n m to) l h = λ x y. stepped_fit c pc (Next n m to) tt st _ _ _ to refl refl refl
 fits c pc st base outward (Prior n m to) l h = λ x y. stepped_fit c pc (Prior n m to) tt st _ _ _ to refl refl refl
-fits c pc st base outward Flip l h = unary_fit c pc Flip tt st (λ x. Some (pos 1 -ℤ x)) l refl refl refl
+fits c pc st base outward Flip l h = unary_fit c pc Flip tt st (λ x. Some (bit (not (truth x)))) l refl refl refl
 fits c pc st base outward Differ l h = binary_fit c pc Differ tt st (λ x y. Some (bit (differ (truth x) (truth y)))) l refl refl refl
+fits c pc st base outward (BNot k) l h = unary_fit c pc (BNot k) tt st (λ x. Some (complemented k x)) l refl refl refl
+fits c pc st base outward ULt l h = two_fit c pc ULt tt st _ l (λ x y rest. (omega arith, refl, tt))
+fits c pc st base outward ULe l h = two_fit c pc ULe tt st _ l (λ x y rest. (omega arith, refl, tt))
+fits c pc st base outward UGt l h = two_fit c pc UGt tt st _ l (λ x y rest. (omega arith, refl, tt))
+fits c pc st base outward UGe l h = two_fit c pc UGe tt st _ l (λ x y rest. (omega arith, refl, tt))
+fits c pc st base outward UMax l h = two_fit c pc UMax tt st _ l (λ x y rest. (omega arith, refl, tt))
+fits c pc st base outward UMin l h = two_fit c pc UMin tt st _ l (λ x y rest. (omega arith, refl, tt))
+fits c pc st base outward (URange lo hi) l h = unary_fit c pc (URange lo hi) tt st _ l refl refl refl
+fits c pc st base outward (USetL n lo hi) l h = one_fit c pc (USetL n lo hi) tt st _ l (λ x rest. stored_fit c pc (USetL n lo hi) tt (x ∷ rest) rest (pos (base + n)) (if_among lo hi x) (omega arith) refl refl)
+fits c pc st base outward UImg l h = one_fit c pc UImg tt st _ l (λ x rest. (omega arith, refl, tt))

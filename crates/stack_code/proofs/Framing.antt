@@ -1,6 +1,6 @@
 -- A path on cells some of which are gone does the same on a memory that has them.
 use Rattle.std.proofs.Common.{◌≡◌, ℕ, zero, suc, ◌+◌, ◌-◌, ◌≤◌, ℤ, pos, negsuc, List, [], ◌∷◌, ◌++◌, length, take, Option, Some, None, Bool, true, false, cond, refl, sym, ap, ◌∙◌, subst, arith}
-use Rattle.std.specs.Prelude.{slice_get, set, nat_eq, nat_lt}
+use Rattle.std.specs.Prelude.{slice_get, set, nat_eq, nat_lt, nat_le}
 use Rattle.std.proofs.lemmas.List.{length-append, length-take}
 use Rattle.ada_base.specs.declared.reason.Reason.{Reason}
 use Rattle.ada_base.specs.declared.reason.Reason.TheVariants.{ConstraintError, StorageError}
@@ -10,8 +10,8 @@ use Rattle.stack_code.specs.declared.code.Unwind.{Unwind}
 use Rattle.stack_code.specs.declared.instr.Instr.{Instr}
 use Rattle.stack_code.specs.declared.path.Round.{Round}
 use Rattle.ada_base.specs.Cells.{Cell, Gone, Seen, Mine, value_in, where_mine, seen, written, zeros}
-use Rattle.stack_code.specs.Deeds.{Deed, Lacks, GoesOn, Fails, Loads, Stores, Turns, Calls, CallsAt, Combines, Draws, Repeats, Rounds, Ends, Leaves, Forks, Nests, Unnests, Writes, Sends, Gets, Gives, deed_of}
-use Rattle.stack_code.specs.Machine.{Frame, State, Went, Goes, Stops, Stop, Done, Left, Asks, Constructs, Spent, Cut, Stuck, Astray, look_by, with_value, with_cells, cut, on, moved_to, failed, entered, entered_at, ended, pushed_for, entry_of, handled, unwound, raised, turned, entering, entering_at, combining, drawing, another, rounding, ending, nesting, done, acted, stepped, step, going, run}
+use Rattle.stack_code.specs.Deeds.{Deed, Lacks, GoesOn, Fails, Loads, Stores, Points, Turns, Calls, CallsAt, Combines, Draws, Repeats, Rounds, Ends, Leaves, Forks, Nests, Unnests, Writes, Sends, Gets, Gives, deed_of}
+use Rattle.stack_code.specs.Machine.{Frame, State, Went, Goes, Stops, Stop, Done, Left, Asks, Constructs, Spent, Cut, Stuck, Astray, points, if_pointing, look_by, with_value, with_cells, cut, on, moved_to, failed, entered, entered_at, ended, pushed_for, entry_of, handled, unwound, raised, turned, entering, entering_at, combining, drawing, another, rounding, ending, nesting, done, acted, stepped, step, going, run}
 use Rattle.stack_code.specs.Framed.{fill, Shown, Above, Framed, filled, Same}
 
 -- ---- cells
@@ -90,6 +90,10 @@ written_fill xs ys (pos n) v w h e =
       ap length (sym m.2) ∙ set_length xs n (Mine v),
     )
 
+points_fill : (xs ys : List Cell) (a : ℤ) → points (fill xs ys) a ≡ points xs a
+points_fill xs ys (pos n) = ap (λ k. nat_le n k) (fill_length xs ys)
+points_fill xs ys (negsuc n) = refl
+
 append_fill : (xs ys zs : List Cell) → length ys ≤ length xs → fill xs ys ++ zs ≡ fill (xs ++ zs) ys
 append_fill [] [] zs l = fill_none zs
   where
@@ -140,6 +144,10 @@ module _ (outer : List Cell) where
       let r = written_fill s.cells outer a v w h.shown e in
       subst (λ o. Same outer (k (record s { cells = w })) (with_cells o (filled outer s) k)) (sym r.0)
       (f w (record { shown = r.1; long = omega (arith, r.2, h.long); above = h.above }))
+
+  pointing_same : (b : Bool) (s : State) (x y : Went) → Same outer x y → Same outer (if_pointing b s x) (if_pointing b (filled outer s) y)
+  pointing_same true s x y h = h
+  pointing_same false s x y h = tt
 
   cond_same : (b : Bool) (x y x' y' : Went) → Same outer x x' → Same outer y y' → Same outer (cond b x y) (cond b x' y')
   cond_same true x y x' y' h g = h
@@ -224,6 +232,7 @@ module _ (outer : List Cell) where
     done_same (Fails r st) s h = (refl, moved s (failed r st s) h refl refl)
     done_same (Loads a k) s h = value_same s a (seen s.cells a) (λ v. done limit (k v) s) (λ v. done limit (k v) (filled outer s)) h refl (λ v. done_same (k v) s h)
     done_same (Stores a v d) s h = cells_same s a v (written s.cells a v) (λ s. done limit d s) h refl (λ w g. done_same d (record s { cells = w }) g)
+    done_same (Points a d) s h = subst (λ b. Same outer (done limit (Points a d) s) (if_pointing b (filled outer s) (done limit d (filled outer s)))) (sym (points_fill s.cells outer a)) (pointing_same (points s.cells a) s (done limit d s) (done limit d (filled outer s)) (done_same d s h))
     done_same Turns s h = turned_same s (λ s. Goes (on s.stack s)) (λ l t. (refl, moved s (on s.stack (record s { left = l; turns = t })) h refl refl))
     done_same (Calls f) s h = turned_same s (λ x. entering limit f (s.pc + 1) s.kept x) (λ l t. entering_same f (s.pc + 1) s.kept (record s { left = l; turns = t }) (moved s (record s { left = l; turns = t }) h refl refl))
     done_same (CallsAt f n to fit st) s h = turned_same s (λ x. entering_at limit f n to fit (record x { stack = st })) (λ l t. entering_at_same f n to fit (record s { left = l; turns = t; stack = st }) (moved s (record s { left = l; turns = t; stack = st }) h refl refl))

@@ -8,8 +8,8 @@ use Rattle.stack_code.specs.declared.code.CodeSub.{CodeSub}
 use Rattle.stack_code.specs.declared.code.Unwind.{Unwind}
 use Rattle.stack_code.specs.declared.instr.Instr.{Instr}
 use Rattle.ada_base.specs.Cells.{Cell, seen, written}
-use Rattle.stack_code.specs.Deeds.{Deed, Lacks, GoesOn, Fails, Loads, Stores, Turns, Calls, CallsAt, Combines, Draws, Repeats, Rounds, Ends, Leaves, Forks, Nests, Unnests, Writes, Sends, Gets, Gives, deed_of}
-use Rattle.stack_code.specs.Machine.{Frame, State, Went, Goes, Stops, Stop, Done, Left, Asks, Constructs, Stuck, Astray, Spent, Cut, look_by, with_value, with_cells, cut, on, moved_to, failed, entered, entered_at, ended, pushed_for, entry_of, handled, unwound, raised, turned, entering, entering_at, combining, drawing, another, rounding, ending, nesting, done, acted, stepped, step, going, run, Comes, Comes_to}
+use Rattle.stack_code.specs.Deeds.{Deed, Lacks, GoesOn, Fails, Loads, Stores, Points, Turns, Calls, CallsAt, Combines, Draws, Repeats, Rounds, Ends, Leaves, Forks, Nests, Unnests, Writes, Sends, Gets, Gives, deed_of}
+use Rattle.stack_code.specs.Machine.{Frame, State, Went, Goes, Stops, Stop, Done, Left, Asks, Constructs, Stuck, Astray, Spent, Cut, points, if_pointing, look_by, with_value, with_cells, cut, on, moved_to, failed, entered, entered_at, ended, pushed_for, entry_of, handled, unwound, raised, turned, entering, entering_at, combining, drawing, another, rounding, ending, nesting, done, acted, stepped, step, going, run, Comes, Comes_to}
 use Rattle.stack_code.specs.declared.path.Io.TheVariants as io
 use Rattle.stack_code.specs.declared.path.Round.{Round}
 use Rattle.stack_code.specs.declared.path.Leave.TheVariants.{Raise as Raises}
@@ -31,6 +31,10 @@ value_counts (Some v) s k n f h = h v
 cells_counts : (o : Option (List Cell)) (s : State) (k : State → Went) (n : List Cell → ℕ) → ((w : List Cell) → Counts (k (record s { cells = w })) (n w) (λ m. k (counting m (record s { cells = w })))) → Counts (with_cells o s k) (cells_looks o n) (λ m. with_cells o (counting m s) k)
 cells_counts None s k n h = stops Stuck s _ (λ j. refl)
 cells_counts (Some w) s k n h = h w
+
+pointing_counts : (b : Bool) (s : State) (w : Went) (n : ℕ) (f : ℕ → Went) → Counts w n f → Counts (if_pointing b s w) (cond b n 0) (λ m. if_pointing b (counting m s) (f m))
+pointing_counts true s w n f h = h
+pointing_counts false s w n f h = stops Stuck s _ (λ j. refl)
 
 cond_counts : (b : Bool) (x y : Went) (n : ℕ) (f g : ℕ → Went) → Counts x n f → Counts y n g → Counts (cond b x y) n (λ m. cond b (f m) (g m))
 cond_counts true x y n f g h k = h
@@ -93,6 +97,7 @@ module _ (limit : ℕ) (c : Code) where
   done_counts (Fails r st) s e = still (failed r st s) _ e (λ j. refl)
   done_counts (Loads a k) s e = value_counts (seen s.cells a) s (λ v. done limit (k v) s) (λ v. deed_looks (k v) s) (λ v n. done limit (k v) (counting n s)) (λ v. done_counts (k v) s e)
   done_counts (Stores a v d) s e = cells_counts (written s.cells a v) s (λ s. done limit d s) (λ w. deed_looks d (record s { cells = w })) (λ w. done_counts d (record s { cells = w }) e)
+  done_counts (Points a d) s e = pointing_counts (points s.cells a) s (done limit d s) (deed_looks d s) (λ n. done limit d (counting n s)) (done_counts d s e)
   done_counts Turns s e = turned_counts s (λ s. Goes (on s.stack s)) e (still (on s.stack (record s { turns = s.turns + 1 })) _ e (λ j. refl))
   done_counts (Calls f) s e = turned_counts s (λ x. entering limit f (s.pc + 1) s.kept x) e (entering_counts f (s.pc + 1) s.kept (record s { turns = s.turns + 1 }) e)
   done_counts (CallsAt f n to fit st) s e = turned_counts s (λ x. entering_at limit f n to fit (record x { stack = st })) e (entering_at_counts f n to fit (record s { turns = s.turns + 1; stack = st }) e)

@@ -20,9 +20,9 @@ use Rattle.stack_code.specs.declared.flow.Flow.TheVariants.{On, To, Branch, Back
 use Rattle.stack_code.specs.Operands.{takes, taken_by, pushes, given_by, nest_after, flow_of}
 use Rattle.stack_code.specs.Valid.{Has, HasFrame, Lands, Leads, Belongs, SpotFits, IsValid, Holds, outward}
 use Rattle.ada_base.specs.Cells.{Cell, seen, written}
-use Rattle.stack_code.specs.Deeds.{Deed, Lacks, GoesOn, Fails, Loads, Stores, Turns, Calls, CallsAt, Combines, Draws, Repeats, Rounds, Ends, Leaves, Forks, Nests, Unnests, Writes, Sends, Gets, Gives, deed_of}
+use Rattle.stack_code.specs.Deeds.{Deed, Lacks, GoesOn, Fails, Loads, Stores, Points, Turns, Calls, CallsAt, Combines, Draws, Repeats, Rounds, Ends, Leaves, Forks, Nests, Unnests, Writes, Sends, Gets, Gives, deed_of}
 use Rattle.stack_code.specs.Fits.{Finds, IsCallAt, IsFit, IsNext, IsCalm, IsReturn}
-use Rattle.stack_code.specs.Machine.{Frame, State, Went, Goes, look_by, look, with_value, with_cells, cut, on, moved_to, failed, entered, entered_at, pushed_for, entry_of, handled, unwound, raised, turned, entering, calling, entering_at, calling_at, combining, drawing, another, rounding, ending, nesting, done, acted, stepped, step}
+use Rattle.stack_code.specs.Machine.{Frame, State, Went, Goes, points, if_pointing, look_by, look, with_value, with_cells, cut, on, moved_to, failed, entered, entered_at, pushed_for, entry_of, handled, unwound, raised, turned, entering, calling, entering_at, calling_at, combining, drawing, another, rounding, ending, nesting, done, acted, stepped, step}
 use Rattle.stack_code.specs.Stands.{IsOuter, IsCall, Waits, Chain, Height, StandsIn, Stands, Keeps}
 use Rattle.stack_code.proofs.Fits.{fits}
 
@@ -73,6 +73,10 @@ module _ (c : Code) (low : Around) where
   cells_keeps : (o : Option (List Cell)) (s : State) (k : State → Went) → ((cells : List Cell) → Keeps c low (k (record s { cells = cells }))) → Keeps c low (with_cells o s k)
   cells_keeps None s k h = tt
   cells_keeps (Some cells) s k h = h cells
+
+  pointing_keeps : (b : Bool) (s : State) (w : Went) → Keeps c low w → Keeps c low (if_pointing b s w)
+  pointing_keeps true s w h = h
+  pointing_keeps false s w h = tt
 
   look_keeps : (o : Option ℕ) (s : State) (k : State → Went) → ((l : Option ℕ) → Keeps c low (k (record s { left = l }))) → Keeps c low (look_by o s k)
   look_keeps None s k h = h s.left
@@ -345,6 +349,7 @@ module _ (c : Code) (low : Around) (valid : IsValid c) where
     where
       with_cells_here : (s : State) (i : Instr) (cells : List Cell) → Here s i → Here (record s { cells = cells }) i
       with_cells_here s i cells h = record { spot = h.spot; at = h.at; instr = h.instr; fits = h.fits; height = h.height; calm = h.calm; nest = h.nest; within = h.within; chain = h.chain }
+  done_keeps (Points a d) s i limit h f = pointing_keeps c low (points s.cells a) s (done limit d s) (done_keeps d s i limit h f)
   done_keeps Turns s i limit h f =
       let g : Here s Turn = subst (Here s) f h in
       turned_keeps c low limit s (λ s. Goes (on s.stack s)) (λ left turns. on_keeps s Turn (s.pc + 1) s.stack s.nest s.nested g refl refl refl g.within refl)

@@ -10,8 +10,8 @@ use Rattle.stack_code.specs.declared.code.CodeSub.{CodeSub}
 use Rattle.stack_code.specs.declared.code.Unwind.{Unwind}
 use Rattle.stack_code.specs.declared.instr.Instr.{Instr}
 use Rattle.stack_code.specs.declared.path.Round.{Round}
-use Rattle.stack_code.specs.Deeds.{Deed, Lacks, GoesOn, Fails, Loads, Stores, Turns, Calls, CallsAt, Combines, Draws, Repeats, Rounds, Ends, Leaves, Forks, Nests, Unnests, Writes, Sends, Gets, Gives, deed_of}
-use Rattle.stack_code.specs.Machine.{Frame, State, Went, Goes, Stops, Spent, look_by, with_value, with_cells, cut, on, moved_to, failed, entered, entered_at, ended, pushed_for, entry_of, handled, unwound, raised, turned, entering, entering_at, combining, drawing, another, rounding, ending, nesting, done, acted, stepped, step, going, run, Comes}
+use Rattle.stack_code.specs.Deeds.{Deed, Lacks, GoesOn, Fails, Loads, Stores, Points, Turns, Calls, CallsAt, Combines, Draws, Repeats, Rounds, Ends, Leaves, Forks, Nests, Unnests, Writes, Sends, Gets, Gives, deed_of}
+use Rattle.stack_code.specs.Machine.{Frame, State, Went, Goes, Stops, Spent, points, if_pointing, look_by, with_value, with_cells, cut, on, moved_to, failed, entered, entered_at, ended, pushed_for, entry_of, handled, unwound, raised, turned, entering, entering_at, combining, drawing, another, rounding, ending, nesting, done, acted, stepped, step, going, run, Comes}
 use Rattle.stack_code.specs.Tops.{AreTops, IsTopped, StaysTopped}
 use Rattle.stack_code.proofs.Framing.{mine_of, set_length}
 
@@ -31,6 +31,10 @@ module _ (low : ℕ) where
   cells_tops : (o : Option (List Cell)) (s : State) (k : State → Went) → IsTopped low s → ((w : List Cell) → o ≡ Some w → StaysTopped low (k (record s { cells = w }))) → StaysTopped low (with_cells o s k)
   cells_tops None s k t h = t
   cells_tops (Some w) s k t h = h w refl
+
+  pointing_tops : (b : Bool) (s : State) (w : Went) → IsTopped low s → StaysTopped low w → StaysTopped low (if_pointing b s w)
+  pointing_tops true s w t h = h
+  pointing_tops false s w t h = t
 
   cond_tops : (b : Bool) (x y : Went) → StaysTopped low x → StaysTopped low y → StaysTopped low (cond b x y)
   cond_tops true x y h g = h
@@ -88,6 +92,7 @@ module _ (low : ℕ) where
     done_tops (Loads a k) s t = value_tops (seen s.cells a) s (λ v. done limit (k v) s) t (λ v. done_tops (k v) s t)
     done_tops (Stores a v d) s t = cells_tops (written s.cells a v) s (λ s. done limit d s) t
         (λ w e. done_tops d (record s { cells = w }) (subst (AreTops low s.waiting) (sym (written_length s.cells a v w e)) t))
+    done_tops (Points a d) s t = pointing_tops (points s.cells a) s (done limit d s) t (done_tops d s t)
     done_tops Turns s t = turned_tops s (λ s. Goes (on s.stack s)) t (λ l n. t)
     done_tops (Calls f) s t = turned_tops s (λ x. entering limit f (s.pc + 1) s.kept x) t (λ l n. entering_tops f (s.pc + 1) s.kept (record s { left = l; turns = n }) t)
     done_tops (CallsAt f n to fit st) s t = turned_tops s (λ x. entering_at limit f n to fit (record x { stack = st })) t (λ l k. entering_at_tops f n to fit (record s { left = l; turns = k; stack = st }) t)

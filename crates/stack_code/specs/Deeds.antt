@@ -1,16 +1,17 @@
 -- What an instruction does, decoded: what it makes of the operands, which cells it reads and writes, and what else it asks
 -- for. The top of a stack comes first.
-use Rattle.std.specs.Prelude.{replicate, ℕ, zero, suc, ◌+◌, ◌-◌, ◌^◌, ℤ, pos, negsuc, ◌+ℤ◌, ◌-ℤ◌, ◌*ℤ◌, nat_abs, List, [], ◌∷◌, Option, Some, None, slice_get, Bool, true, false, cond, ◌&&◌, not, nat_le, int_le, int_lt, unwrap_or}
-use Rattle.std.specs.Int.{int_min, int_max, int_bit_and, int_bit_or, int_bit_xor, w64}
+use Rattle.std.specs.Prelude.{replicate, ℕ, zero, suc, ◌+◌, ◌-◌, ◌^◌, bit_and, bit_or, bit_xor, ℤ, pos, negsuc, neg_ℤ, ◌+ℤ◌, ◌-ℤ◌, ◌*ℤ◌, nat_abs, List, [], ◌∷◌, Option, Some, None, slice_get, Bool, true, false, cond, ◌&&◌, not, nat_le, int_le, int_lt, unwrap_or}
+use Rattle.std.specs.Int.{int_min, int_max}
 use Rattle.ada_base.specs.declared.operation.Base.{Base}
+use Rattle.ada_base.specs.declared.operation.Base.TheVariants.{Modulo}
 use Rattle.ada_base.specs.declared.operation.Op.{Op}
 use Rattle.ada_base.specs.declared.operation.Op.TheVariants as op
 use Rattle.ada_base.specs.declared.reason.Reason.{Reason}
 use Rattle.ada_base.specs.declared.reason.Reason.TheVariants.{ConstraintError, ProgramError, StorageError, DataError, EndError, Declared}
-use Rattle.ada_base.specs.Operation.{within, result_of}
+use Rattle.ada_base.specs.Operation.{turned, digits, modulus, reduced, unbounded, within, result_of}
 use Rattle.ada_base.specs.Image.{image, truth_image, padded}
 use Rattle.stack_code.specs.declared.instr.Instr.{Instr}
-use Rattle.stack_code.specs.declared.instr.Instr.TheVariants.{Push, Pop, Dup, Swap, Local, Outer, Global, Index, Field, Load, Store, Copy, Fill, Add, Sub, Mul, Div, Mod, Rem, Pow, Neg, Abs, Max, Min, Eq, Ne, Lt, Le, Gt, Ge, Far, And, Or, Xor, Not, Range, Jump, JFalse, JTrue, Turn, Call, CallAt, CallTo, Ret, RetV, Raise, Reraise, Exit, Leave as LeaveNow, LeaveV, Fork, Nest, Unnest, Words, Img, Bool as BoolImage, Wide, Send, SendLn, Get, End, EndV, Halt, Combine, Part, Repeat, Again, LoadL, LoadO, LoadG, StoreL, StoreO, StoreG, SetL, AddI, SubI, MulI, ModI, IndexL, Item, ItemL, IndexG, ItemG, JfEq, JfNe, JfLt, JfLe, JfGt, JfGe, Next, Prior, Flip, Differ}
+use Rattle.stack_code.specs.declared.instr.Instr.TheVariants.{Push, Pop, Dup, Swap, Local, Outer, Global, Index, Field, Load, Store, Copy, Fill, Add, Sub, Mul, Div, Mod, Rem, Pow, Neg, Abs, Max, Min, Eq, Ne, Lt, Le, Gt, Ge, Far, And, Or, Xor, Not, Range, Jump, JFalse, JTrue, Turn, Call, CallAt, CallTo, Ret, RetV, Raise, Reraise, Exit, Leave as LeaveNow, LeaveV, Fork, Nest, Unnest, Words, Img, Bool as BoolImage, Wide, Send, SendLn, Get, End, EndV, Halt, Combine, Part, Repeat, Again, LoadL, LoadO, LoadG, StoreL, StoreO, StoreG, SetL, AddI, SubI, MulI, ModI, IndexL, Item, ItemL, IndexG, ItemG, JfEq, JfNe, JfLt, JfLe, JfGt, JfGe, Next, Prior, Flip, Differ, BNot, ULt, ULe, UGt, UGe, UMax, UMin, URange, USetL, UImg}
 use Rattle.stack_code.specs.declared.code.Code.{Code}
 use Rattle.stack_code.specs.declared.operators.Relation.{Relation}
 use Rattle.stack_code.specs.declared.operators.Relation.TheVariants.{Equal, Unequal, Less, AtMost, Greater, AtLeast}
@@ -53,11 +54,16 @@ abbrev pub unless_divisor_zero : Bool → Option ℤ → Option ℤ
 unless_divisor_zero true z = Some (value_or_zero z)
 unless_divisor_zero false z = None
 
--- the operation (4.5) on any two numbers; None is Constraint_Error. A remainder can't overflow
+-- the operation (4.5) on any two numbers; None is Constraint_Error. The result of one that isn't of a modular type is tested
+-- against the base range; a remainder can't overflow
+abbrev pub on_range : Op → Base → ℤ → ℤ → Option ℤ
+on_range op.Mod kind x y = unless_divisor_zero (truth y) (within kind (unbounded op.Mod x y))
+on_range op.Rem kind x y = unless_divisor_zero (truth y) (within kind (unbounded op.Rem x y))
+on_range op kind x y = within kind (unbounded op x y)
+
 abbrev pub applied : Op → Base → ℤ → ℤ → Option ℤ
-applied op.Mod kind x y = unless_divisor_zero (truth y) (result_of op.Mod kind x y)
-applied op.Rem kind x y = unless_divisor_zero (truth y) (result_of op.Rem kind x y)
-applied op kind x y = result_of op kind x y
+applied op (Modulo k) x y = result_of op (Modulo k) x y
+applied op kind x y = on_range op kind x y
 
 abbrev pub differ : Bool → Bool → Bool
 differ true b = not b
@@ -71,10 +77,28 @@ is_related AtMost x y = int_le x y
 is_related Greater x y = int_lt y x
 is_related AtLeast x y = int_le y x
 
+-- on each of 64 binary digits of numbers of 64 bits, as numbers of a modular type have them
 abbrev pub digits_of : Digits → ℤ → ℤ → ℤ
-digits_of Both x y = int_bit_and w64 x y
-digits_of Either x y = int_bit_or w64 x y
-digits_of Differ x y = int_bit_xor w64 x y
+digits_of Both x y = turned (pos (bit_and (digits x) (digits y)))
+digits_of Either x y = turned (pos (bit_or (digits x) (digits y)))
+digits_of Differ x y = turned (pos (bit_xor (digits x) (digits y)))
+
+-- a number negated, and without its sign, where that lies in the base range; those of a modular type have no sign
+abbrev pub negated : Base → ℤ → Option ℤ
+negated (Modulo k) x = Some (turned (reduced k (neg_ℤ (turned x))))
+negated kind x = within kind (Some (pos 0 -ℤ x))
+
+abbrev pub unsigned : Base → ℤ → Option ℤ
+unsigned (Modulo k) x = Some x
+unsigned kind x = within kind (Some (pos (nat_abs x)))
+
+-- each of so many binary digits turned
+abbrev pub complemented : ℕ → ℤ → ℤ
+complemented k x = turned (reduced k (pos (modulus k - 1) -ℤ turned x))
+
+-- where it lies from least to greatest, all three as numbers of 64 binary digits
+abbrev pub if_among : ℤ → ℤ → ℤ → Option ℤ
+if_among lo hi z = cond (is_between (turned lo) (turned z) (turned hi)) (Some z) None
 
 -- the last is so many above the first, or more
 abbrev pub is_far : ℕ → (first last : ℤ) → Bool
@@ -97,6 +121,7 @@ pub data Deed : Type 0 where
   Fails : (reason : Reason) (stack : List ℤ) → Deed  -- raises an exception
   Loads : (address : ℤ) (onward : ℤ → Deed) → Deed  -- reads a cell
   Stores : (address value : ℤ) (onward : Deed) → Deed  -- writes a cell
+  Points : (address : ℤ) (onward : Deed) → Deed  -- moves an address that is a cell's or the memory's end
   Turns : Deed
   Calls : CodeSub → Deed
   -- with its frame from a cell of the own one on; it comes back to that instruction, and raises Constraint_Error unless
@@ -165,6 +190,11 @@ abbrev pub stored : ℕ → ℤ → Option ℤ → List ℤ → Deed
 stored pc address (Some v) st = Stores address v (GoesOn (pc + 1) st)
 stored pc address None st = Fails ConstraintError st
 
+-- pushes an address, or raises Constraint_Error
+abbrev pub pointed : ℕ → Option ℤ → List ℤ → Deed
+pointed pc (Some a) st = Points a (GoesOn (pc + 1) (a ∷ st))
+pointed pc None st = Fails ConstraintError st
+
 -- reads the cell at the address, or raises Constraint_Error
 abbrev pub item_at : ℕ → Option ℤ → List ℤ → Deed
 item_at pc (Some a) st = load_from pc st a
@@ -231,8 +261,8 @@ deed_of c pc st base outward Swap = on_two st (λ x y st. GoesOn (pc + 1) (x ∷
 deed_of c pc st base outward (Local n) = GoesOn (pc + 1) (pos (base + n) ∷ st)
 deed_of c pc st base outward (Outer k n) = cell_of_frame pc st (slice_get outward (k - 1)) n
 deed_of c pc st base outward (Global n) = GoesOn (pc + 1) (pos n ∷ st)
-deed_of c pc st base outward (Index lo hi size) = binary pc st (λ a i. indexed lo hi size a i)
-deed_of c pc st base outward (Field n) = unary pc st (λ a. Some (a +ℤ pos n))
+deed_of c pc st base outward (Index lo hi size) = on_two st (λ a i st. pointed pc (indexed lo hi size a i) st)
+deed_of c pc st base outward (Field n) = on_one st (λ a st. Points a (GoesOn (pc + 1) ((a +ℤ pos n) ∷ st)))
 deed_of c pc st base outward Load = on_one st (λ a st. load_from pc st a)
 deed_of c pc st base outward Store = on_two st (λ a v st. Stores a v (GoesOn (pc + 1) st))
 deed_of c pc st base outward (Copy n) = on_two st (λ target source st. loads_all n source (λ vs. stores_all vs target (GoesOn (pc + 1) st)))
@@ -244,8 +274,8 @@ deed_of c pc st base outward (Div kind) = binary pc st (λ x y. applied op.Div k
 deed_of c pc st base outward (Mod kind) = binary pc st (λ x y. applied op.Mod kind x y)
 deed_of c pc st base outward (Rem kind) = binary pc st (λ x y. applied op.Rem kind x y)
 deed_of c pc st base outward (Pow kind) = binary pc st (λ x y. applied op.Pow kind x y)
-deed_of c pc st base outward (Neg kind) = unary pc st (λ x. within kind (Some (pos 0 -ℤ x)))
-deed_of c pc st base outward (Abs kind) = unary pc st (λ x. within kind (Some (pos (nat_abs x))))
+deed_of c pc st base outward (Neg kind) = unary pc st (λ x. negated kind x)
+deed_of c pc st base outward (Abs kind) = unary pc st (λ x. unsigned kind x)
 deed_of c pc st base outward Max = binary pc st (λ x y. Some (int_max x y))
 deed_of c pc st base outward Min = binary pc st (λ x y. Some (int_min x y))
 deed_of c pc st base outward Eq = binary pc st (λ x y. Some (bit (is_related Equal x y)))
@@ -303,10 +333,10 @@ deed_of c pc st base outward (AddI v kind) = unary pc st (λ x. applied op.Add k
 deed_of c pc st base outward (SubI v kind) = unary pc st (λ x. applied op.Sub kind x v)
 deed_of c pc st base outward (MulI v kind) = unary pc st (λ x. applied op.Mul kind x v)
 deed_of c pc st base outward (ModI v kind) = unary pc st (λ x. applied op.Mod kind x v)
-deed_of c pc st base outward (IndexL n lo hi size) = Loads (pos (base + n)) (λ i. unary pc st (λ a. indexed lo hi size a i))
+deed_of c pc st base outward (IndexL n lo hi size) = Loads (pos (base + n)) (λ i. on_one st (λ a st. pointed pc (indexed lo hi size a i) st))
 deed_of c pc st base outward (Item lo hi size) = on_two st (λ a i st. item_at pc (indexed lo hi size a i) st)
 deed_of c pc st base outward (ItemL n lo hi size) = Loads (pos (base + n)) (λ i. on_one st (λ a st. item_at pc (indexed lo hi size a i) st))
-deed_of c pc st base outward (IndexG g lo hi size n) = Loads (pos (base + n)) (λ i. pushed pc (indexed lo hi size (pos g) i) st)
+deed_of c pc st base outward (IndexG g lo hi size n) = Loads (pos (base + n)) (λ i. pointed pc (indexed lo hi size (pos g) i) st)
 deed_of c pc st base outward (ItemG g lo hi size n) = Loads (pos (base + n)) (λ i. item_at pc (indexed lo hi size (pos g) i) st)
 deed_of c pc st base outward (JfEq to) = unless pc st Equal to
 deed_of c pc st base outward (JfNe to) = unless pc st Unequal to
@@ -316,5 +346,16 @@ deed_of c pc st base outward (JfGt to) = unless pc st Greater to
 deed_of c pc st base outward (JfGe to) = unless pc st AtLeast to
 deed_of c pc st base outward (Next n m to) = Loads (pos (base + n)) (λ x. Loads (pos (base + m)) (λ y. stepped pc st (pos (base + n)) (int_lt x y) (x +ℤ pos 1) to))
 deed_of c pc st base outward (Prior n m to) = Loads (pos (base + n)) (λ x. Loads (pos (base + m)) (λ y. stepped pc st (pos (base + n)) (int_lt y x) (x -ℤ pos 1) to))
-deed_of c pc st base outward Flip = unary pc st (λ x. Some (pos 1 -ℤ x))
+deed_of c pc st base outward Flip = unary pc st (λ x. Some (bit (not (truth x))))
 deed_of c pc st base outward Differ = binary pc st (λ x y. Some (bit (differ (truth x) (truth y))))
+-- on numbers of modular types
+deed_of c pc st base outward (BNot k) = unary pc st (λ x. Some (complemented k x))
+deed_of c pc st base outward ULt = binary pc st (λ x y. Some (bit (is_related Less (turned x) (turned y))))
+deed_of c pc st base outward ULe = binary pc st (λ x y. Some (bit (is_related AtMost (turned x) (turned y))))
+deed_of c pc st base outward UGt = binary pc st (λ x y. Some (bit (is_related Greater (turned x) (turned y))))
+deed_of c pc st base outward UGe = binary pc st (λ x y. Some (bit (is_related AtLeast (turned x) (turned y))))
+deed_of c pc st base outward UMax = binary pc st (λ x y. result_of op.Max (Modulo 64) x y)
+deed_of c pc st base outward UMin = binary pc st (λ x y. result_of op.Min (Modulo 64) x y)
+deed_of c pc st base outward (URange lo hi) = unary pc st (λ x. if_among lo hi x)
+deed_of c pc st base outward (USetL n lo hi) = on_one st (λ v st. stored pc (pos (base + n)) (if_among lo hi v) st)
+deed_of c pc st base outward UImg = on_one st (λ x st. Writes (image (turned x)) st)

@@ -6,7 +6,7 @@ use Rattle.stack_code.specs.declared.instr.Instr.TheVariants.{Outer, LoadO, Stor
 use Rattle.stack_code.specs.declared.flow.Flow.{Flow}
 use Rattle.stack_code.specs.declared.flow.Flow.TheVariants.{On, To, Branch, Back, Round, Ends as Nowhere}
 use Rattle.stack_code.specs.Operands.{takes, pushes, flow_of}
-use Rattle.stack_code.specs.Deeds.{Deed, Lacks, GoesOn, Fails, Loads, Stores, Turns, Calls, CallsAt, Combines, Draws, Repeats, Rounds, Ends, Nests, Unnests, Writes, Forks, Sends, Gets}
+use Rattle.stack_code.specs.Deeds.{Deed, Lacks, GoesOn, Fails, Loads, Stores, Points, Turns, Calls, CallsAt, Combines, Draws, Repeats, Rounds, Ends, Nests, Unnests, Writes, Forks, Sends, Gets}
 
 -- the frames that an instruction names, and the subprogram that it calls
 abbrev pub Finds : Code → List ℕ → Instr → Type 0
@@ -54,6 +54,7 @@ IsFit c pc st i (GoesOn to st') = (length st' + takes c i ≡ length st + pushes
 IsFit c pc st i (Fails r st') = (length st' + takes c i ≡ length st) × IsCalm i
 IsFit c pc st i (Loads a k) = (v : ℤ) → IsFit c pc st i (k v)
 IsFit c pc st i (Stores a v d) = IsFit c pc st i d
+IsFit c pc st i (Points a d) = IsFit c pc st i d
 IsFit c pc st i Turns = i ≡ Turn
 IsFit c pc st i (Calls f) = (k : ℕ) × (i ≡ Call k) × (slice_get c.subs k ≡ Some f)
 IsFit c pc st i (CallsAt f n to fit st') = (k : ℕ) × IsCallAt pc i k n to × (slice_get c.subs k ≡ Some f) × (length st' + takes c i ≡ length st)

@@ -1,12 +1,12 @@
 -- How many looks a step takes, and what a run comes to whose looks are counted.
-use Rattle.std.specs.Prelude.{◌≡◌, ℕ, ◌+◌, ℤ, List, [], ◌∷◌, Option, Some, None, slice_get}
+use Rattle.std.specs.Prelude.{◌≡◌, ℕ, ◌+◌, ℤ, List, [], ◌∷◌, Option, Some, None, slice_get, cond}
 use Rattle.ada_base.specs.Cells.{Cell, seen, written}
 use Rattle.ada_base.specs.declared.reason.Reason.{Reason}
 use Rattle.stack_code.specs.declared.code.Code.{Code}
 use Rattle.stack_code.specs.declared.code.Unwind.{Unwind}
 use Rattle.stack_code.specs.declared.instr.Instr.{Instr}
-use Rattle.stack_code.specs.Deeds.{Deed, Loads, Stores, Turns, Calls, CallsAt, Combines, Nests, deed_of}
-use Rattle.stack_code.specs.Machine.{State, Went, Goes, Stops, Stop, Comes, Comes_to, entry_of}
+use Rattle.stack_code.specs.Deeds.{Deed, Loads, Stores, Points, Turns, Calls, CallsAt, Combines, Nests, deed_of}
+use Rattle.stack_code.specs.Machine.{State, Went, Goes, Stops, Stop, Comes, Comes_to, entry_of, points}
 
 -- with so many looks to take
 abbrev pub counting : ℕ → State → State
@@ -28,6 +28,7 @@ kept_looks (part ∷ parts) = 1
 abbrev pub deed_looks : Deed → State → ℕ
 deed_looks (Loads a k) s = value_looks (seen s.cells a) (λ v. deed_looks (k v) s)
 deed_looks (Stores a v d) s = cells_looks (written s.cells a v) (λ w. deed_looks d (record s { cells = w }))
+deed_looks (Points a d) s = cond (points s.cells a) (deed_looks d s) 0
 deed_looks Turns s = 1
 deed_looks (Calls f) s = 1
 deed_looks (CallsAt f n to fit st) s = 1

@@ -1,5 +1,5 @@
 -- What the machine does: one instruction of one path, as a function of the path's state.
-use Rattle.std.specs.Prelude.{◌≡◌, ℕ, zero, suc, ◌+◌, ◌-◌, ℤ, pos, List, [], ◌∷◌, ◌++◌, length, drop, take, Option, Some, None, slice_get, cond, nat_eq, nat_lt, Bool}
+use Rattle.std.specs.Prelude.{◌≡◌, ℕ, zero, suc, ◌+◌, ◌-◌, ℤ, pos, negsuc, List, [], ◌∷◌, ◌++◌, length, drop, take, Option, Some, None, slice_get, cond, nat_eq, nat_lt, nat_le, Bool, true, false}
 use Rattle.ada_base.specs.declared.reason.Reason.{Reason}
 use Rattle.ada_base.specs.declared.reason.Reason.TheVariants.{ConstraintError, StorageError}
 use Rattle.stack_code.specs.declared.instr.Instr.{Instr}
@@ -17,7 +17,7 @@ use Rattle.stack_code.specs.declared.path.Leave.TheVariants.{Exit as Exits, Retu
 use Rattle.stack_code.specs.declared.path.Round.{Round}
 use Rattle.stack_code.specs.Listing.{reason_number}
 use Rattle.ada_base.specs.Cells.{Cell, seen, written, zeros}
-use Rattle.stack_code.specs.Deeds.{Deed, Lacks, GoesOn, Fails, Loads, Stores, Turns, Calls, CallsAt, Combines, Draws, Repeats, Rounds, Ends, Leaves, Forks, Nests, Unnests, Writes, Sends, Gets, Gives, deed_of}
+use Rattle.stack_code.specs.Deeds.{Deed, Lacks, GoesOn, Fails, Loads, Stores, Points, Turns, Calls, CallsAt, Combines, Draws, Repeats, Rounds, Ends, Leaves, Forks, Nests, Unnests, Writes, Sends, Gets, Gives, deed_of}
 
 -- a body that waits for its call, which stands at that instruction, and where it goes on; what is its own: where its
 -- operands and its frame begin, the constructs begun in it, the accumulators that its last fork kept, the parts that it
@@ -66,7 +66,7 @@ pub data Stop : Type 0 where
   Cut : Stop  -- the looks are used up
   Asks : Io → Stop
   Constructs : Asked → Stop  -- a fork is reached
-  Stuck : Stop  -- a cell isn't there to read or to write
+  Stuck : Stop  -- a cell isn't there to read or to write, or an address is outside memory
   Astray : Stop  -- the code doesn't fit together
 
 pub data Went : Type 0 where
@@ -90,6 +90,15 @@ with_value (Some v) s k = k v
 abbrev pub with_cells : Option (List Cell) → State → (State → Went) → Went
 with_cells None s k = Stops Stuck s
 with_cells (Some cells) s k = k (record s { cells = cells })
+
+-- an address of a cell, or the end of all cells
+abbrev pub points : List Cell → ℤ → Bool
+points cells (pos n) = nat_le n (length cells)
+points cells (negsuc n) = false
+
+abbrev pub if_pointing : Bool → State → Went → Went
+if_pointing true s w = w
+if_pointing false s w = Stops Stuck s
 
 -- ---- the state that an instruction leads to
 
@@ -245,6 +254,7 @@ module _ (limit : ℕ) where
   done (Fails r st) s = Goes (failed r st s)
   done (Loads a k) s = with_value (seen s.cells a) s (λ v. done (k v) s)
   done (Stores a v d) s = with_cells (written s.cells a v) s (λ s. done d s)
+  done (Points a d) s = if_pointing (points s.cells a) s (done d s)
   done Turns s = turned s (λ s. Goes (on s.stack s))
   done (Calls f) s = calling f (s.pc + 1) s.kept s
   done (CallsAt f n to fit st) s = calling_at f n to fit st s

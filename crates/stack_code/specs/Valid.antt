@@ -1,7 +1,9 @@
 -- Code that fits together: each rule is of one instruction, or of one entry of a table.
-use Rattle.std.specs.Prelude.{◌≡◌, ℕ, zero, suc, ◌+◌, ◌-◌, ◌<◌, ◌≤◌, List, length, Option, Some, None, IsSome, IsSomeAnd, slice_get, Bool, true, false}
+use Rattle.std.specs.Prelude.{◌≡◌, ℕ, zero, suc, ◌+◌, ◌-◌, ◌^◌, ◌<◌, ◌≤◌, List, [], ◌∷◌, length, Option, Some, None, IsSome, IsSomeAnd, slice_get, Bool, true, false}
+use Rattle.ada_base.specs.declared.operation.Base.{Base}
+use Rattle.ada_base.specs.declared.operation.Base.TheVariants.{Modulo}
 use Rattle.stack_code.specs.declared.instr.Instr.{Instr}
-use Rattle.stack_code.specs.declared.instr.Instr.TheVariants.{Local, Outer, Global, Call, CallAt, CallTo, Ret, RetV, Exit, Leave, LeaveV, Fork, Unnest, Words, End, EndV, Halt, Combine, LoadL, LoadO, LoadG, StoreL, StoreO, StoreG, SetL, IndexL, ItemL, IndexG, ItemG, Next, Prior}
+use Rattle.stack_code.specs.declared.instr.Instr.TheVariants.{Local, Outer, Global, Call, CallAt, CallTo, Ret, RetV, Exit, Leave, LeaveV, Fork, Unnest, Words, End, EndV, Halt, Combine, LoadL, LoadO, LoadG, StoreL, StoreO, StoreG, SetL, IndexL, ItemL, IndexG, ItemG, Next, Prior, Add, Sub as Less, Mul, Div, Mod, Rem, Pow, Neg, Abs, AddI, SubI, MulI, ModI, BNot, USetL, Repeat}
 use Rattle.stack_code.specs.declared.code.Around.{Around}
 use Rattle.stack_code.specs.declared.code.Around.TheVariants.{Sub, Site}
 use Rattle.stack_code.specs.declared.code.Code.{Code}
@@ -26,6 +28,12 @@ EachBelow {A} xs P n = (k : ℕ) (x : A) → k < n → slice_get xs k ≡ Some x
 -- the item with that number is there, and this holds of it
 abbrev pub Has : {A : Type 0} → List A → ℕ → (A → Type 0) → Type 0
 Has xs k P = IsSomeAnd (slice_get xs k) P
+
+-- each part that is repeated is done less often than numbers of 64 bits tell
+abbrev pub IsCountable : List Instr → Type 0
+IsCountable [] = Unit {0}
+IsCountable (Repeat n ∷ is) = (n < 2 ^ 63) × IsCountable is
+IsCountable (i ∷ is) = IsCountable is
 
 -- ---- bodies
 
@@ -99,6 +107,14 @@ abbrev pub FollowsFold : Code → ℕ → Type 0
 FollowsFold c zero = ⊥
 FollowsFold c (suc k) = Folded c (slice_get c.instrs k) (FollowsFold c k)
 
+-- a number of binary digits that a modular type may have, and a base range of such a type or of another one
+abbrev pub AreDigits : ℕ → Type 0
+AreDigits k = (1 ≤ k) × (k ≤ 64)
+
+abbrev pub IsRange : Base → Type 0
+IsRange (Modulo k) = AreDigits k
+IsRange base = Unit {0}
+
 -- the instruction may stand in that body at that place
 abbrev pub Belongs : Code → ℕ → Around → Instr → Type 0
 Belongs c at body (Local n) = HasFrame c body (λ cells. n < cells)
@@ -111,6 +127,7 @@ Belongs c at body (StoreL n) = HasFrame c body (λ cells. n < cells)
 Belongs c at body (StoreO k n) = (0 < k) × IsSomeAnd (outward c (Some body) k) (λ b. HasFrame c b (λ cells. n < cells))
 Belongs c at body (StoreG n) = HasFrame c (Sub 0) (λ cells. n < cells)
 Belongs c at body (SetL n lo hi) = HasFrame c body (λ cells. n < cells)
+Belongs c at body (USetL n lo hi) = HasFrame c body (λ cells. n < cells)
 Belongs c at body (IndexL n lo hi size) = HasFrame c body (λ cells. n < cells)
 Belongs c at body (ItemL n lo hi size) = HasFrame c body (λ cells. n < cells)
 Belongs c at body (IndexG g lo hi size n) = HasFrame c (Sub 0) (λ cells. g < cells) × HasFrame c body (λ cells. n < cells)
@@ -131,6 +148,20 @@ Belongs c at body EndV = IsThread c body true
 Belongs c at body Ret = IsCallee c body false
 Belongs c at body RetV = IsCallee c body true
 Belongs c at body Halt = body ≡ Sub 0
+Belongs c at body (Add base) = IsRange base
+Belongs c at body (Less base) = IsRange base
+Belongs c at body (Mul base) = IsRange base
+Belongs c at body (Div base) = IsRange base
+Belongs c at body (Mod base) = IsRange base
+Belongs c at body (Rem base) = IsRange base
+Belongs c at body (Pow base) = IsRange base
+Belongs c at body (Neg base) = IsRange base
+Belongs c at body (Abs base) = IsRange base
+Belongs c at body (AddI v base) = IsRange base
+Belongs c at body (SubI v base) = IsRange base
+Belongs c at body (MulI v base) = IsRange base
+Belongs c at body (ModI v base) = IsRange base
+Belongs c at body (BNot k) = AreDigits k
 Belongs c at body _ = Unit {0}
 
 abbrev pub Holds : Unwind → ℕ → Type 0
@@ -157,6 +188,12 @@ abbrev pub IsEarlier : Code → ℕ → Around → Type 0
 IsEarlier c k (Sub j) = j < length c.subs
 IsEarlier c k (Site j) = j < k
 
+-- the base range of the operator by which accumulators are combined
+abbrev pub FoldFits : SiteKind → Type 0
+FoldFits (Reduction (Some by)) = IsRange by.base
+FoldFits (ChunkReduction (Some by)) = IsRange by.base
+FoldFits _ = Unit {0}
+
 -- a lease is of the main frame, or of one that the forking path sees
 abbrev pub LeaseFits : Code → Around → Option ℕ → Type 0
 LeaseFits c around None = Unit {0}
@@ -166,6 +203,7 @@ pub record SiteFits (c : Code) (k : ℕ) (s : CodeSite) : Type 0 where
   pub entry : Lands c (Site k) 0 0 s.entry
   pub cells : 4 ≤ s.frame
   pub around : IsEarlier c k s.around
+  pub fold : FoldFits s.kind
   pub leases : Each s.leases (λ n lease. LeaseFits c s.around lease.frame)
 
 abbrev pub SubFits : Code → ℕ → CodeSub → Type 0

@@ -197,4 +197,25 @@ pub enum Instr {
     Flip,
     /// Whether exactly one of two isn't 0.
     Differ,
+    /// The number of a modular type that has each of so many binary digits turned (4.5.6).
+    BNot(u8),
+    /// Whether the lower one is less, both as numbers of 64 binary digits (4.5.2).
+    ULt,
+    /// Whether it is at most the top.
+    ULe,
+    /// Whether it is greater.
+    UGt,
+    /// Whether it is at least the top.
+    UGe,
+    /// The greater of two such numbers (3.5).
+    UMax,
+    /// The lesser of them (3.5).
+    UMin,
+    /// Raises Constraint_Error unless the top lies from one such number to the other (3.5).
+    URange(i64, i64),
+    /// Writes the top to a cell of the own frame where it does, and else raises: `URange`, `StoreL`. The cell, the least
+    /// and the greatest.
+    USetL(u32, i64, i64),
+    /// Adds the image of such a number to the line (4.10).
+    UImg,
 }

@@ -31,6 +31,9 @@ returns-in-Words-clause-steps g c = c.words.ensures.steps (g.C.Cells.cells c.arg
 pub returns-in-Img-clause-steps : goal.returns-in-Img-clause-steps
 returns-in-Img-clause-steps g c = c.put_image.ensures.steps (g.C.Cells.cells c.args.view.now) c.requires.ready
 
+pub returns-in-UImg-clause-steps : goal.returns-in-UImg-clause-steps
+returns-in-UImg-clause-steps g c = c.put_number_image.ensures.steps (g.C.Cells.cells c.args.view.now) c.requires.ready
+
 pub returns-in-Bool-clause-steps : goal.returns-in-Bool-clause-steps
 returns-in-Bool-clause-steps g c = c.put_truth.ensures.steps (g.C.Cells.cells c.args.view.now) c.requires.ready
 
@@ -60,6 +63,9 @@ returns-in-Words-clause-looks g c = quiet_looks c.args.code.now (state_of c.args
 
 pub returns-in-Img-clause-looks : goal.returns-in-Img-clause-looks
 returns-in-Img-clause-looks g c = quiet_looks c.args.code.now (state_of c.args.m.now (g.C.Cells.cells c.args.view.now)) (instr.Img) c.put_image.result _ _ c.requires.calm (c.requires.at ∙ ap Some c.in-Img.is) tt c.put_image.ensures.looks
+
+pub returns-in-UImg-clause-looks : goal.returns-in-UImg-clause-looks
+returns-in-UImg-clause-looks g c = quiet_looks c.args.code.now (state_of c.args.m.now (g.C.Cells.cells c.args.view.now)) (instr.UImg) c.put_number_image.result _ _ c.requires.calm (c.requires.at ∙ ap Some c.in-UImg.is) tt c.put_number_image.ensures.looks
 
 pub returns-in-Bool-clause-looks : goal.returns-in-Bool-clause-looks
 returns-in-Bool-clause-looks g c = quiet_looks c.args.code.now (state_of c.args.m.now (g.C.Cells.cells c.args.view.now)) (instr.Bool) c.put_truth.result _ _ c.requires.calm (c.requires.at ∙ ap Some c.in-Bool.is) tt c.put_truth.ensures.looks
@@ -156,6 +162,9 @@ returns-in-Words-clause-heeds g c = quiet_heeds c.words.result _ _ _ c.words.ens
 
 pub returns-in-Img-clause-heeds : goal.returns-in-Img-clause-heeds
 returns-in-Img-clause-heeds g c = quiet_heeds c.put_image.result _ _ _ c.put_image.ensures.looks
+
+pub returns-in-UImg-clause-heeds : goal.returns-in-UImg-clause-heeds
+returns-in-UImg-clause-heeds g c = quiet_heeds c.put_number_image.result _ _ _ c.put_number_image.ensures.looks
 
 pub returns-in-Bool-clause-heeds : goal.returns-in-Bool-clause-heeds
 returns-in-Bool-clause-heeds g c = quiet_heeds c.put_truth.result _ _ _ c.put_truth.ensures.looks
@@ -265,17 +274,32 @@ returns-in-Words-clause-stays g c = (refl, λ w. w, refl)
 pub put_image-requires-clause-ready : goal.put_image-requires-clause-ready
 put_image-requires-clause-ready g c = (g.C.Cells.cells c.args.view.now, c.requires.ready)
 
+pub put_number_image-requires-clause-ready : goal.put_number_image-requires-clause-ready
+put_number_image-requires-clause-ready g c = (g.C.Cells.cells c.args.view.now, c.requires.ready)
+
 pub put_image-requires-clause-at : goal.put_image-requires-clause-at
 put_image-requires-clause-at g c = c.requires.at ∙ ap Some c.in-Img.is
+
+pub put_number_image-requires-clause-at : goal.put_number_image-requires-clause-at
+put_number_image-requires-clause-at g c = c.requires.at ∙ ap Some c.in-UImg.is
 
 pub returns-in-Img-clause-paused : goal.returns-in-Img-clause-paused
 returns-in-Img-clause-paused g c = λ e. absurd (c.put_image.ensures.paused e)
 
+pub returns-in-UImg-clause-paused : goal.returns-in-UImg-clause-paused
+returns-in-UImg-clause-paused g c = λ e. absurd (c.put_number_image.ensures.paused e)
+
 pub returns-in-Img-clause-halts : goal.returns-in-Img-clause-halts
 returns-in-Img-clause-halts g c = (refl, λ t. t)
 
+pub returns-in-UImg-clause-halts : goal.returns-in-UImg-clause-halts
+returns-in-UImg-clause-halts g c = (refl, λ t. t)
+
 pub returns-in-Img-clause-stays : goal.returns-in-Img-clause-stays
 returns-in-Img-clause-stays g c = (refl, λ w. w, refl)
+
+pub returns-in-UImg-clause-stays : goal.returns-in-UImg-clause-stays
+returns-in-UImg-clause-stays g c = (refl, λ w. w, refl)
 
 pub put_truth-requires-clause-ready : goal.put_truth-requires-clause-ready
 put_truth-requires-clause-ready g c = (g.C.Cells.cells c.args.view.now, c.requires.ready)
@@ -528,6 +552,7 @@ returns-in_default g c = absurd (none c.args.instr refl c.requires.more)
     none instr.Unnest e h = c.in_default.not-Unnest e
     none (instr.Words x) e h = c.in_default.not-Words x e
     none instr.Img e h = c.in_default.not-Img e
+    none instr.UImg e h = c.in_default.not-UImg e
     none instr.Bool e h = c.in_default.not-Bool e
     none (instr.Wide x) e h = c.in_default.not-Wide x e
     none instr.Send e h = c.in_default.not-Send e

@@ -1,66 +1,49 @@
-use Rattle.std.proofs.Common.{ℤ, pos, refl, sym, subst, w64, SFits, rules}
+use Rattle.std.proofs.Common.{ℤ, pos, sym, subst, w64, SFits, rules}
 use Rattle.std.proofs.lemmas.Int.{to_z-of_z}
 use Rattle.std.specs.Prelude.{IsSome}
 use Rattle.ada_base.specs.Cells.{seen}
-use Rattle.ada_machine.proofs.Memories.{item_cell_clear, item_cell_at, item_cell_far, item_cell_out}
+use Rattle.ada_machine.proofs.Memories.{there_same, item_cell_there, item_cell_clear, item_cell_at, item_cell_out}
 use Rattle.ada_machine.proofs.memory.item_cell.Goals as goal
-
-pub returns-in-Beyond-clause-deed : goal.returns-in-Beyond-clause-deed
-returns-in-Beyond-clause-deed g c =
-    let fa : SFits w64 c.top-address.result = record { sfits = c.top-address.type_inv } in
-    let fn : SFits w64 c.get-number.result = record { sfits = c.get-number.type_inv } in
-    let fl : SFits w64 c.args.dimension.low = search rules in
-    let fh : SFits w64 c.args.dimension.high = search rules in
-    let a = to_z-of_z w64 c.top-address.result fa in
-    let n = to_z-of_z w64 c.get-number.result fn in
-    let l = to_z-of_z w64 c.args.dimension.low fl in
-    let h = to_z-of_z w64 c.args.dimension.high fh in (
-      item_cell_far c.args.pc c.args.dimension.low c.args.dimension.high c.args.dimension.size (g.C.Cells.cells c.args.view.now) (pos c.args.at) c.args.stack.now.items c.top-address.result c.get-number.result c.get-number.ensures c.top-address.ensures
-          (simp (a, n, l, h) at c.in-Beyond.ensures),
-      refl,
-      refl,
-    )
 
 pub returns-in-At-clause-deed : goal.returns-in-At-clause-deed
 returns-in-At-clause-deed g c =
     let fa : SFits w64 c.top-address.result = record { sfits = c.top-address.type_inv } in
     let fn : SFits w64 c.get-number.result = record { sfits = c.get-number.type_inv } in
-    let fl : SFits w64 c.args.dimension.low = search rules in
-    let fh : SFits w64 c.args.dimension.high = search rules in
     let ft : SFits w64 c.in-At.to = search rules in
     let fv : SFits w64 c.read_at-value.result = record { sfits = c.read_at-value.type_inv } in
     let a = to_z-of_z w64 c.top-address.result fa in
     let n = to_z-of_z w64 c.get-number.result fn in
-    let l = to_z-of_z w64 c.args.dimension.low fl in
-    let h = to_z-of_z w64 c.args.dimension.high fh in
     let t = to_z-of_z w64 c.in-At.to ft in
     let v = to_z-of_z w64 c.read_at-value.result fv in
     item_cell_at c.args.pc c.args.dimension.low c.args.dimension.high c.args.dimension.size (g.C.Cells.cells c.args.view.now) (pos c.args.at) c.args.stack.now.items c.set_top.new.stack.items c.top-address.result c.get-number.result c.in-At.to c.read_at-value.result c.get-number.ensures c.top-address.ensures
-    (simp (a, n, l, h) at c.in-At.ensures) (simp t at c.read_at-value.ensures) (simp v at c.set_top.ensures.top)
+    (simp (a, n) at c.in-At.ensures) (simp t at c.read_at-value.ensures) (simp v at c.set_top.ensures.top)
 
 pub returns-in-Outside-clause-deed : goal.returns-in-Outside-clause-deed
 returns-in-Outside-clause-deed g c =
     let fa : SFits w64 c.top-address.result = record { sfits = c.top-address.type_inv } in
     let fn : SFits w64 c.get-number.result = record { sfits = c.get-number.type_inv } in
-    let fl : SFits w64 c.args.dimension.low = search rules in
-    let fh : SFits w64 c.args.dimension.high = search rules in
     let a = to_z-of_z w64 c.top-address.result fa in
     let n = to_z-of_z w64 c.get-number.result fn in
-    let l = to_z-of_z w64 c.args.dimension.low fl in
-    let h = to_z-of_z w64 c.args.dimension.high fh in
     item_cell_out c.args.pc c.args.dimension.low c.args.dimension.high c.args.dimension.size (g.C.Cells.cells c.args.view.now) (pos c.args.at) c.args.stack.now.items c.take.new.stack.items c.top-address.result c.take.result c.get-number.result c.get-number.ensures c.top-address.ensures c.take.ensures.top
-    (simp (a, n, l, h) at c.in-Outside.ensures)
+    (simp (a, n) at c.in-Outside.ensures)
 
 pub read_at-value-requires : goal.read_at-value-requires
 read_at-value-requires g c =
     let fa : SFits w64 c.top-address.result = record { sfits = c.top-address.type_inv } in
     let fn : SFits w64 c.get-number.result = record { sfits = c.get-number.type_inv } in
-    let fl : SFits w64 c.args.dimension.low = search rules in
-    let fh : SFits w64 c.args.dimension.high = search rules in
     let a = to_z-of_z w64 c.top-address.result fa in
     let n = to_z-of_z w64 c.get-number.result fn in
-    let l = to_z-of_z w64 c.args.dimension.low fl in
-    let h = to_z-of_z w64 c.args.dimension.high fh in
     let ft : SFits w64 c.in-At.to = search rules in
     subst (λ (z : ℤ). IsSome (seen (g.C.Cells.cells c.args.view.now) z)) (sym (to_z-of_z w64 c.in-At.to ft))
-    (item_cell_clear c.args.pc c.args.dimension.low c.args.dimension.high c.args.dimension.size (g.C.Cells.cells c.args.view.now) (pos c.args.at) c.args.stack.now.items c.top-address.result c.get-number.result c.in-At.to c.requires.clear c.get-number.ensures c.top-address.ensures (simp (a, n, l, h) at c.in-At.ensures))
+    (item_cell_clear c.args.pc c.args.dimension.low c.args.dimension.high c.args.dimension.size (g.C.Cells.cells c.args.view.now) (pos c.args.at) c.args.stack.now.items c.top-address.result c.get-number.result c.in-At.to c.requires.clear c.get-number.ensures c.top-address.ensures (simp (a, n) at c.in-At.ensures))
+
+pub place-requires : goal.place-requires
+place-requires g c =
+    let fa : SFits w64 c.top-address.result = record { sfits = c.top-address.type_inv } in
+    let fn : SFits w64 c.get-number.result = record { sfits = c.get-number.type_inv } in
+    let a = to_z-of_z w64 c.top-address.result fa in
+    let n = to_z-of_z w64 c.get-number.result fn in
+    record {
+      there = there_same (g.C.Cells.cells c.args.view.now) c.args.dimension.low c.args.dimension.high c.top-address.result _ c.get-number.result _ c.args.dimension.size a n
+          (item_cell_there c.args.pc c.args.dimension.low c.args.dimension.high c.args.dimension.size (g.C.Cells.cells c.args.view.now) (pos c.args.at) c.args.stack.now.items c.top-address.result c.get-number.result c.requires.clear c.get-number.ensures c.top-address.ensures);
+    }

@@ -1,5 +1,5 @@
 use Rattle.std.proofs.Common.{◌≡◌, ℕ, ◌≤◌, ◌<◌, ◌+◌, length, reverse, Some, refl, sym, ap, ◌∙◌, arith, subst}
-use Rattle.std.specs.Prelude.{◌⊎◌, ◌^◌, slice_get, slice_index, vec_capacity, EachIndex}
+use Rattle.std.specs.Prelude.{◌^◌, slice_get, slice_index, vec_capacity, EachIndex}
 use Rattle.stack_code.specs.Fits.{Finds}
 use Rattle.stack_code.specs.Deeds.{deed_of}
 use Rattle.stack_code.specs.Stands.{rank}
@@ -8,7 +8,7 @@ use Rattle.stack_code.proofs.Runs.{comes_none, comes_one, comes_on, never_on}
 use Rattle.ada_machine.specs.declared.machine.Machine.{Machine}
 use Rattle.ada_machine.specs.declared.machine.Stop.TheVariants as stop
 use Rattle.ada_machine.specs.declared.machine.Went.TheVariants as went
-use Rattle.ada_machine.specs.Played.{Exceeds, Overlaps, IsClear, Onward, Raised, plays}
+use Rattle.ada_machine.specs.Played.{IsClear, Onward, Raised, plays}
 use Rattle.ada_machine.specs.States.{state_of, Steps}
 use Rattle.ada_machine.proofs.Keeping.{stays_on, topped_one}
 use Rattle.ada_machine.proofs.Looking.{none_looks, same_looks, onward_none, raised_none, looked_none, looked_step}
@@ -224,9 +224,7 @@ returns-in-Beyond g c =
     let looks : last.looks ≡ m.looks = ap (λ (q : Machine). q.looks) e in
     let d = c.in-Beyond.ensures.deed in
     let same : state_of last cells' ≡ state_of m cells = ap (λ (q : Machine). state_of q cells') e ∙ ap (λ st. record (state_of m cells') { stack = st }) d.1 ∙ ap (λ w. state_of m w) d.2 in
-    let wide : Exceeds (deed_of c.args.code.now m.pc (reverse m.stack.items) m.base m.outward.items c.instr_at-instr.result.now) cells ⊎ Overlaps c.instr_at-instr.result.now (reverse m.stack.items) =
-    subst (λ fs. Exceeds (deed_of c.args.code.now m.pc (reverse m.stack.items) m.base fs c.instr_at-instr.result.now) cells ⊎ Overlaps c.instr_at-instr.result.now (reverse m.stack.items)) c.as_slice.ensures.value d.0 in
-    let s : Steps c.args.limit c.args.code.now (went.Stopped stop.NoMemory) m cells last cells' = beyond_still c.args.limit c.args.code.now m last cells cells' same (ap (λ (q : Machine). vec_capacity q.stack) e ∙ c.compute.ensures.room) i.ready i.within i.calm c.instr_at-instr.result.now at wide in
+    let s : Steps c.args.limit c.args.code.now (went.Stopped stop.NoMemory) m cells last cells' = beyond_still c.args.limit c.args.code.now m last cells cells' same (ap (λ (q : Machine). vec_capacity q.stack) e ∙ c.compute.ensures.room) i.ready i.within i.calm c.instr_at-instr.result.now at d.0 in
     record {
       strides = stops_there c.args.limit c.args.code.now _ _ _ _ m cells a last cells' stop.NoMemory s;
       paused = λ e. cc;

@@ -1,7 +1,7 @@
 use Rattle.std.proofs.Common.{◌≡◌, refl}
 use Rattle.stack_code.specs.Operands.{pushes}
 use Rattle.stack_code.specs.declared.instr.Instr.{Instr}
-use Rattle.stack_code.specs.declared.instr.Instr.TheVariants.{Push, Local, Outer, Global, Index, Field, Load, Add, Sub, Mul, Div, Mod, Rem, Pow, Neg, Abs, Max, Min, Eq, Ne, Lt, Le, Gt, Ge, Far, And, Or, Xor, Not, Range, Get, Combine, LoadL, LoadO, LoadG, AddI, SubI, MulI, ModI, IndexL, Item, ItemL, IndexG, ItemG, Flip, Differ, Dup, Swap, Part, Call, CallAt, CallTo, Fork}
+use Rattle.stack_code.specs.declared.instr.Instr.TheVariants.{Push, Local, Outer, Global, Index, Field, Load, Add, Sub, Mul, Div, Mod, Rem, Pow, Neg, Abs, Max, Min, Eq, Ne, Lt, Le, Gt, Ge, Far, And, Or, Xor, Not, Range, Get, Combine, LoadL, LoadO, LoadG, AddI, SubI, MulI, ModI, IndexL, Item, ItemL, IndexG, ItemG, Flip, Differ, Dup, Swap, Part, Call, CallAt, CallTo, Fork, BNot, ULt, ULe, UGt, UGe, UMax, UMin, URange}
 use Rattle.code_validity.proofs.operands.pushes_of.Goals as goal
 
 pub returns-in_default-clause-same : goal.returns-in_default-clause-same
@@ -54,6 +54,14 @@ returns-in_default-clause-same c = rest c.args.instr refl
     rest (ItemG x y z u w) e = absurd (c.in_default.not-ItemG x y z u w e)
     rest Flip e = absurd (c.in_default.not-Flip e)
     rest Differ e = absurd (c.in_default.not-Differ e)
+    rest (BNot x) e = absurd (c.in_default.not-BNot x e)
+    rest ULt e = absurd (c.in_default.not-ULt e)
+    rest ULe e = absurd (c.in_default.not-ULe e)
+    rest UGt e = absurd (c.in_default.not-UGt e)
+    rest UGe e = absurd (c.in_default.not-UGe e)
+    rest UMax e = absurd (c.in_default.not-UMax e)
+    rest UMin e = absurd (c.in_default.not-UMin e)
+    rest (URange x y) e = absurd (c.in_default.not-URange x y e)
     rest Dup e = absurd (c.in_default.not-Dup e)
     rest Swap e = absurd (c.in_default.not-Swap e)
     rest Part e = absurd (c.in_default.not-Part e)

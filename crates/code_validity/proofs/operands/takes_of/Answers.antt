@@ -1,7 +1,7 @@
 use Rattle.std.proofs.Common.{◌≡◌, refl}
 use Rattle.stack_code.specs.Operands.{takes}
 use Rattle.stack_code.specs.declared.instr.Instr.{Instr}
-use Rattle.stack_code.specs.declared.instr.Instr.TheVariants.{Pop, Dup, Field, Load, Fill, Neg, Abs, Not, Range, JFalse, JTrue, RetV, Reraise, LeaveV, Img, Bool, Wide, EndV, CallTo, Combine, StoreL, StoreO, StoreG, SetL, AddI, SubI, MulI, ModI, IndexL, ItemL, Flip, Item, Differ, JfEq, JfNe, JfLt, JfLe, JfGt, JfGe, Swap, Index, Store, Copy, Add, Sub, Mul, Div, Mod, Rem, Pow, Max, Min, Eq, Ne, Lt, Le, Gt, Ge, Far, And, Or, Xor, Fork, Call}
+use Rattle.stack_code.specs.declared.instr.Instr.TheVariants.{Pop, Dup, Field, Load, Fill, Neg, Abs, Not, Range, JFalse, JTrue, RetV, Reraise, LeaveV, Img, Bool, Wide, EndV, CallTo, Combine, StoreL, StoreO, StoreG, SetL, AddI, SubI, MulI, ModI, IndexL, ItemL, Flip, Item, Differ, JfEq, JfNe, JfLt, JfLe, JfGt, JfGe, Swap, Index, Store, Copy, Add, Sub, Mul, Div, Mod, Rem, Pow, Max, Min, Eq, Ne, Lt, Le, Gt, Ge, Far, And, Or, Xor, Fork, Call, BNot, URange, USetL, UImg, ULt, ULe, UGt, UGe, UMax, UMin}
 use Rattle.code_validity.proofs.operands.takes_of.Goals as goal
 
 pub returns-in_default : goal.returns-in_default
@@ -70,6 +70,16 @@ returns-in_default c = rest c.args.instr refl
     rest And e = absurd (c.in_default.not-And e)
     rest Or e = absurd (c.in_default.not-Or e)
     rest Xor e = absurd (c.in_default.not-Xor e)
+    rest (BNot x) e = absurd (c.in_default.not-BNot x e)
+    rest (URange x y) e = absurd (c.in_default.not-URange x y e)
+    rest (USetL x y z) e = absurd (c.in_default.not-USetL x y z e)
+    rest UImg e = absurd (c.in_default.not-UImg e)
+    rest ULt e = absurd (c.in_default.not-ULt e)
+    rest ULe e = absurd (c.in_default.not-ULe e)
+    rest UGt e = absurd (c.in_default.not-UGt e)
+    rest UGe e = absurd (c.in_default.not-UGe e)
+    rest UMax e = absurd (c.in_default.not-UMax e)
+    rest UMin e = absurd (c.in_default.not-UMin e)
     rest (Fork x) e = absurd (c.in_default.not-Fork x e)
     rest (Call x) e = absurd (c.in_default.not-Call x e)
     rest i e = refl

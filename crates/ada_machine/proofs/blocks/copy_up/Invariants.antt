@@ -2,7 +2,7 @@ use Rattle.std.proofs.Common.{◌≡◌, ◌≤◌, ◌+◌, ◌-◌, pos}
 use Rattle.stack_code.specs.Deeds.{Deed, Lacks, loads_all, stores_all}
 use Rattle.ada_machine.specs.Places.{Stays}
 use Rattle.ada_machine.specs.Played.{IsClear, plays}
-use Rattle.ada_machine.proofs.blocks.copy_cells.Given as goal
+use Rattle.ada_machine.proofs.blocks.copy_up.Given as goal
 
 abbrev pub invariant-loop-done : goal.invariant-loop-done
 invariant-loop-done g l = record {

@@ -1,4 +1,4 @@
-use Rattle.std.proofs.Common.{◌≡◌, ◌≤◌, ◌<◌, ◌+◌, ◌-◌, ℤ, pos, suc, Some, refl, sym, ap, ◌∙◌, subst, arith, inl, inr, ⊎_elim, w64, to_z, of_z, SFits}
+use Rattle.std.proofs.Common.{◌≡◌, ◌≤◌, ◌<◌, ◌+◌, ◌-◌, ℤ, pos, suc, Some, refl, sym, ap, ◌∙◌, subst, arith, inl, w64, to_z, of_z, SFits}
 use Rattle.std.specs.Prelude.{◌⊎◌, IsSome}
 use Rattle.std.proofs.lemmas.Int.{to_z-of_z}
 use Rattle.ada_base.specs.Cells.{written}
@@ -6,7 +6,7 @@ use Rattle.stack_code.specs.Deeds.{Lacks, loads_all, stores_all}
 use Rattle.ada_machine.specs.Played.{IsClear, plays}
 use Rattle.ada_machine.proofs.Stretches.{copy_reads, copy_writes, copy_on, copy_plays}
 use Rattle.ada_machine.proofs.Keeping.{stays_on}
-use Rattle.ada_machine.proofs.blocks.copy_cells.Goals as goal
+use Rattle.ada_machine.proofs.blocks.copy_up.Goals as goal
 
 pub loop-done-init : goal.loop-done-init
 loop-done-init g c =
@@ -45,7 +45,7 @@ loop-done-preserved g c =
     let w : written (g.C.Cells.cells c.loop-done.view) (pos (c.args.target + c.loop-done.done)) c.get-value.result ≡ Some (g.C.Cells.cells c.set.new.self) =
     subst (λ (v : ℤ). written (g.C.Cells.cells c.loop-done.view) (pos (c.args.target + c.loop-done.done)) v ≡ Some (g.C.Cells.cells c.set.new.self)) z c.set.ensures.written in
     let l : (c.args.target + c.loop-done.done < c.args.source + c.loop-done.done + 1) ⊎ (c.args.source + c.loop-done.done + 1 + (c.args.count - (c.loop-done.done + 1)) ≤ c.args.target + c.loop-done.done) =
-    ⊎_elim (λ (q : c.args.target ≤ c.args.source). inl (omega (arith, q))) (λ (q : c.args.source + c.args.count ≤ c.args.target). inr (omega (arith, q))) c.requires.apart in
+    inl (omega (arith, c.requires.below)) in
     record {
       within = omega arith;
       stays = stays_on (g.C.Cells.floor) (g.C.Cells.whole) (g.C.Cells.place) i.stays c.set.ensures.stays;

@@ -1,7 +1,7 @@
 use Rattle.std.proofs.Common.{Some, ap, ◌∙◌, w64, SFits, rules}
 use Rattle.std.proofs.lemmas.Int.{to_z-of_z}
 use Rattle.ada_machine.proofs.Divisions.{modulus_some}
-use Rattle.ada_machine.proofs.operands.modulus.Goals as goal
+use Rattle.ada_machine.proofs.operands.plain_modulus.Goals as goal
 
 pub returns-in-Some : goal.returns-in-Some
 returns-in-Some c =
