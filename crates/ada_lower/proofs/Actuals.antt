@@ -61,7 +61,7 @@ AreTargets program sub w g (CompositeOut formal at r selections subtype rest) ps
 -- ---- ghosts
 
 pub spread_more : {g h : Ghost} {y : Entity} {o n a : ℕ} → Extends g h → Spread g y o n a → Spread h y o n a
-spread_more {g} {h} {y} {o} {n} {a} e w = record { cell = λ i lt. let (p, access, here, is) = w.cell i lt in (p, access, e.place y (o + i) p here, e.solid (a + i) (StandsFor access p) tt is) }
+spread_more {g} {h} {y} {o} {n} {a} e w = record { near = (let n = w.near in let t = e.top in omega (arith, n, t)); cell = λ i lt. let (p, access, here, is) = w.cell i lt in (p, access, e.place y (o + i) p here, e.solid (a + i) (StandsFor access p) tt is) }
 
 pub targets_more : (program : Program) (sub w : ℕ) {g h : Ghost} (as' : Actuals) (ps : List Sent) → Extends g h → AreTargets program sub w g as' ps → AreTargets program sub w h as' ps
 targets_more program sub w NoActual ps e t = t
@@ -84,11 +84,11 @@ module _ (limit : ℕ) (cuts : ℕ → ℕ → List ℕ) (program : Program) (c 
       (subst (λ b. Doing limit c f x (keeping b (v ∷ []) G) j q m (λ d. on f (at_ + 1) st d) to) there k)
 
   -- and it is checked
-  set_in : {A : Type 0} {j : Ghost} {q : A → Type 0} {to : A → Dyn → Step} (m : Unit {0} → Stored A) (G : Ghost) (w e at_ token : ℕ) (k : Scalar) (v : ℤ) (st : List ℤ) → ((s : stored.State) (d : Dyn) → Fit G s d → Fit j s d) → G.what (f.base + w + e) ≡ Free → At c at_ (i.SetL (w + e) k.low k.high) x.entry
+  set_in : {A : Type 0} {j : Ghost} {q : A → Type 0} {to : A → Dyn → Step} (m : Unit {0} → Stored A) (G : Ghost) (w e at_ token : ℕ) (k : Scalar) (v : ℤ) (st : List ℤ) → ((s : stored.State) (d : Dyn) → Fit G s d → Fit j s d) → G.what (f.base + w + e) ≡ Free → At c at_ (Emission.set_instr k (w + e)) x.entry
       → Doing limit c f x (keeping (f.base + w + e) (v ∷ []) G) j q (m tt) (λ d. on f (at_ + 1) st d) to → Doing limit c f x G j q (stored.bind (stored.checks RangeCheck token (Values.is_in k v)) m) (λ d. on f at_ (v ∷ st) d) to
   set_in {A} {j} {q} {to} m G w e at_ token k v st weak free at go =
       let there : f.base + w + e ≡ f.base + (w + e) = omega arith in
-      does_set limit c f x m RangeCheck token at_ (w + e) k.low k.high v st weak (own_free _ (sym (ap G.what there) ∙ free)) at
+      does_set limit c f x m RangeCheck token at_ (w + e) k v st weak (own_free _ (sym (ap G.what there) ∙ free)) at
       (subst (λ b. Doing limit c f x (keeping b (v ∷ []) G) j q (m tt) (λ d. on f (at_ + 1) st d) to) there go)
 
   -- a target's name is evaluated, to its address
@@ -103,7 +103,7 @@ module _ (limit : ℕ) (cuts : ℕ → ℕ → List ℕ) (program : Program) (c 
       let (j1, z1) = address_stands limit cuts program c f x calls globals mains epar calls_do s h (root_of s.scope r) n from m1 e l1 in
       does_seq limit c f x stage.weak (λ ts al. al)
       (named_does limit cuts program c f x calls globals mains epar calls_do from m1 n (VariableOf o.object) o.offset st (record { address = u.address; leads = leads_more n.through f n.place u.address stage.ext u.leads; spread = spread_more stage.ext u.spread }) j1 z1
-      (selected_does limit cuts program c f x calls globals mains epar calls_do selections m1 m2 s h1 st o u.address o.offset n.cells n.cells many stage.knows en ws reach (le_refl o.offset) (le_refl (o.offset + n.cells)) l3))
+      (selected_does limit cuts program c f x calls globals mains epar calls_do selections m1 m2 s h1 st o u.address o.offset n.cells n.cells many stage.knows en ws reach (le_refl o.offset) (le_refl (o.offset + n.cells)) (let n' = u.spread.near in let t = stage.ext.top in omega (arith, n', t)) l3))
       (λ p is. go p (u.address + (p.offset - o.offset)) (spread_part limit cuts program c f x calls globals mains epar u.spread (ap (λ y. VariableOf y) is.0) is.1 is.2))
 
   -- its one cell is read
@@ -196,7 +196,7 @@ module _ (limit : ℕ) (cuts : ℕ → ℕ → List ℕ) (program : Program) (c 
       (does_seq limit c f x p1.weak (λ ts al. al) (one_read (VariableOf p.object) p.offset a st (spread_more p1.ext target) (at_entry en jl)) (λ v _.
       does_assoc limit c f x _ _ then
       (let P : Sent = sent_back formal n p a (v ∷ []) (inner ∷ []) (Some (record { at = at; scalar = outer })) in
-      set_in _ G1 w (n + 1) (m2 + 1 + 1 + 1) at inner v st p1.weak (cell_free 1 n a place (omega arith)) (subst (λ p. At c (m2 + 1 + 1 + 1) (i.SetL p inner.low inner.high) x.entry) cell' (at_entry en jk2))
+      set_in _ G1 w (n + 1) (m2 + 1 + 1 + 1) at inner v st p1.weak (cell_free 1 n a place (omega arith)) (subst (λ p. At c (m2 + 1 + 1 + 1) (Emission.set_instr inner p) x.entry) cell' (at_entry en jk2))
       (subst (λ t. Doing limit c f x (keeping (f.base + w + (n + 1)) (v ∷ []) G1) g q (stored.bind (Meaning.pass ops limit program calls rest env (so_far ++ (P.passed ∷ []))) then) (λ d. on f t st d) goal) z
       (passed_all rest m0 to s h sub w m zs st (so_far ++ (P.passed ∷ [])) then k (keep_cells 1 n a (v ∷ []) refl place p1) en wr lr (λ ps suited targets.
       closing st then so_far P ps
@@ -351,7 +351,7 @@ module _ (limit : ℕ) (cuts : ℕ → ℕ → List ℕ) (program : Program) (c 
       let val' : G.what (f.base + (F + 1)) ≡ Keeps v = subst (λ a. G.what a ≡ Keeps v) v0 (val 0 v refl) in
       does_by limit c f x (λ t d fit. comes_number limit c f (own F) (pos b) [] d fit (f.base + F, refl, inl addr) j1)
       (does_by limit c f x (λ t d fit. comes_number limit c f (own (F + 1)) v (pos b ∷ []) d fit (f.base + (F + 1), refl, inl val') j2)
-      (does_bind limit c f x (does_check limit c f x RangeCheck k.at k.scalar.low k.scalar.high v (Values.is_in k.scalar v) (pos b ∷ []) refl (at_entry en j3)) (λ _ _.
+      (does_bind limit c f x (does_check limit c f x RangeCheck k.at k.scalar v (Values.is_in k.scalar v) (pos b ∷ []) refl (at_entry en j3)) (λ _ _.
       does_bind limit c f x
       (does_write limit c f x p.object p.offset b v pl access here' stands' (λ a' z' e. one' b a' access z' pl stands' e)
       (λ u d mine. subst (λ q. To limit c (on f (from + 1 + 1 + 1) (v ∷ pos b ∷ []) d) (on f q [] (record d { cells = set d.cells b (Mine v) }))) (sym z)

@@ -67,7 +67,7 @@ numbers_code = refl
 sums_code : instrs (Emission.composed program sight.scope 0 0 sums)
     ≡ i.Local 0 ∷ i.Fill 5 (pos 0) ∷ i.Push (pos 0) ∷ i.StoreL 5 ∷ i.Repeat 5
     ∷ i.Local 0 ∷ i.LoadL 5 ∷ i.Index (pos 0) (pos 4) 1 ∷ i.StoreL 6 ∷ i.LoadL 6 ∷ i.Push (pos 3) ∷ i.AddI (pos 4) base.Narrow ∷ in_integer ∷ i.Store
-    ∷ i.LoadL 5 ∷ i.Field 1 ∷ i.StoreL 5 ∷ i.Again 5 ∷ []
+    ∷ i.LoadL 5 ∷ i.AddI (pos 1) base.Wide ∷ i.StoreL 5 ∷ i.Again 5 ∷ []
 unfolding Rattle.ada_lower.specs.Emission.emit
 sums_code = refl
 

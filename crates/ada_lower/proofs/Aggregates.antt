@@ -249,6 +249,7 @@ module _ (limit : ℕ) (cuts : ℕ → ℕ → List ℕ) (program : Program) (c 
 
   pub spread_part : {g : Ghost} {y z : Entity} {total n a o o' : ℕ} → Spread g y o total a → z ≡ y → o ≤ o' → o' + n ≤ o + total → Spread g z o' n (a + (o' - o))
   spread_part {g} {y} {z} {total} {n} {a} {o} {o'} w e le lt = record {
+    near = (let r = w.near in omega (arith, r, le, lt));
     cell = λ i il.
         let (pl, access, here, is) = w.cell (o' - o + i) (omega (arith, il, le, lt)) in
         let p : o + (o' - o + i) ≡ o' + i = omega (arith, le) in
@@ -281,7 +282,7 @@ module _ (limit : ℕ) (cuts : ℕ → ℕ → List ℕ) (program : Program) (c 
       (does_assoc limit c f x _ _ then
       (does_seq limit c f x room.weak (λ ts al. al) (vd (Unit {0}) (from + 1) m g env s (h + 1) (pos a ∷ st) room.knows en w l1) (λ v _.
       does_assoc limit c f x _ _ then
-      (does_seq limit c f x room.weak (λ ts al. al) (does_check limit c f x RangeCheck check.at check.scalar.low check.scalar.high v (Values.is_in check.scalar v) (pos a ∷ st) refl (at_entry en j1)) (λ _ _.
+      (does_seq limit c f x room.weak (λ ts al. al) (does_check limit c f x RangeCheck check.at check.scalar v (Values.is_in check.scalar v) (pos a ∷ st) refl (at_entry en j1)) (λ _ _.
       does_returned limit c f x then (v ∷ [])
       (does_first limit c f x (fewer_kept a (v ∷ []) g) (λ t' d fit.
       let (u, is) = own' t' (slice_get d.cells a) (fit.cells a) in
@@ -386,11 +387,12 @@ module _ (limit : ℕ) (cuts : ℕ → ℕ → List ℕ) (program : Program) (c 
   turning_does {B} {g} {j} {env} {q} {goal} it value s t n st code each room some stride head mid step v arrives jt lc j1 j2 j3 j4 zero k first cur then is len inn go =
       let a : ℕ = f.base + (t + first) in
       let here : first + Emission.width program value ≤ n = (let z : first + 0 * stride + Emission.width program value ≤ n = inn 0 (omega arith) in omega (arith, z, zero-mul stride)) in
+      let inside : a ≤ g.top = (let z : t + n ≤ s.scope.free = room.below in let y = room.knows.top in omega (arith, z, y, here, some)) in
       does_assoc limit c f x _ _ then
       (turn_does it value s t n st code each room some head mid v jt lc k first cur (λ final. stored.bind (Meaning.run_values ops (k + 1) 0 (first + stride) stride (turn_values it value env) final) then) len here (λ final flen.
       does_returned limit c f x then final
       (does_first limit c f x (fewer_turns limit cuts c f x s.scope.free (keeping (f.base + t) final g) (frees t n some room final flen) a (it.first +ℤ pos k) v) (λ t' d' w'.
-      let (d2, w2, goes) = turn_last limit cuts c f x st (keeping (f.base + t) final g) s.scope.free stride a step head k it.first v j1 j2 j3 j4 (omega (arith, ints, is)) w' in
+      let (d2, w2, goes) = turn_last limit cuts c f x st (keeping (f.base + t) final g) s.scope.free stride a step head k it.first v j1 j2 j3 j4 (omega (arith, ints, is)) inside w' in
       (d2, fit_turns limit cuts c f x s.scope.free (keeping (f.base + t) final g) (frees t n some room final flen) (a + stride) (it.first +ℤ pos k) v w2, comes_on limit c (arrives d') goes))
       (go final flen))))
   turning_does {B} {g} {j} {env} {q} {goal} it value s t n st code each room some stride head mid step v arrives jt lc j1 j2 j3 j4 (suc more) k first cur then is len inn go =
@@ -399,11 +401,12 @@ module _ (limit : ℕ) (cuts : ℕ → ℕ → List ℕ) (program : Program) (c 
       let place : a + stride ≡ a' = omega arith in
       let one_more : suc k ≡ k + 1 = omega arith in
       let here : first + Emission.width program value ≤ n = (let z : first + 0 * stride + Emission.width program value ≤ n = inn 0 (omega arith) in omega (arith, z, zero-mul stride)) in
+      let inside : a ≤ g.top = (let z : t + n ≤ s.scope.free = room.below in let y = room.knows.top in omega (arith, z, y, here, some)) in
       let is' : v ≡ (it.first +ℤ pos (k + 1)) +ℤ pos more = omega (arith, ints, is) in
       does_assoc limit c f x _ _ then
       (turn_does it value s t n st code each room some head mid v jt lc k first cur (λ final. stored.bind (Meaning.run_values ops (k + 1) (suc more) (first + stride) stride (turn_values it value env) final) then) len here (λ final flen.
       does_first limit c f x (fewer_turn limit cuts c f x s.scope.free a a' (it.first +ℤ pos k) (it.first +ℤ pos (k + 1)) v v (keeping (f.base + t) final g)) (λ t' d' w'.
-      let (d2, w2, goes) = turn_more limit cuts c f x st (keeping (f.base + t) final g) s.scope.free stride a step head k more it.first v j1 j2 j3 j4 is w' in
+      let (d2, w2, goes) = turn_more limit cuts c f x st (keeping (f.base + t) final g) s.scope.free stride a step head k more it.first v j1 j2 j3 j4 is inside w' in
       (d2, subst (λ y. Fit (turns_at limit cuts c f x s.scope.free a' (it.first +ℤ pos y) v (keeping (f.base + t) final g)) t' d2) one_more (subst (λ y. Fit (turns_at limit cuts c f x s.scope.free y (it.first +ℤ pos (suc k)) v (keeping (f.base + t) final g)) t' d2) place w2), comes_on limit c (arrives d') goes))
       (turning_does it value s t n st code each room some stride head mid step v arrives jt lc j1 j2 j3 j4 more (k + 1) (first + stride) final then is' flen (λ o lt. let z = inn (suc o) (omega (arith, lt)) in omega (arith, z, suc-mul o stride)) go)))
 

@@ -16,6 +16,7 @@ use Rattle.ada_meaning.specs.Stored.{Stored, Left, Address, Kept, Stacked, slot_
 use Rattle.ada_meaning.specs.Meaning
 use Rattle.ada_meaning.specs.Meaning.{Env, Back, Passed, Returned}
 use Rattle.stack_code.specs.declared.code.Code.{Code}
+use Rattle.stack_code.specs.Valid.{IsCountable}
 use Rattle.stack_code.specs.declared.code.CodeSub.{CodeSub}
 use Rattle.stack_code.specs.declared.instr.Instr.{Instr}
 use Rattle.stack_code.specs.Machine.{Goes, entered_at, failed}
@@ -202,13 +203,14 @@ module _ (limit : ℕ) (cuts : ℕ → ℕ → List ℕ) (program : Program) (c 
         not_here y i ∙ ap (λ b. cond b (within Kept (slot_at g.everywhere (key y)) i) None) ne
 
     main_in : (y : Entity) (m : Named) → AtMain g m y → AtMain B m y
-    main_in y m (o, is, one', cells') = (o, is, one', λ i lt. let (p, acc, here, e) = cells' i lt in (p, acc, here, what_inside (o + i) (is_inside (o + i) acc p e) ∙ e))
+    main_in y m (o, is, one', cells', near) = (o, is, one', (λ i lt. let (p, acc, here, e) = cells' i lt in (p, acc, here, what_inside (o + i) (is_inside (o + i) acc p e) ∙ e)), omega (arith, near))
 
     main_refers : (y : Entity) (m : Named) → AtMain g m y → Refers B f' m y 0
-    main_refers y m (o, is, one', cells') = subst (λ z. Refers B f' z y 0) (sym is) (record {
+    main_refers y m (o, is, one', cells', near) = subst (λ z. Refers B f' z y 0) (sym is) (record {
       address = o;
       leads = refl;
       spread = record {
+        near = omega (arith, near);
         cell = λ i lt.
             let (p, acc, here, e) = cells' i lt in
             let z : 0 + i ≡ i = omega arith in
@@ -323,7 +325,7 @@ module _ (limit : ℕ) (cuts : ℕ → ℕ → List ℕ) (program : Program) (c 
 
   -- ---- calls
 
-  module _ (same_texts : texts ≡ c.texts) (stood : AllStand program globals mains texts text frames epar par c) (asked : Option Program) (pars : (f : Fixed) → f.asked ≡ asked → (depth : ℕ) (all : (f' : Fixed) → Alike f' f → CallsDo limit cuts program globals mains c f' (Meaning.call ops limit program depth)) → ForksDo limit cuts program globals mains epar par c f (Meaning.call ops limit program depth) (λ rs. all (with_rounds rs f) (alike f))) where
+  module _ (countable : IsCountable c.instrs) (same_texts : texts ≡ c.texts) (stood : AllStand program globals mains texts text frames epar par c) (asked : Option Program) (pars : (f : Fixed) → f.asked ≡ asked → (depth : ℕ) (all : (f' : Fixed) → Alike f' f → CallsDo limit cuts program globals mains c f' (Meaning.call ops limit program depth)) → ForksDo limit cuts program globals mains epar par c f (Meaning.call ops limit program depth) (λ rs. all (with_rounds rs f) (alike f))) where
     -- what a call comes to behind its turn: whether fewer than 1,000 calls are active, and whether what is checked holds
     abbrev begun_call : (q n to : ℕ) (f : Fixed) (st : List ℤ) → CodeSub → (few ok : Bool) → Dyn → Step
     begun_call q n to f st is few ok d = driven limit c
@@ -422,6 +424,7 @@ module _ (limit : ℕ) (cuts : ℕ → ℕ → List ℕ) (program : Program) (c 
 
     pub call_do : (depth : ℕ) (f : Fixed) → f.asked ≡ asked → f.calls + depth ≡ 1000 → CallsDo limit cuts program globals mains c f (Meaning.call ops limit program depth)
     call_do zero f same_asked many = record {
+      countable = countable;
       by = λ {g} x s sub n q back before after kept check ps u k whole room suited free begins.
           let b = stood sub u.unit u.is in
           let fk : Fixed = with_kept kept f in
@@ -431,6 +434,7 @@ module _ (limit : ℕ) (cuts : ℕ → ℕ → List ℕ) (program : Program) (c 
           (also_raised limit c fk x reason.StorageError (λ t. raise_is reason.StorageError t) (λ d. full_goes b.is n back (holds check) fk before after d (omega (arith, many)) begins.at)));
     }
     call_do (suc depth) f same_asked many = record {
+      countable = countable;
       by = λ x s sub n q back before after kept check ps u k whole room suited free begins.
           call_once depth f same_asked many x s sub n q back before after kept check ps u (λ f' e a. call_do depth f' (a ∙ same_asked) (omega (arith, many, e))) k whole room suited free begins;
     }

@@ -10,6 +10,7 @@ use Rattle.ada_meaning.specs.Meaning.{Env, Passed, Returned}
 use Rattle.ada_meaning.specs.Operations.{RangeCheck}
 use Rattle.ada_meaning.proofs.Cells.{get_left, get_right, get_take}
 use Rattle.stack_code.specs.declared.code.Code.{Code}
+use Rattle.stack_code.specs.Valid.{IsCountable}
 use Rattle.stack_code.specs.declared.instr.Instr.{Instr}
 use Rattle.stack_code.specs.declared.instr.Instr.TheVariants as i
 use Rattle.ada_base.specs.Cells.{Mine, zeros}
@@ -270,6 +271,7 @@ with_kept vs f = record f { kept = vs }
 
 -- calls whose arguments stand in cells of the caller's frame, where they leave what is copied back; accumulators may be kept
 pub record CallsDo (limit : ℕ) (cuts : ℕ → ℕ → List ℕ) (program : Program) (globals : ℕ → Entity → Option Named) (mains : Entity → Bool) (c : Code) (f : Fixed) (calls : ℕ → ℕ → Stored (Unit {0}) → List Passed → Stored Returned) : Type 0 where
+  pub countable : IsCountable c.instrs
   pub by : {g : Ghost} {env : Env} (x : Ends) (s : Sight) (sub n q to : ℕ) (before after : List ℤ) (kept : List ℤ) (check : Checked) (ps : List Sent) (u : Callable program globals mains s sub) → Knows limit cuts g f s env → n + shapes_cells (shapes program u.unit.formals) ≡ s.scope.free → s.scope.free ≤ s.cells → AreSuited (spots 0 (shapes program u.unit.formals)) ps
       → AreFree (f.base + n) (shapes_cells (shapes program u.unit.formals)) g.what → Calling limit c (with_kept kept f) q before after (sub + 1) n to (holds check) x.entry
       → Also limit c (with_kept kept f) x {A = Returned} (scattering (f.base + n) (pieces ps) g) (scattering (f.base + n) (aheads ps) g) (λ r d. Backs (f.base + n) ps r.cells d.cells) (calls env.nested sub (test_of check) (all_passed ps)) (λ d. on (with_kept kept f) q before d) (λ r d. on (with_kept kept f) to (given u.unit.result r.value ++ after) d)

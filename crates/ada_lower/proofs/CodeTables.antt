@@ -20,7 +20,7 @@ use Rattle.lower_emission.specs.Emission.{shapes, shapes_cells}
 use Rattle.lower_emission.specs.Programs.{is_body, at_least, raised, needed, is_fork, fork_at, fork_from, no_fork, code_site, code_sites, has_result, code_sub, code_subs, all_subs, text_in, placed_code, code_of}
 use Rattle.ada_lower.specs.ProgramCode.{IsCodeOf}
 use Rattle.ada_lower.specs.HasTables.{HasTables, IsBody, HasForks, LeasesFit}
-use Rattle.ada_lower.specs.Sited.{IsSited}
+use Rattle.ada_lower.proofs.Sited.{IsSited}
 use Rattle.ada_lower.proofs.Declared.{length_in}
 use Rattle.ada_lower.proofs.NamedCode.{IsBehind, Names, listed_names}
 
@@ -163,8 +163,8 @@ module _ (program : Program) (leases : ℕ → List Lease) where
   row_of counted q site p e is = let z : 0 + q ≡ q = omega arith in found site no_fork 0 ps q p e is (λ j x ex ix. counted.once j q site x p ex e ix is) ∙ ap (λ n. fork_at n p) z
 
   module _ (sited : IsSited program) (counted : HasForks program) (leased : LeasesFit program leases) where
-    named : (q : ℕ) (p : Placed) (i : Instr) → slice_get ps q ≡ Some p → p.instr ≡ i → Names program p.body i
-    named q p i e is = subst (λ i. Names program p.body i) is (listed_names program sited q p e).1
+    named : (q : ℕ) (p : Placed) (i : Instr) → slice_get ps q ≡ Some p → p.instr ≡ i → Names program p.body p.kind i
+    named q p i e is = subst (λ i. Names program p.body p.kind i) is (listed_names program sited q p e).1
 
     behind : (b : Around) (site outer : ℕ) → b ≡ body.Site outer → IsBehind program b site → outer < site
     behind b site outer e w = subst (λ b. IsBehind program b site) e w
@@ -188,6 +188,7 @@ module _ (program : Program) (leases : ℕ → List Lease) where
           let two : q + 2 ≡ q + 1 + 1 = omega arith in
           subst (λ o. IsSomeAnd o (λ s. (s.entry ≡ q + 1 + 1) × (4 ≤ s.frame) × (s.around ≡ p.body) × (s.kind ≡ p.kind))) (sym (construct_row site (named q p (Forks site) e is).0))
           (ap (λ f. f.place + 2) row ∙ two, omega (arith, least), ap (λ f. f.around) row, ap (λ f. f.kind) row);
+      folds = λ q site p e is. (named q p (Forks site) e is).2;
       sites = λ site s e.
           let lt = length_in (code_of program leases).sites site s e in
           let same = sites_length ps leases 0 program.sites in

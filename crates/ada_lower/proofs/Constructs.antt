@@ -6,7 +6,7 @@ use Rattle.typed_sites.specs.Sites.{SitesAreListed, in_number, in_body, in_subs,
 use Rattle.typed_sites.specs.Nesting.{Follows, NestedBody, NestedSubs, SitesAreNested, NestedExpr, NestedOptional, NestedSelections, NestedActuals, NestedValue, NestedComposite, NestedAssociations, NestedIteration, NestedChunk, NestedPieces, NestedDecls, NestedStmt, NestedAll, NestedAlternatives, NestedArms, NestedHandlers}
 use Rattle.lower_emission.specs.Programs.{text_in}
 use Rattle.lower_emission.specs.Texts.{arm_texts, body_texts, case_texts, handler_texts, pieces_texts, stmt_texts, subs_texts, texts_in, texts_of}
-use Rattle.ada_lower.specs.Sited.{Inner, IsSited, SitedBody, SitedSubs, SitedExpr, SitedOptional, SitedSelections, SitedActuals, SitedValue, SitedComposite, SitedAssociations, SitedIteration, SitedChunk, SitedPieces, SitedDecls, SitedStmt, SitedAll, SitedAlternatives, SitedArms, SitedHandlers}
+use Rattle.ada_lower.proofs.Sited.{Inner, IsSited, SitedBody, SitedSubs, SitedExpr, SitedOptional, SitedSelections, SitedActuals, SitedValue, SitedComposite, SitedAssociations, SitedIteration, SitedChunk, SitedPieces, SitedDecls, SitedStmt, SitedAll, SitedAlternatives, SitedArms, SitedHandlers}
 use Rattle.ada_lower.proofs.Strings.{IsOne, among_stands, one_left, one_right}
 
 own-by : (b : Bool) → b ≡ true → 1 ≤ (if b then 1 else 0)

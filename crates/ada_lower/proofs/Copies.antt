@@ -66,7 +66,7 @@ module _ (limit : ℕ) (cuts : ℕ → ℕ → List ℕ) (c : Code) (f : Fixed) 
       let (v, cell, bears) = cell_seen g a access p s d fit (ap g.what (sym a0) ∙ stands) in
       let (t, u) = read_touch g y o p v s (λ v. Meaning.read_all ops y (o + 1) (so_far ++ (v ∷ [])) ss) at cell al in
       let may : allows access false ≡ true = t.0 a access (ap g.what (sym a0) ∙ stands) in
-      let more = all_read {g = g} y (o + 1) (a + 1) (total - 1) ss (so_far ++ (v ∷ [])) s d (omega (arith, le)) (record { cell = λ i lt. rest spread i (omega (arith, lt)) }) fit u in
+      let more = all_read {g = g} y (o + 1) (a + 1) (total - 1) ss (so_far ++ (v ∷ [])) s d (omega (arith, le)) (record { near = (let n = spread.near in omega (arith, n, le)); cell = λ i lt. rest spread i (omega (arith, lt)) }) fit u in
       record {
         values = v ∷ more.values;
         many = ap suc more.many;
@@ -158,7 +158,7 @@ module _ (limit : ℕ) (cuts : ℕ → ℕ → List ℕ) (c : Code) (f : Fixed) 
       (λ u d mine. subst (λ w. To limit c w (driven limit c (done limit (stores_all vs (pos (a + 1)) (GoesOn (at_ + 1) (rest ++ f.below))) (state_of f at_ st [] None (record d { cells = set d.cells a (Mine v) }))) d.world))
       (sym (ap (λ z. driven limit c (with_cells (where_mine z (set d.cells a (Mine v))) (state_of f at_ st [] None d) (λ s. done limit (stores_all vs (pos (a + 1)) (GoesOn (at_ + 1) (rest ++ f.below))) s)) d.world) mine))
       (comes_here limit c _)))
-      (λ _ _. stored_all y (o + 1) (a + 1) (total - 1) at_ vs st rest (omega (arith, le)) (record { cell = λ i lt. more spread i (omega (arith, lt)) }) one)
+      (λ _ _. stored_all y (o + 1) (a + 1) (total - 1) at_ vs st rest (omega (arith, le)) (record { near = (let n = spread.near in omega (arith, n, le)); cell = λ i lt. more spread i (omega (arith, lt)) }) one)
     where
       more : Spread g (VariableOf y) o total a → (i : ℕ) → suc i < total → (pl : Address) × (access : Access) × (place_in g (VariableOf y) (o + 1 + i) ≡ Some pl) × (g.what (a + 1 + i) ≡ StandsFor access pl)
       more w i lt =

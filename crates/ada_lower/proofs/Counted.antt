@@ -1,5 +1,5 @@
 -- How often a construct's fork stands in code: no more often than its number stands in the text (5.5, 5.6.1, 4.5.10).
-use Rattle.std.proofs.Common.{◌≡◌, ℕ, zero, suc, ◌+◌, ◌<◌, ◌≤◌, ◌-◌, min, ℤ, ◌&&◌, not, List, [], ◌∷◌, ◌++◌, length, nat_eq, nat_lt, Option, Some, None, Bool, true, false, cond, slice_get, ◌⊎◌, ⊎_elim, inl, inr, refl, sym, ap, ◌∙◌, subst, true≢false, arith, ltb-false, eq-eqb, eqb-true}
+use Rattle.std.proofs.Common.{◌≡◌, ℕ, zero, suc, ◌+◌, ◌<◌, ◌≤◌, ◌-◌, min, max, ℤ, ◌&&◌, not, List, [], ◌∷◌, ◌++◌, length, nat_eq, nat_lt, Option, Some, None, Bool, true, false, cond, slice_get, ◌⊎◌, ⊎_elim, inl, inr, refl, sym, ap, ◌∙◌, subst, true≢false, arith, ltb-false, eq-eqb, eqb-true}
 use Rattle.std.proofs.lemmas.Bool.{and_cases, and_parts, or_parts, not-false, ne_eqb, cases_lt, cases_eq}
 use Rattle.std.proofs.lemmas.Option.{none-some}
 use Rattle.ada_base.specs.declared.operation.Op.{Op}
@@ -9,7 +9,8 @@ use Rattle.ada_base.specs.declared.operation.Comparison.TheVariants as compariso
 use Rattle.ada_base.specs.declared.reason.Reason.{Reason}
 use Rattle.behaviours.specs.Paths.{VariableOf, ConstantOf}
 use Rattle.lower_emission.specs.Repeats.{several, is_plain_expr, is_plain, is_plain_composite, are_plain, is_repeated}
-use Rattle.ada_meaning.specs.Values.{components}
+use Rattle.ada_base.specs.declared.operation.Base.TheVariants.{Narrow, Wide, Modulo}
+use Rattle.ada_meaning.specs.Values.{components, is_modular}
 use Rattle.ada_meaning.specs.Meaning.{object_layout}
 use Rattle.ada_meaning.proofs.Cells.{some_same}
 use Rattle.typed_tree.specs.declared.scalars.Class.{Class}
@@ -39,16 +40,16 @@ use Rattle.lower_emission.specs.declared.types.Level.TheVariants.{Own, Around, M
 use Rattle.lower_emission.specs.declared.types.Leaving.{Leaving}
 use Rattle.lower_emission.specs.declared.types.Leaving.TheVariants.{ByReturn, ByValue, ByEnd, ByLeave}
 use Rattle.lower_emission.specs.Emits.{Emit, Nothing, One, Seq, Choose, When, Looped, Guarded, Aside, From, listed}
-use Rattle.lower_emission.specs.Scope.{Scope, taking, nested, thread_scope, with_exit, with_entry, root_of, constant_root_of, array_root_of, none, one, load_at, address_at, store_at, address_of}
-use Rattle.lower_emission.specs.Emission.{load_by, load_named, load_where, address, is_whole, unary_instr, binary_instr, static_instr, operated_by, compare_instr, negated_code, counting, bounds_code, folding, combined, doubled, filling, fillings, iterated_scope, turning, entering_next, run_steps, run_turnings, turn_height, turnings, components_of, locating, locating_in, repeating, ends_code, passing, composite_width, width, cells_of, own_cell, indexed_by, item_by, main_named, component_address, component_value}
-use Rattle.lower_emission.proofs.Fused.{of_operated, of_component_address, of_component_value}
+use Rattle.lower_emission.specs.Scope.{Scope, mark_of, keep_checked, taking, nested, thread_scope, with_exit, with_entry, root_of, constant_root_of, array_root_of, none, one, load_at, address_at, store_at, address_of}
+use Rattle.lower_emission.specs.Emission.{checked, within, ranged, reducing, load_by, load_named, load_where, address, is_whole, unary_instr, binary_instr, static_instr, operated_by, compare_instr, negated_code, counting, bounds_code, folding, combined, doubled, filling, fillings, iterated_scope, turning, entering_next, run_steps, run_turnings, turn_height, turnings, components_of, locating, locating_in, repeating, ends_code, passing, composite_width, width, cells_of, own_cell, indexed_by, item_by, main_named, component_address, component_value}
+use Rattle.lower_emission.proofs.Fused.{of_either, of_check, of_set, of_not, of_operated, of_component_address, of_component_value}
 unfoldable use Rattle.lower_emission.specs.Emission.{emit, named_value, selected, read, passed, put_into, composed, associated, component, filtered, iterated, chunk_code, course_code, threaded}
 use Rattle.lower_emission.specs.Statements.{no_handler, is_end, assigned, chosen, has_reason, handled_by, returning, returning_value, away, exiting, handled_target, image_instr, send_instr, piece_texts, object_here, exits_of, arm_exits, exit_code, exits_code, is_own, left_code, field_defaults, default_of, defaults_within, subtype_or_none, defaulted, declared, arms_code, chunk_by, arm_scope, store_checked}
 unfoldable use Rattle.lower_emission.specs.Statements.{back_code, piece_values, stmt, all, cases, handling, arm_codes}
 use Rattle.lower_emission.specs.Bodies as code
 use Rattle.lower_emission.specs.Programs.{is_fork, has_fork, idle_fork, idle_forks, text_in, placed_code}
 use Rattle.ada_lower.specs.HasTables.{HasForks}
-use Rattle.ada_lower.specs.Sited.{SitedExpr, SitedOptional, SitedSelections, SitedActuals, SitedValue, SitedComposite, SitedAssociations, SitedIteration, SitedChunk, SitedPieces, SitedDecls, SitedStmt, SitedAll, SitedAlternatives, SitedArms, SitedHandlers, SitedSubs, IsSited}
+use Rattle.ada_lower.proofs.Sited.{SitedExpr, SitedOptional, SitedSelections, SitedActuals, SitedValue, SitedComposite, SitedAssociations, SitedIteration, SitedChunk, SitedPieces, SitedDecls, SitedStmt, SitedAll, SitedAlternatives, SitedArms, SitedHandlers, SitedSubs, IsSited}
 
 module _ (site : ℕ) where
   -- ---- counts
@@ -131,6 +132,9 @@ module _ (site : ℕ) where
         let z = g.few (at + 1) in omega (arith, e, y, z);
   }
 
+  named : {a : ℕ → Emit} {n : ℕ} → ((x : ℕ) → Few (a x) n) → Few (From a) n
+  named {a} f = record { few = λ q. (f q).few q }
+
   apart : {mk : Mark} {h : ℕ} {a : Emit} {n : ℕ} → Few a n → Few (Aside mk h a) n
   apart {mk} {h} {a} f = record { few = λ q. let z = f.few (q + 1) in omega (arith, z) }
 
@@ -198,10 +202,14 @@ module _ (site : ℕ) where
   few_component_value s h n first own low high stride {index} {m} f =
       of_component_value (λ a. Few a m) s h n first own low high stride index (λ g k e e'. some (flat (λ q. refl))) (after (few_address s h n) (few_item s (h + 1) own low high stride f))
 
+  -- an instruction or its counterpart
+  by_class : (s : Scope) (h : ℕ) (b : Bool) (x y : Instr) → Few (one s h x) 0 → Few (one s h y) 0 → Few (one s h (cond b x y)) 0
+  by_class s h b x y f g = of_either (λ j. Few (one s h j) 0) b x y f g
+
   few_unary : (s : Scope) (h : ℕ) (g : Sign) (class : Class) → Few (one s h (unary_instr g class)) 0
   few_unary s h sign.Minus class = flat (λ q. refl)
   few_unary s h sign.Abs class = flat (λ q. refl)
-  few_unary s h sign.Not class = flat (λ q. refl)
+  few_unary s h sign.Not class = of_not (λ j. Few (one s h j) 0) class (flat (λ q. refl)) (λ k d. flat (λ q. refl))
 
   few_binary : (s : Scope) (h : ℕ) (x : Op) (class : Class) → Few (one s h (binary_instr x class)) 0
   few_binary s h op.Add class = flat (λ q. refl)
@@ -211,23 +219,38 @@ module _ (site : ℕ) where
   few_binary s h op.Mod class = flat (λ q. refl)
   few_binary s h op.Rem class = flat (λ q. refl)
   few_binary s h op.Pow class = flat (λ q. refl)
-  few_binary s h op.And class = flat (λ q. refl)
-  few_binary s h op.Or class = flat (λ q. refl)
-  few_binary s h op.Xor class = flat (λ q. refl)
-  few_binary s h op.Max class = flat (λ q. refl)
-  few_binary s h op.Min class = flat (λ q. refl)
+  few_binary s h op.And class = by_class s h (is_modular class) _ _ (flat (λ q. refl)) (flat (λ q. refl))
+  few_binary s h op.Or class = by_class s h (is_modular class) _ _ (flat (λ q. refl)) (flat (λ q. refl))
+  few_binary s h op.Xor class = by_class s h (is_modular class) _ _ (flat (λ q. refl)) (flat (λ q. refl))
+  few_binary s h op.Max class = by_class s h (is_modular class) _ _ (flat (λ q. refl)) (flat (λ q. refl))
+  few_binary s h op.Min class = by_class s h (is_modular class) _ _ (flat (λ q. refl)) (flat (λ q. refl))
 
   few_operated : (s : Scope) (h : ℕ) (x : Op) (class : Class) (f : Expr) {right : Emit} {m : ℕ} → Few right m → Few (operated_by s h (static_instr x class f) (binary_instr x class) right) m
   few_operated s h x class f {right} {m} k =
       of_operated (λ a. Few a m) s h x class f (binary_instr x class) right (λ v. some (flat (λ q. refl))) (λ v. some (flat (λ q. refl))) (λ v. some (flat (λ q. refl))) (λ v. some (flat (λ q. refl))) (before k (few_binary s (h + 1) x class))
 
-  few_compare : (s : Scope) (h : ℕ) (r : Comparison) → Few (one s h (compare_instr r)) 0
-  few_compare s h comparison.Equal = flat (λ q. refl)
-  few_compare s h comparison.Unequal = flat (λ q. refl)
-  few_compare s h comparison.Less = flat (λ q. refl)
-  few_compare s h comparison.AtMost = flat (λ q. refl)
-  few_compare s h comparison.Greater = flat (λ q. refl)
-  few_compare s h comparison.AtLeast = flat (λ q. refl)
+  few_compare : (s : Scope) (h : ℕ) (r : Comparison) (class : Class) → Few (one s h (compare_instr r class)) 0
+  few_compare s h comparison.Equal class = flat (λ q. refl)
+  few_compare s h comparison.Unequal class = flat (λ q. refl)
+  few_compare s h comparison.Less class = by_class s h (is_modular class) _ _ (flat (λ q. refl)) (flat (λ q. refl))
+  few_compare s h comparison.AtMost class = by_class s h (is_modular class) _ _ (flat (λ q. refl)) (flat (λ q. refl))
+  few_compare s h comparison.Greater class = by_class s h (is_modular class) _ _ (flat (λ q. refl)) (flat (λ q. refl))
+  few_compare s h comparison.AtLeast class = by_class s h (is_modular class) _ _ (flat (λ q. refl)) (flat (λ q. refl))
+
+  few_checked : (s : Scope) (h : ℕ) (k : Scalar) → Few (checked s h k) 0
+  few_checked s h k = of_check (λ j. Few (one s h j) 0) k (flat (λ q. refl)) (flat (λ q. refl))
+
+  few_keep_checked : (s : Scope) (h n : ℕ) (k : Scalar) → Few (keep_checked s h k n) 0
+  few_keep_checked s h n k = of_set (λ j. Few (One (mark_of (max s.free (n + 1)) s) h j) 0) k n (flat (λ q. refl)) (flat (λ q. refl))
+
+  few_within : (s : Scope) (h : ℕ) (class : Class) (d : ℕ) → Few (within s h class d) 0
+  few_within s h class d = after (flat (λ q. refl)) (after (few_compare s (h + 1 + 1) comparison.AtLeast class) (after (flat (λ q. refl)) (after (flat (λ q. refl)) (after (few_compare s (h + 1 + 1 + 1) comparison.AtMost class) (flat (λ q. refl))))))
+
+  few_ranged : (s : Scope) (h n : ℕ) (k : Scalar) → Few (ranged s h n k) 0
+  few_ranged s h n k = after (flat (λ q. refl)) (after (flat (λ q. refl)) (after (few_compare s (h + 1 + 1) comparison.AtLeast k.class) (after (flat (λ q. refl)) (after (flat (λ q. refl)) (after (few_compare s (h + 1 + 1 + 1) comparison.AtMost k.class) (flat (λ q. refl)))))))
+
+  few_reducing : (s : Scope) (h : ℕ) (accumulator value : Scalar) → Few (reducing s h accumulator value) 0
+  few_reducing s h accumulator value = after (flat (λ q. refl)) (after (flat (λ q. refl)) (after (few_ranged s h s.free accumulator) (after (few_ranged s (h + 1) (s.free + 1) value) (flat (λ q. refl)))))
 
   few_negated : (s : Scope) (h : ℕ) (b : Bool) → Few (negated_code s h b) 0
   few_negated s h true = flat (λ q. refl)
@@ -235,15 +258,15 @@ module _ (site : ℕ) where
 
   few_bounds : (s : Scope) (h d : ℕ) (check : Option Check) → Few (bounds_code s h d check) 0
   few_bounds s h d None = flat (λ q. refl)
-  few_bounds s h d (Some c) = flat (λ q. refl)
+  few_bounds s h d (Some c) = after (flat (λ q. refl)) (after (few_checked s (h + 1) c.scalar) (after (flat (λ q. refl)) (after (flat (λ q. refl)) (after (few_checked s (h + 1) c.scalar) (flat (λ q. refl))))))
 
   few_folding : (s : Scope) (h : ℕ) (by : Reducer) → Few (folding s h by) 0
   few_folding s h (Operator at x class) = few_binary s (h + 1 + 1) x class
-  few_folding s h (Function at sub accumulator value) = flat (λ q. refl)
+  few_folding s h (Function at sub accumulator value) = after (flat (λ q. refl)) (after (few_keep_checked s (h + 1) s.free accumulator) (after (flat (λ q. refl)) (after (few_checked s (h + 1) value) (flat (λ q. refl)))))
 
   few_combined : (s : Scope) (h : ℕ) (by : Reducer) → Few (combined s h by) 0
   few_combined s h (Operator at x class) = flat (λ q. refl)
-  few_combined s h (Function at sub accumulator value) = flat (λ q. refl)
+  few_combined s h (Function at sub accumulator value) = named (λ head. after (flat (λ q. refl)) (after (perhaps (after (few_reducing s h accumulator value) (flat (λ q. refl)))) (flat (λ q. refl))))
 
   few_ends : (s : Scope) (h : ℕ) (it : Iteration) → Few (ends_code s h it) 0
   few_ends s h (Range k reverse low high check filter) = flat (λ q. refl)
@@ -359,7 +382,7 @@ module _ (site : ℕ) where
       unfolding emit
 
       plain_into : (s : Scope) (h t : ℕ) (x : Value) → is_plain x ≡ true → Few (put_into program s h t x) 0
-      plain_into s h t (Number check e) w = after (plain_emit s h e w) (flat (λ q. refl))
+      plain_into s h t (Number check e) w = after (plain_emit s h e w) (few_keep_checked s (h + 1) t check.scalar)
       plain_into s h t (Cells c) w = plain_composed s h t c w
 
       plain_composed : (s : Scope) (h t : ℕ) (x : Composite) → is_plain_composite x ≡ true → Few (composed program s h t x) 0
@@ -378,7 +401,7 @@ module _ (site : ℕ) where
       plain_associated s h t (Association runs (Some x) mentions value rest) w = absurd (true≢false (sym w))
 
       plain_component : (s : Scope) (h at : ℕ) (x : Value) → is_plain x ≡ true → Few (component program s h at x) 0
-      plain_component s h at (Number check e) w = after (flat (λ q. refl)) (after (plain_emit s (h + 1) e w) (flat (λ q. refl)))
+      plain_component s h at (Number check e) w = after (flat (λ q. refl)) (after (plain_emit s (h + 1) e w) (after (few_checked s (h + 1 + 1) check.scalar) (flat (λ q. refl))))
       plain_component s h at (Cells c) w = after (plain_composed (taking (composite_width program c) s) h s.free c w) (flat (λ q. refl))
 
     -- a value that is repeated stands in one part, and another is computed once or has no fork
@@ -404,12 +427,12 @@ module _ (site : ℕ) where
       few_emit _ s h (Binary at x class e f) w = join (few_emit _ s h e w.0) (few_operated s (h + 1) x class f (few_emit _ s (h + 1) f w.1))
       few_emit _ s h (AndThen e f) w = join (few_emit _ s h e w.0) (less (omega arith) (either (few_emit _ s h f w.1) (flat (λ q. refl))))
       few_emit _ s h (OrElse e f) w = join (few_emit _ s h e w.0) (less (omega arith) (either (flat (λ q. refl)) (few_emit _ s h f w.1)))
-      few_emit _ s h (Relation class r e f) w = join (few_emit _ s h e w.0) (before (few_emit _ s (h + 1) f w.1) (few_compare s (h + 1 + 1) r))
+      few_emit _ s h (Relation class r e f) w = join (few_emit _ s h e w.0) (before (few_emit _ s (h + 1) f w.1) (few_compare s (h + 1 + 1) r class))
       few_emit _ s h (Membership class negated e low high) w =
-          join (few_emit _ s h e w.0) (after (flat (λ q. refl)) (join (few_emit _ (taking 1 s) h low w.1) (after (flat (λ q. refl)) (before (few_emit _ (taking 2 s) h high w.2) (after (flat (λ q. refl)) (few_negated s h negated))))))
+          join (few_emit _ s h e w.0) (after (flat (λ q. refl)) (join (few_emit _ (taking 1 s) h low w.1) (after (flat (λ q. refl)) (before (few_emit _ (taking 2 s) h high w.2) (after (few_within s h class s.free) (few_negated s h negated))))))
       few_emit _ s h (If condition value otherwise) w = join (few_emit _ s h condition w.0) (either (few_emit _ s h value w.1) (few_emit _ s h otherwise w.2))
       few_emit _ s h (Call at callee sub actuals) w = before (few_passed _ (passing program sub s) h sub s.free actuals w) (flat (λ q. refl))
-      few_emit _ s h (Convert check e) w = before (few_emit _ s h e w) (flat (λ q. refl))
+      few_emit _ s h (Convert check e) w = before (few_emit _ s h e w) (few_checked s (h + 1) check.scalar)
       few_emit _ s h (Reduction at attribute by initial None chunk it value) w =
           less (omega arith) (join (few_emit _ s h initial w.0) (also (in_chunk site chunk) (few_iterated _ _ s (h + 1) None it w.1 (λ u. before (few_emit _ u (h + 1) value w.2) (few_folding u h by)))))
       few_emit _ s h (Reduction at attribute by initial (Some number) chunk it value) w =
@@ -441,7 +464,7 @@ module _ (site : ℕ) where
       few_passed : (o : Option ℕ) (s : Scope) (h sub n : ℕ) (x : Actuals) → SitedActuals program o x → Few (passed program s h sub n x) (in_actuals site x)
       few_passed _ s h sub n NoActual w = flat (λ q. refl)
       few_passed _ s h sub n (In formal value rest) w = join (few_into _ s h _ value w.0) (few_passed _ s h sub n rest w.1)
-      few_passed _ s h sub n (InOut formal at r selections inner outer rest) w = join (after (few_address s h (root_of s r)) (before (few_selected _ s (h + 1) selections w.0) (flat (λ q. refl)))) (few_passed _ s h sub n rest w.1)
+      few_passed _ s h sub n (InOut formal at r selections inner outer rest) w = join (after (few_address s h (root_of s r)) (before (few_selected _ s (h + 1) selections w.0) (after (flat (λ q. refl)) (after (flat (λ q. refl)) (after (flat (λ q. refl)) (few_keep_checked s (h + 1) _ inner)))))) (few_passed _ s h sub n rest w.1)
       few_passed _ s h sub n (Out formal at r selections inner outer rest) w = join (after (few_address s h (root_of s r)) (before (few_selected _ s (h + 1) selections w.0) (flat (λ q. refl)))) (few_passed _ s h sub n rest w.1)
       few_passed _ s h sub n (CompositeInOut formal at r selections subtype rest) w =
           join (after (flat (λ q. refl)) (after (few_address s (h + 1) (root_of s r)) (before (few_selected _ s (h + 1 + 1) selections w.0) (flat (λ q. refl))))) (few_passed _ s h sub n rest w.1)
@@ -449,7 +472,7 @@ module _ (site : ℕ) where
           join (after (flat (λ q. refl)) (after (few_address s (h + 1) (root_of s r)) (before (few_selected _ s (h + 1 + 1) selections w.0) (flat (λ q. refl))))) (few_passed _ s h sub n rest w.1)
 
       few_into : (o : Option ℕ) (s : Scope) (h t : ℕ) (x : Value) → SitedValue program o x → Few (put_into program s h t x) (in_value site x)
-      few_into _ s h t (Number check e) w = before (few_emit _ s h e w) (flat (λ q. refl))
+      few_into _ s h t (Number check e) w = before (few_emit _ s h e w) (few_keep_checked s (h + 1) t check.scalar)
       few_into _ s h t (Cells c) w = few_composed _ s h t c w
 
       few_composed : (o : Option ℕ) (s : Scope) (h t : ℕ) (x : Composite) → SitedComposite program o x → Few (composed program s h t x) (in_composite site x)
@@ -469,7 +492,7 @@ module _ (site : ℕ) where
           join (also (in_exprs site mentions) (few_turnings s h t x.first (few_component _ (iterated_scope s x.parameter) (turn_height runs h) (s.free + 1 + 1) value w.0) runs)) (few_associated _ s h t rest w.1)
 
       few_component : (o : Option ℕ) (s : Scope) (h at : ℕ) (x : Value) → SitedValue program o x → Few (component program s h at x) (in_value site x)
-      few_component _ s h at (Number check e) w = after (flat (λ q. refl)) (before (few_emit _ s (h + 1) e w) (flat (λ q. refl)))
+      few_component _ s h at (Number check e) w = after (flat (λ q. refl)) (before (few_emit _ s (h + 1) e w) (after (few_checked s (h + 1 + 1) check.scalar) (flat (λ q. refl))))
       few_component _ s h at (Cells c) w = before (few_composed _ (taking (composite_width program c) s) h s.free c w) (flat (λ q. refl))
 
       few_iterated : (o p : Option ℕ) (s : Scope) (h : ℕ) (number : Option ℕ) (it : Iteration) {f : Scope → Emit} {n : ℕ} → SitedIteration program o p it → ((u : Scope) → Few (f u) n) → Few (iterated program s h number it f) (in_iteration site it + n)
@@ -494,14 +517,14 @@ module _ (site : ℕ) where
     -- ---- statements
 
     few_store_checked : (s : Scope) (x : Scalar) (level : Level) (n : ℕ) → Few (store_checked s x level n) 0
-    few_store_checked s x Own n = flat (λ q. refl)
-    few_store_checked s x level n = after (flat (λ q. refl)) (few_store_at s 1 level n)
+    few_store_checked s x Own n = of_set (λ j. Few (one s 1 j) 0) x n (flat (λ q. refl)) (flat (λ q. refl))
+    few_store_checked s x level n = after (few_checked s 1 x) (few_store_at s 1 level n)
 
     few_assigned : (s : Scope) (n : Option Named) (whole : Bool) (x : Scalar) {moved : Emit} {value : Scope → ℕ → Emit} {m k : ℕ} → Few moved m → ((t : Scope) (h : ℕ) → Few (value t h) k) → Few (assigned s n whole x moved value) (m + k)
     few_assigned s None whole x f g = some (flat (λ q. refl))
     few_assigned s (Some n) whole x {m = m} f g =
         choice (whole && not n.through) (also m (before (g _ 0) (few_store_checked s x n.place.level n.place.cell)))
-        (after (few_address_of s 0 n) (join f (after (flat (λ q. refl)) (after (flat (λ q. refl)) (before (g _ 1) (flat (λ q. refl)))))))
+        (after (few_address_of s 0 n) (join f (after (flat (λ q. refl)) (after (flat (λ q. refl)) (before (g _ 1) (after (few_checked s (1 + 1) x) (flat (λ q. refl))))))))
 
     few_chosen : (s : Scope) (d : ℕ) (rs : List Span) → Few (chosen s d rs) 0
     few_chosen s d [] = flat (λ q. refl)
@@ -541,7 +564,9 @@ module _ (site : ℕ) where
 
     few_image : (s : Scope) (class : Class) → Few (one s 1 (image_instr class)) 0
     few_image s class.Boolean = flat (λ q. refl)
-    few_image s (class.Integer base) = flat (λ q. refl)
+    few_image s (class.Integer Narrow) = flat (λ q. refl)
+    few_image s (class.Integer Wide) = flat (λ q. refl)
+    few_image s (class.Integer (Modulo d)) = flat (λ q. refl)
     few_image s class.Universal = flat (λ q. refl)
 
     few_send : (s : Scope) (line : Bool) → Few (one s 0 (send_instr line)) 0
@@ -592,8 +617,8 @@ module _ (site : ℕ) where
     unfolding back_code
     few_back s sub w NoActual = flat (λ q. refl)
     few_back s sub w (In formal value rest) = few_back s sub w rest
-    few_back s sub w (InOut formal at r selections inner outer rest) = after (flat (λ q. refl)) (few_back s sub w rest)
-    few_back s sub w (Out formal at r selections inner outer rest) = after (flat (λ q. refl)) (few_back s sub w rest)
+    few_back s sub w (InOut formal at r selections inner outer rest) = after (after (flat (λ q. refl)) (after (flat (λ q. refl)) (after (few_checked s 2 outer) (flat (λ q. refl))))) (few_back s sub w rest)
+    few_back s sub w (Out formal at r selections inner outer rest) = after (after (flat (λ q. refl)) (after (flat (λ q. refl)) (after (few_checked s 2 outer) (flat (λ q. refl))))) (few_back s sub w rest)
     few_back s sub w (CompositeInOut formal at r selections subtype rest) = after (flat (λ q. refl)) (few_back s sub w rest)
     few_back s sub w (CompositeOut formal at r selections subtype rest) = after (flat (λ q. refl)) (few_back s sub w rest)
 
@@ -620,7 +645,7 @@ module _ (site : ℕ) where
       few_stmt _ s (Exit n Absent) w = few_exiting s n (s.exits n)
       few_stmt _ s (Exit n (Present e)) w = before (few_emit _ s 0 e w) (perhaps (few_exiting s n (s.exits n)))
       few_stmt _ s Return w = few_returning s 0 s.leaving
-      few_stmt _ s (ReturnValue (Number check e)) w = before (few_emit _ s 0 e w) (after (flat (λ q. refl)) (few_returning_value s s.leaving))
+      few_stmt _ s (ReturnValue (Number check e)) w = before (few_emit _ s 0 e w) (after (few_checked s 1 check.scalar) (few_returning_value s s.leaving))
       few_stmt _ s (ReturnValue (Cells c)) w = some (flat (λ q. refl))
       few_stmt _ s (Raise reason) w = flat (λ q. refl)
       few_stmt _ s Reraise w = few_handled s s.handled
@@ -635,7 +660,7 @@ module _ (site : ℕ) where
       few_stmt _ s (Parallel k count arms) w = less (omega arith) (after (flat (λ q. refl)) (join (few_count _ (nested s) 0 count w.1) (after (flat (λ q. refl)) (after (flat (λ q. refl)) (before (after (flat (λ q. refl)) (after (flat (λ q. refl)) (after (flat (λ q. refl)) (join forked (apart (before (few_arms _ (arm_scope program s k) 0 arms w.2) (flat (λ q. refl)))))))) (after (flat (λ q. refl)) (few_left (taking 2 s) None (arm_exits arms))))))))
       few_stmt _ s (Block decls stmts handlers) w = few_declared _ s decls w.0 (λ u. choice (no_handler handlers) (less (omega arith) (few_all _ u stmts w.1)) (held (λ x. few_all _ (with_entry x u) stmts w.1) (after (flat (λ q. refl)) (few_handling _ _ u.free handlers w.2))))
       few_stmt _ s (Put at callee pieces line) w = before (few_pieces _ s pieces w) (after (few_texts s s.free pieces) (few_send s line))
-      few_stmt _ s (Get at callee first r selections scalar) w = after (few_address s 0 (root_of s r)) (before (few_selected _ s 1 selections w) (flat (λ q. refl)))
+      few_stmt _ s (Get at callee first r selections scalar) w = after (few_address s 0 (root_of s r)) (before (few_selected _ s 1 selections w) (after (flat (λ q. refl)) (after (few_checked s 2 scalar) (flat (λ q. refl)))))
 
       few_all : (o : Option ℕ) (s : Scope) (x : Stmts) → SitedAll program o x → Few (all program s x) (in_stmts site x)
       few_all _ s End w = flat (λ q. refl)

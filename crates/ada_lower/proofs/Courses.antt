@@ -24,7 +24,7 @@ use Rattle.ada_lower.specs.Fits.{Free, Keeps, Ghost, Fit, Ends, Holds, Knows, St
 use Rattle.ada_lower.proofs.Framework.{any, To, Doing, comes_on, comes_goes, comes_fails, does_ret, does_bind, does_seq, does_before, does_returned, does_assoc}
 use Rattle.ada_lower.proofs.Memory.{set_what, own_free, fit_unset, knows_keep}
 use Rattle.ada_lower.proofs.Standing.{stands_seq, stands_assoc3, stands_when, stands_looped}
-use Rattle.ada_lower.proofs.Parts.{Runs, bit_same, truth_same, check_is, does_is, does_weak, Fewer, does_keep}
+use Rattle.ada_lower.proofs.Parts.{Runs, check_deed, bit_same, truth_same, check_is, does_is, does_weak, Fewer, does_keep}
 use Rattle.ada_lower.proofs.Names.{does_by, comes_number}
 use Rattle.ada_lower.proofs.Leaving.{does_turn}
 use Rattle.ada_lower.proofs.Loops.{counts_at, first_at, last_at, first_value, last_value, counted_does}
@@ -99,18 +99,18 @@ module _ (limit : ℕ) (cuts : ℕ → ℕ → List ℕ) (c : Code) (f : Fixed) 
     where
       go : (b b' : Bool) → Values.is_in check.scalar l ≡ b → Values.is_in check.scalar u ≡ b' → Runs limit c f x g any (stored.checks RangeCheck check.at (b && b')) (λ d. on f (from + 1) (l ∷ st) d) (λ _ d. on f to st d)
       go false b' e e' = does_is limit c f x (Err (Left (Raises reason.ConstraintError))) (check_is RangeCheck check.at false) (λ d.
-          comes_fails limit c f (l ∷ st) st reason.ConstraintError d (at_entry en j2) (ap (λ b. pushed (from + 1) (cond b (Some l) None) (st ++ f.below)) e))
+          comes_fails limit c f (l ∷ st) st reason.ConstraintError d (at_entry en j2) (check_deed limit c f x (from + 1) check.scalar l (st ++ f.below) _ e))
       go true false e e' =
-          does_before limit c f x (λ d. comes_on limit c (comes_goes limit c f (l ∷ st) (from + 1 + 1) (l ∷ st) d j2 (ap (λ b. pushed (from + 1) (cond b (Some l) None) (st ++ f.below)) e)) (comes_goes limit c f (l ∷ st) (from + 1 + 1 + 1) st d j3 refl))
+          does_before limit c f x (λ d. comes_on limit c (comes_goes limit c f (l ∷ st) (from + 1 + 1) (l ∷ st) d j2 (check_deed limit c f x (from + 1) check.scalar l (st ++ f.below) _ e)) (comes_goes limit c f (l ∷ st) (from + 1 + 1 + 1) st d j3 refl))
           (does_by limit c f x (λ t d fit. comes_kept (n + 1) u st d fit ku j4)
           (does_is limit c f x (Err (Left (Raises reason.ConstraintError))) (check_is RangeCheck check.at false) (λ d.
-          comes_fails limit c f (u ∷ st) st reason.ConstraintError d (at_entry en j5) (ap (λ b. pushed (from + 1 + 1 + 1 + 1) (cond b (Some u) None) (st ++ f.below)) e'))))
+          comes_fails limit c f (u ∷ st) st reason.ConstraintError d (at_entry en j5) (check_deed limit c f x (from + 1 + 1 + 1 + 1) check.scalar u (st ++ f.below) _ e'))))
       go true true e e' =
-          does_before limit c f x (λ d. comes_on limit c (comes_goes limit c f (l ∷ st) (from + 1 + 1) (l ∷ st) d j2 (ap (λ b. pushed (from + 1) (cond b (Some l) None) (st ++ f.below)) e)) (comes_goes limit c f (l ∷ st) (from + 1 + 1 + 1) st d j3 refl))
+          does_before limit c f x (λ d. comes_on limit c (comes_goes limit c f (l ∷ st) (from + 1 + 1) (l ∷ st) d j2 (check_deed limit c f x (from + 1) check.scalar l (st ++ f.below) _ e)) (comes_goes limit c f (l ∷ st) (from + 1 + 1 + 1) st d j3 refl))
           (does_by limit c f x (λ t d fit. comes_kept (n + 1) u st d fit ku j4)
           (does_is limit c f x (Ok tt) (check_is RangeCheck check.at true) (
             tt,
-            λ d. comes_on limit c (comes_goes limit c f (u ∷ st) (from + 1 + 1 + 1 + 1 + 1) (u ∷ st) d j5 (ap (λ b. pushed (from + 1 + 1 + 1 + 1) (cond b (Some u) None) (st ++ f.below)) e'))
+            λ d. comes_on limit c (comes_goes limit c f (u ∷ st) (from + 1 + 1 + 1 + 1 + 1) (u ∷ st) d j5 (check_deed limit c f x (from + 1 + 1 + 1 + 1) check.scalar u (st ++ f.below) _ e'))
                 (subst (λ q. To limit c (on f (from + 1 + 1 + 1 + 1 + 1) (u ∷ st) d) (on f q st d)) (sym z) (comes_goes limit c f (u ∷ st) (from + 1 + 1 + 1 + 1 + 1 + 1) st d j6 refl)),
           )))
 

@@ -211,6 +211,7 @@ knows_having_at {limit} {g} {f} {s} {env} o y len vs below room loose' slots new
 
     more : Extends g h
     more = record {
+      top = le_refl g.top;
       place = λ z i p e. ⊎_elim (λ same. absurd (none-some p (sym (k.hidden y i new) ∙ ap (λ n. cond (nat_eq (slot_at g.here n).frame g.frame) (within Stacked (slot_at g.here n) i) (cond (nat_eq (slot_at g.everywhere n).frame 1) (within Kept (slot_at g.everywhere n) i) None)) same ∙ e)))
           (λ ne. place_other z i ne ∙ e) (at_or_not (key y) (key z));
       solid = λ b w ok e. laid_out a len stacked_what vs g.what b (outside b w ok e) ∙ e;
@@ -266,6 +267,7 @@ knows_having_at {limit} {g} {f} {s} {env} o y len vs below room loose' slots new
       address = a;
       leads = refl;
       spread = record {
+        near = (let t = k.top in omega (arith, t, room));
         cell = λ i lt.
             let (v, is) = get_of vs i lt in
             let z0 : 0 + i ≡ i = omega arith in
@@ -335,6 +337,7 @@ knows_kept {limit} {g} {f} {s} {env} o vs below room free k = record {
 
     more : Extends g (keeping a vs g)
     more = record {
+      top = le_refl g.top;
       place = λ z i p e. e;
       solid = λ b w ok e. ⊎_elim
           (λ r. let (j, v, z, is) = r in absurd (loose w ok (sym (free j (length_in vs j v is)) ∙ ap g.what z ∙ e)))

@@ -16,6 +16,7 @@ use Rattle.typed_tree.specs.declared.expressions.Run.{Run}
 use Rattle.typed_tree.specs.declared.expressions.Sign.{Sign}
 use Rattle.typed_tree.specs.declared.expressions.Sign.TheVariants as sign
 use Rattle.typed_tree.specs.Syntax.{Expr, Static, Variable, Constant, Parameter, Target, Group, Unary, Binary, AndThen, OrElse, Relation, Membership, If, Call, Convert, Reduction, Optional, Absent, Present, Selections, Whole, Field, Index, Actuals, NoActual, In, InOut, Out, CompositeInOut, CompositeOut, Value, Number, Cells, Composite, WholeVariable, WholeConstant, WholeTarget, CompositeIf, Aggregate, Associations, NoAssociation, Association, Iteration, Range, Components, Chunk, NoChunk, Count, Each, Program}
+use Rattle.ada_meaning.specs.Values.{is_modular}
 use Rattle.ada_meaning.specs.Operations.{CheckKind, RangeCheck, IndexCheck, OverflowCheck, ZeroCheck, Operations, operate, reduce}
 use Rattle.ada_meaning.specs.Stored as stored
 use Rattle.ada_meaning.specs.Stored.{Stored, Cause, Left, OutOfTurns, NoRoom, CutOff, Misnoted, Address}
@@ -184,10 +185,17 @@ module _ (may : Leave → Type 0) where
       pub c_most : (v : ℤ) → Closed may (Meaning.most_of ops v)
       c_most v = c_bind (c_unless _ _) (λ _. c_ret _)
 
+      c_sign : (z : Sign) (at : ℕ) (class : Class) (v : ℤ) → Closed may (Meaning.sign_checked ops z at class v)
+      c_sign sign.Minus at class v = c_checks OverflowCheck at _
+      c_sign sign.Abs at class v = c_checks OverflowCheck at _
+      c_sign sign.Not at class v = c_ret tt
+
       c_unary : (z : Sign) (at : ℕ) (class : Class) (v : ℤ) → Closed may (Meaning.unary_checked ops z at class v)
-      c_unary sign.Minus at class v = c_checks OverflowCheck at _
-      c_unary sign.Abs at class v = c_checks OverflowCheck at _
-      c_unary sign.Not at class v = c_ret tt
+      c_unary z at class v = go (is_modular class)
+        where
+          go : (b : Bool) → Closed may (cond b (stored.ret tt) (Meaning.sign_checked ops z at class v))
+          go true = c_ret tt
+          go false = c_sign z at class v
 
       c_run : (k n first stride : ℕ) (value : ℕ → Stored (List ℤ)) (so_far : List ℤ) → ((k : ℕ) → Closed may (value k)) → Closed may (Meaning.run_values ops k n first stride value so_far)
       c_run k zero first stride value so_far h = c_ret so_far

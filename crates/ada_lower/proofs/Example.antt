@@ -17,6 +17,7 @@ use Rattle.ada_meaning.specs.Meaning.{sub_at}
 use Rattle.ada_base.specs.Notes.{Schedule}
 use Rattle.ada_meaning.specs.Stored as stored
 use Rattle.ada_meaning.proofs.Cells.{some_same}
+use Rattle.stack_code.specs.Valid.{IsCountable}
 use Rattle.stack_code.specs.declared.code.Code.{Code}
 use Rattle.stack_code.specs.declared.instr.Instr.{Instr}
 use Rattle.ada_base.specs.Cells.{Mine}
@@ -121,9 +122,14 @@ all_stand : AllStand program none_there none_main [] text four_each no_threads n
 all_stand zero unit e = subst (λ u. BodyStands program none_there none_main [] text four_each no_threads no_fork code 0 u) (some_same _ _ e) lies
 all_stand (suc n) unit e = absurd (none-some unit e)
 
+-- no part of it is repeated too often
+countable : IsCountable code.instrs
+unfolding Rattle.ada_lower.specs.Emission.emit Rattle.ada_lower.specs.Emission.named_value Rattle.ada_lower.specs.Emission.selected Rattle.ada_lower.specs.Emission.read Rattle.ada_lower.specs.Emission.passed Rattle.ada_lower.specs.Emission.put_into Rattle.ada_lower.specs.Emission.composed Rattle.ada_lower.specs.Emission.associated Rattle.ada_lower.specs.Emission.component Rattle.ada_lower.specs.Emission.filtered Rattle.ada_lower.specs.Emission.iterated Rattle.ada_lower.specs.Emission.chunk_code Rattle.ada_lower.specs.Emission.course_code Rattle.ada_lower.specs.Emission.threaded Rattle.ada_lower.specs.Emission.back_code Rattle.ada_lower.specs.Emission.piece_values Rattle.ada_lower.specs.Emission.stmt Rattle.ada_lower.specs.Emission.all Rattle.ada_lower.specs.Emission.cases Rattle.ada_lower.specs.Emission.handling Rattle.ada_lower.specs.Emission.arm_codes
+countable = tt
+
 -- so calls of it do what they do in the stored run
 pub calls_do : (limit : ℕ) (cuts : ℕ → ℕ → List ℕ) (depth : ℕ) (f : Fixed) → f.asked ≡ None → f.calls + depth ≡ 1000 → CallsDo limit cuts program none_there none_main code f (Meaning.call (stored.noted_operations limit cuts) limit program depth)
-calls_do limit cuts depth f not_asked many = call_do limit cuts program code none_there none_main no_threads [] text four_each no_fork refl all_stand None (λ f fa depth all. record { forked = (λ rs e from to g env x s h st k en w l. absurd w); parallel = (λ t from to g env x s k u w l. absurd w) }) depth f not_asked many
+calls_do limit cuts depth f not_asked many = call_do limit cuts program code none_there none_main no_threads [] text four_each no_fork countable refl all_stand None (λ f fa depth all. record { forked = (λ rs e from to g env x s h st k en w l. absurd w); parallel = (λ t from to g env x s k u w l. absurd w) }) depth f not_asked many
 
 main_stands : Stands code (main_code program none_there none_main [] text four_each (main_scope program none_there none_main [] text four_each 3).scope) 16 24
 unfolding Rattle.ada_lower.specs.Emission.emit Rattle.ada_lower.specs.Emission.stmt Rattle.ada_lower.specs.Emission.back_code Rattle.ada_lower.specs.Emission.piece_values
@@ -140,4 +146,4 @@ closed (suc n) sub e = absurd (none-some sub e)
 -- and where the stored run of the program gives a value, the machine ends with its output
 pub comes : (limit : ℕ) (cuts : ℕ → ℕ → List ℕ) (slots : ℕ) (input before : List ℕ) (notes : Schedule) → let r = (Meaning.main (stored.noted_operations limit cuts) limit program).does (stored.noted_outset slots input before notes) in r.end ≡ Ok tt
     → (d : Dyn) × Finally limit code (On (record { state = begun 16 0 [] 0 0 0 None (replicate 3 (Mine (pos 0))); world = (first_dyn notes cuts 3 input before).world })) (record { how = Done None; dyn = d }) × (d.world.output ≡ r.state.output) × (d.turns ≡ r.state.turns)
-comes limit cuts slots input before notes e = let (d, a, b, g, w) = program_gives None limit cuts program code none_there none_main no_threads [] text four_each no_fork slots 3 refl (call_only limit cuts program closed 1000) (λ f fa depth all. record { forked = (λ rs e from to g env x s h st k en w l. absurd w); parallel = (λ t from to g env x s k u w l. absurd w) }) all_stand 16 24 main_stands main_fitted input before notes tt e in (d, a, b, g)
+comes limit cuts slots input before notes e = let (d, a, b, g, w) = program_gives None limit cuts program code none_there none_main no_threads [] text four_each no_fork slots 3 countable refl (call_only limit cuts program closed 1000) (λ f fa depth all. record { forked = (λ rs e from to g env x s h st k en w l. absurd w); parallel = (λ t from to g env x s k u w l. absurd w) }) all_stand 16 24 main_stands main_fitted input before notes tt e in (d, a, b, g)

@@ -37,7 +37,7 @@ use Rattle.ada_lower.proofs.Sent.{Sent, HaveCells, sent_in, suits_in, all_passed
 use Rattle.ada_lower.proofs.Scattered.{AreFree, scattering, fit_unscattered, fewer_scattered, both_kept}
 use Rattle.ada_lower.proofs.Passing.{Passing, passing_none, passing_more, placing}
 use Rattle.ada_lower.proofs.Indexing.{index_does, item_does, named_index_does, named_item_does}
-use Rattle.ada_lower.proofs.Names.{root_refers, constant_root_refers, index_below, does_by, does_load, comes_address, comes_number}
+use Rattle.ada_lower.proofs.Names.{root_refers, constant_root_refers, index_below, comes_field, does_by, does_load, comes_address, comes_number}
 use Rattle.std.proofs.lemmas.Bool.{ne_eqb}
 use Rattle.ada_lower.proofs.Copies.{does_copy}
 use Rattle.ada_lower.proofs.Plain.{s_value}
@@ -106,7 +106,7 @@ module _ (limit : ℕ) (cuts : ℕ → ℕ → List ℕ) (program : Program) (c 
       does_assoc limit c f x _ _ then'
       (let p' : Passing limit cuts f env s w m g (keeping (f.base + w + (o + 0)) (v ∷ []) G) zs =
       passing_more (spot (ConstantOf formal) false 1 o) (o + 0) (v ∷ []) (omega arith) (omega arith) place.fits (λ n lt. (let y : f.base + w + (o + 0) + n ≡ f.base + w + o + n = omega arith in ap G.what y) ∙ place.free n (omega (arith, lt))) place.off place.rest in
-      does_set limit c f x _ RangeCheck check.at m2 (w + o) check.scalar.low check.scalar.high v st p.weak (own_free _ loose) (subst (λ p. At c m2 (i.SetL p check.scalar.low check.scalar.high) x.entry) cell (at_entry en jk))
+      does_set limit c f x _ RangeCheck check.at m2 (w + o) check.scalar v st p.weak (own_free _ loose) (subst (λ p. At c m2 (Emission.set_instr check.scalar p) x.entry) cell (at_entry en jk))
       (does_returned limit c f x then' (v ∷ [])
       (subst (λ b. Doing limit c f x (keeping b (v ∷ []) G) g q (then' (v ∷ [])) (λ d. on f (m2 + 1) st d) goal) there
       (subst (λ p. Doing limit c f x (keeping (f.base + w + (o + 0)) (v ∷ []) G) g q (then' (v ∷ [])) (λ d. on f p st d) goal) z
@@ -179,9 +179,9 @@ module _ (limit : ℕ) (cuts : ℕ → ℕ → List ℕ) (program : Program) (c 
       let q : ℕ = from + 1 + 1 + 1 + 1 + 1 in
       does_keep limit c f x from (s.scope.free + 1) v (a ∷ st) (own_free _ free1) (at_entry en j1)
       (does_assoc limit c f x _ _ _
-      (does_set limit c f x {g = g1} {h = g} _ RangeCheck at (from + 1) s.scope.free accumulator.low accumulator.high a st (λ z d w. fit_unset (f.base + (s.scope.free + 1)) v free1 w) (own_free _ free0') (at_entry en j3)
+      (does_set limit c f x {g = g1} {h = g} _ RangeCheck at (from + 1) s.scope.free accumulator a st (λ z d w. fit_unset (f.base + (s.scope.free + 1)) v free1 w) (own_free _ free0') (at_entry en j3)
       (does_by limit c f x (λ z d w. comes_kept limit cuts c f (s.scope.free + 1) v st d w kept j4)
-      (does_seq limit c f x {g = g2} {h = g2} {j = g} (λ z d w. fit_unset (f.base + (s.scope.free + 1)) v free1 (fit_unset (f.base + s.scope.free) a free0' w)) (λ ts al. al) (does_check limit c f x RangeCheck at kind.low kind.high v (Values.is_in kind v) st refl (at_entry en j5)) (λ _ _.
+      (does_seq limit c f x {g = g2} {h = g2} {j = g} (λ z d w. fit_unset (f.base + (s.scope.free + 1)) v free1 (fit_unset (f.base + s.scope.free) a free0' w)) (λ ts al. al) (does_check limit c f x RangeCheck at kind v (Values.is_in kind v) st refl (at_entry en j5)) (λ _ _.
       does_before limit c f x (λ d. comes_goes limit c f (v ∷ st) q st d j6 refl)
       (does_first limit c f x (λ b y p e. inl (alike b ∙ e)) (λ z d w. (d, fit_alike (scattering n (pieces ps) g).what alike w, comes_here limit c (on f q st d)))
       (also_then limit c f x {h = scattering n (aheads ps) g} {j = g} {k = λ r. stored.ret r.value} (λ z d w. fit_unscattered n count (aheads ps) g (aheads_in count ps have) free w)
@@ -230,7 +230,7 @@ module _ (limit : ℕ) (cuts : ℕ → ℕ → List ℕ) (program : Program) (c 
       → Doing limit c f x (keeping (f.base + t) cur g) j q (stored.bind (Meaning.runs_values ops runs (λ k. stored.bind (stored.ret (tt {0})) (λ _. Meaning.cells ops limit program calls value env)) cur) then) (λ d. on f from st d) goal
   unfolding Rattle.ada_lower.specs.Emission.emit
   given_into true value does into B g j env q goal s h t n st room en runs from to cur then len w (some, we) l go =
-      all_repeated limit cuts program c f x calls globals mains epar t n some room value does h st en we runs from to cur then len w l go
+      all_repeated limit cuts program c f x calls globals mains epar t n some room value does (calls_do.called f.rounds).countable h st en we runs from to cur then len w l go
   given_into false value does into B g j env q goal s h t n st room en runs from to cur then len w we l go =
       let comp : ℕ → Emit = (λ n. Emission.put_into program s.scope h (t + n) value) in
       let val : Stored (List ℤ) = stored.bind (stored.ret (tt {0})) (λ _. Meaning.cells ops limit program calls value env) in
@@ -262,12 +262,12 @@ module _ (limit : ℕ) (cuts : ℕ → ℕ → List ℕ) (program : Program) (c 
         does_bind limit c f x (valued f calls_do B e from m1 s h st k en w.0 l1) (λ u _.
         choice_does limit cuts program c f x calls globals mains epar calls_do m1 to (one s.scope h (i.Push (pos 1))) (emit program s.scope h e') s h u st en l2 (λ from to (j, z). push_does limit cuts program c f x calls globals mains epar calls_do (pos 1) st j z refl) (λ from to l. valued f calls_do B e' from to s h st k en w.1 l))
     valued f calls_do B (Relation class r e e') from to s h st k en w l =
-        let (m1, l1, l2) = stands_seq c from to (emit program s.scope h e) (emit program s.scope (h + 1) e' ⨟ one s.scope (h + 1 + 1) (compare_instr r)) l in
-        let (m2, l3, (j, z)) = stands_seq c m1 to (emit program s.scope (h + 1) e') (one s.scope (h + 1 + 1) (compare_instr r)) l2 in
+        let (m1, l1, l2) = stands_seq c from to (emit program s.scope h e) (emit program s.scope (h + 1) e' ⨟ one s.scope (h + 1 + 1) (compare_instr r class)) l in
+        let (m2, l3, (j, z)) = stands_seq c m1 to (emit program s.scope (h + 1) e') (one s.scope (h + 1 + 1) (compare_instr r class)) l2 in
         ends_at limit cuts program c f x calls globals mains epar calls_do _ _ from (m2 + 1) to st z
         (does_bind limit c f x (valued f calls_do B e from m1 s h st k en w.0 l1) (λ u _.
         does_bind limit c f x (valued f calls_do B e' m1 m2 s (h + 1) (u ∷ st) k en w.1 l3) (λ v _.
-        does_before limit c f x (λ d. comes_goes limit c f (v ∷ u ∷ st) (m2 + 1) (bit (compares r u v) ∷ st) d j (compare_deed limit cuts program c f x calls globals mains epar calls_do m2 r u v (st ++ f.below))) (does_ret limit c f x (bit (compares r u v)) tt))))
+        does_before limit c f x (λ d. comes_goes limit c f (v ∷ u ∷ st) (m2 + 1) (bit (compares r (Values.number_in class u) (Values.number_in class v)) ∷ st) d j (compare_deed limit cuts program c f x calls globals mains epar calls_do m2 r class u v (st ++ f.below))) (does_ret limit c f x (bit (compares r (Values.number_in class u) (Values.number_in class v))) tt))))
     valued f calls_do B (If condition value otherwise) from to s h st k en w l =
         let (m1, l1, l2) = stands_seq c from to (emit program s.scope h condition) (Rattle.ada_lower.specs.Sights.choose s.scope h (h + 1) (emit program s.scope h value) (emit program s.scope h otherwise)) l in
         does_bind limit c f x (valued f calls_do B condition from m1 s h st k en w.0 l1) (λ u _.
@@ -276,7 +276,7 @@ module _ (limit : ℕ) (cuts : ℕ → ℕ → List ℕ) (program : Program) (c 
         let (m, l1, (j, z)) = stands_seq c from to (emit program s.scope h e) (Emission.checked s.scope (h + 1) check.scalar) l in
         ends_at limit cuts program c f x calls globals mains epar calls_do _ _ from (m + 1) to st z
         (does_bind limit c f x (valued f calls_do B e from m s h st k en w l1) (λ v _.
-        does_bind limit c f x (does_check limit c f x RangeCheck check.at check.scalar.low check.scalar.high v (Values.is_in check.scalar v) st refl (at_entry en j)) (λ _ _.
+        does_bind limit c f x (does_check limit c f x RangeCheck check.at check.scalar v (Values.is_in check.scalar v) st refl (at_entry en j)) (λ _ _.
         does_ret limit c f x v tt)))
     valued f calls_do B (Parameter at p) from to {g} {env} s h st k en (w, e) l =
         let (j, z) = subst (λ o. Stands c (Emission.load_where s.scope h o) from to) e l in
@@ -288,10 +288,10 @@ module _ (limit : ℕ) (cuts : ℕ → ℕ → List ℕ) (program : Program) (c 
     valued f calls_do B (Constant at r selections scalar) from to {g} {env} s h st k en ((n, e, reach), w) l =
         named f calls_do B selections (λ y. ConstantOf y) from to s h st (constant_root r env) (constant_root_of s.scope r) n e (constant_root_refers r n k e) k en w reach l
     valued f calls_do B (Membership class negated e low high) from to {g} {env} s h st k en (room, we, wl, wh) l =
-        let (m1, l1, (j1, r1)) = stands_seq c from to (emit program s.scope h e) (Emission.keep s.scope (h + 1) s.scope.free ⨟ emit program (taking 1 s).scope h low ⨟ Emission.keep s.scope (h + 1) (s.scope.free + 1) ⨟ emit program (taking 2 s).scope h high ⨟ Emission.within s.scope h s.scope.free ⨟ Emission.negated_code s.scope h negated) l in
-        let (m2, l2, (j2, r2)) = stands_seq c (m1 + 1) to (emit program (taking 1 s).scope h low) (Emission.keep s.scope (h + 1) (s.scope.free + 1) ⨟ emit program (taking 2 s).scope h high ⨟ Emission.within s.scope h s.scope.free ⨟ Emission.negated_code s.scope h negated) r1 in
-        let (m3, l3, r3) = stands_seq c (m2 + 1) to (emit program (taking 2 s).scope h high) (Emission.within s.scope h s.scope.free ⨟ Emission.negated_code s.scope h negated) r2 in
-        let (m4, l4, l5) = stands_seq c m3 to (Emission.within s.scope h s.scope.free) (Emission.negated_code s.scope h negated) r3 in
+        let (m1, l1, (j1, r1)) = stands_seq c from to (emit program s.scope h e) (Emission.keep s.scope (h + 1) s.scope.free ⨟ emit program (taking 1 s).scope h low ⨟ Emission.keep s.scope (h + 1) (s.scope.free + 1) ⨟ emit program (taking 2 s).scope h high ⨟ Emission.within s.scope h class s.scope.free ⨟ Emission.negated_code s.scope h negated) l in
+        let (m2, l2, (j2, r2)) = stands_seq c (m1 + 1) to (emit program (taking 1 s).scope h low) (Emission.keep s.scope (h + 1) (s.scope.free + 1) ⨟ emit program (taking 2 s).scope h high ⨟ Emission.within s.scope h class s.scope.free ⨟ Emission.negated_code s.scope h negated) r1 in
+        let (m3, l3, r3) = stands_seq c (m2 + 1) to (emit program (taking 2 s).scope h high) (Emission.within s.scope h class s.scope.free ⨟ Emission.negated_code s.scope h negated) r2 in
+        let (m4, l4, l5) = stands_seq c m3 to (Emission.within s.scope h class s.scope.free) (Emission.negated_code s.scope h negated) r3 in
         does_bind limit c f x (valued f calls_do B e from m1 s h st k en we l1) (λ u _.
         does_hold limit c f x m1 u st (omega (arith, room)) k (at_entry en j1) (λ k1.
         does_bind limit c f x (valued f calls_do B low (m1 + 1) m2 (taking 1 s) h st k1 en wl l2) (λ v _.
@@ -302,8 +302,8 @@ module _ (limit : ℕ) (cuts : ℕ → ℕ → List ℕ) (program : Program) (c 
         let n : (f.base + (s.scope.free + 1) ≡ f.base + s.scope.free → ⊥) = (λ e. omega (arith, e)) in
         let eu : value_in (slice_get d.cells (f.base + s.scope.free)) ≡ Some u = number_seen _ u t _ (inl (what_other g1 (f.base + (s.scope.free + 1)) (f.base + s.scope.free) (Keeps v) n ∙ what_same g (f.base + s.scope.free) (Keeps u))) (fit.cells (f.base + s.scope.free)) in
         let ev : value_in (slice_get d.cells (f.base + (s.scope.free + 1))) ≡ Some v = number_seen _ v t _ (inl (what_same g1 (f.base + (s.scope.free + 1)) (Keeps v))) (fit.cells (f.base + (s.scope.free + 1))) in
-        comes_on limit c (comes_within limit cuts program c f x calls globals mains epar calls_do s h s.scope.free m3 m4 u v z st d eu ev l4) (comes_negated limit cuts program c f x calls globals mains epar calls_do s h m4 to negated (between v u z) st d l5))
-        (does_ret limit c f x {to = λ v d. on f to (v ∷ st) d} (bit (cond negated (not (between v u z)) (between v u z))) tt))))))
+        comes_on limit c (comes_within limit cuts program c f x calls globals mains epar calls_do s h class s.scope.free m3 m4 u v z st d eu ev l4) (comes_negated limit cuts program c f x calls globals mains epar calls_do s h m4 to negated (Values.is_member class v u z) st d l5))
+        (does_ret limit c f x {to = λ v d. on f to (v ∷ st) d} (bit (cond negated (not (Values.is_member class v u z)) (Values.is_member class v u z))) tt))))))
     valued f calls_do B (Call at callee sub actuals) from to {g} {env} s h st k en (u, (kind, gives), whole, room, w) l =
         let n : ℕ = s.scope.free in
         let t : Sight = passing program sub s in
@@ -338,7 +338,7 @@ module _ (limit : ℕ) (cuts : ℕ → ℕ → List ℕ) (program : Program) (c 
         does_bind limit c f x (valued f calls_do B initial from m0 s h st k en wi l0) (λ start _.
         does_assoc limit c f x _ _ _
         (does_bind limit c f x (named_does limit cuts program c f x calls globals mains epar calls_do m0 m1 n (named_entity constant o.object) o.offset (start ∷ st) v j1 z1
-        (picked f calls_do B selections m1 m2 s (h + 1 + 1) (start ∷ st) o v.address o.offset n.cells n.cells (zero * stride) k en ws reach (le_refl o.offset) (le_refl (o.offset + n.cells)) l3)) (λ q at_.
+        (picked f calls_do B selections m1 m2 s (h + 1 + 1) (start ∷ st) o v.address o.offset n.cells n.cells (zero * stride) k en ws reach (le_refl o.offset) (le_refl (o.offset + n.cells)) v.spread.near l3)) (λ q at_.
         does_returned limit c f x _ _
         (does_keep limit c f x m2 s.scope.free (pos (v.address + (q.offset - o.offset))) (start ∷ st) (own_free (g.what (f.base + s.scope.free)) free1) (at_entry en l4.0)
         (subst (λ z. Doing limit c f x (set_what (f.base + s.scope.free) (Keeps (pos (v.address + (q.offset - o.offset)))) g) g any (Rattle.behaviours.specs.Doings.through stored.doings 0 0 start (λ i b. stored.ret b)) (λ d. on f z (start ∷ st) d) (λ b d. on f to (b ∷ st) d)) l4.1
@@ -360,7 +360,7 @@ module _ (limit : ℕ) (cuts : ℕ → ℕ → List ℕ) (program : Program) (c 
         does_bind limit c f x (valued f calls_do B initial from m0 s h st k en wi l0) (λ start _.
         does_assoc limit c f x _ _ _
         (does_bind limit c f x (named_does limit cuts program c f x calls globals mains epar calls_do m0 m1 n (named_entity constant o.object) o.offset (start ∷ st) v j1 z1
-        (picked f calls_do B selections m1 m2 s (h + 1 + 1) (start ∷ st) o v.address o.offset n.cells n.cells (suc number * stride) k en ws reach (le_refl o.offset) (le_refl (o.offset + n.cells)) l3)) (λ q at_.
+        (picked f calls_do B selections m1 m2 s (h + 1 + 1) (start ∷ st) o v.address o.offset n.cells n.cells (suc number * stride) k en ws reach (le_refl o.offset) (le_refl (o.offset + n.cells)) v.spread.near l3)) (λ q at_.
         does_returned limit c f x _ _
         (items_folds limit cuts c f x s (h + 1) p constant stride number (named_entity constant o.object) o.offset n.cells v.address (q.offset - o.offset) m2 to st turn q _ k en room v.spread
         (let b = at_.1 in omega (arith, b)) (let b = at_.1 in let b' = at_.2 in omega (arith, b, b')) (ap (λ z. named_entity constant z) at_.0) (subst (λ b. Stands c (Emission.keep s.scope (h + 1 + 1) s.scope.free ⨟ cond b none turns) m2 to) some l4)
@@ -411,26 +411,26 @@ module _ (limit : ℕ) (cuts : ℕ → ℕ → List ℕ) (program : Program) (c 
     component_done f calls_do B (Cells value) = (λ B g j env q goal s h t n st room en from to then w l go. composed_into f calls_do value B g j env q goal s h t n st room en from to then w l go)
 
     picked : (f : Fixed) (calls_do : InnerDo limit cuts program globals mains epar c f calls) → (B : Type 0) → (t : Selections) (from to : ℕ) {g : Ghost} {env : Env} (s : Sight) (h : ℕ) (st : List ℤ) (p : ObjectPart) (a first total n m : ℕ) → Knows limit cuts g f s env → s.scope.entry ≡ x.entry → FittedSelections program globals mains epar s t → Reaches n t m
-        → first ≤ p.offset → p.offset + n ≤ first + total → Stands c (selected program s.scope h t) from to
+        → first ≤ p.offset → p.offset + n ≤ first + total → a + total ≤ g.top → Stands c (selected program s.scope h t) from to
         → Runs limit c f x g (λ r. (r.object ≡ p.object) × (first ≤ r.offset) × (r.offset + m ≤ first + total)) (Meaning.select oper limit program calls t env p)
         (λ d. on f from (pos (a + (p.offset - first)) ∷ st) d) (λ r d. on f to (pos (a + (r.offset - first)) ∷ st) d)
-    picked f calls_do B Whole from to {g} {env} s h st p a first total n m k en w r le room l =
+    picked f calls_do B Whole from to {g} {env} s h st p a first total n m k en w r le room near l =
         subst (λ q. Runs limit c f x g (λ r. (r.object ≡ p.object) × (first ≤ r.offset) × (r.offset + m ≤ first + total)) (stored.ret p) (λ d. on f from (pos (a + (p.offset - first)) ∷ st) d) (λ r d. on f q (pos (a + (r.offset - first)) ∷ st) d)) (sym l)
         (does_ret limit c f x {to = λ r d. on f from (pos (a + (r.offset - first)) ∷ st) d} p (refl, le, omega (arith, r, room)))
-    picked f calls_do B (Field number offset rest) from to {g} {env} s h st p a first total n m k en w (i', r, reach) le room (j, l) =
+    picked f calls_do B (Field number offset rest) from to {g} {env} s h st p a first total n m k en w (i', r, reach) le room near (j, l) =
         let z : a + (p.offset - first) + offset ≡ a + (p.offset + offset - first) = omega (arith, le) in
-        does_before limit c f x (λ d. comes_goes limit c f (pos (a + (p.offset - first)) ∷ st) (from + 1) (pos (a + (p.offset + offset - first)) ∷ st) d j (ap (λ v. GoesOn (from + 1) (pos v ∷ (st ++ f.below))) z))
-        (picked f calls_do B rest (from + 1) to s h st (Meaning.moved p offset) a first total i' m k en w reach (omega (arith, le)) (omega (arith, room, r)) l)
-    picked f calls_do B (Index at e low high stride rest) from to {g} {env} s h st p a first total n m k en w (r, reach) le room l =
+        does_by limit c f x (λ t d fit. subst (λ v. To limit c (on f from (pos (a + (p.offset - first)) ∷ st) d) (on f (from + 1) (pos v ∷ st) d)) z (comes_field limit c f offset (a + (p.offset - first)) st d fit (omega (arith, near, room, le)) j))
+        (picked f calls_do B rest (from + 1) to s h st (Meaning.moved p offset) a first total i' m k en w reach (omega (arith, le)) (omega (arith, room, r)) near l)
+    picked f calls_do B (Index at e low high stride rest) from to {g} {env} s h st p a first total n m k en w (r, reach) le room near l =
         let (m1, l1, l2) = stands_seq c from to (Emission.indexed_by s.scope h (Emission.own_cell s.scope e) low high stride (emit program s.scope h e)) (selected program s.scope h rest) l in
-        index_does limit cuts program c f x calls globals mains epar e from m1 s h at low high stride (a + (p.offset - first)) st _ k en w.0 (λ m l. valued f calls_do B e from m s h (pos (a + (p.offset - first)) ∷ st) k en w.0 l) l1 (λ v mid checked.
+        index_does limit cuts program c f x calls globals mains epar e from m1 s h at low high stride (a + (p.offset - first)) st _ (omega (arith, near, room, r, le)) k en w.0 (λ m l. valued f calls_do B e from m s h (pos (a + (p.offset - first)) ∷ st) k en w.0 l) l1 (λ v mid checked.
         does_bind limit c f x checked (λ _ is.
         let t : ℕ = to_nat (v -ℤ low) in
         let lt : t < count low high = (index_below low v high is).0 in
         let z : a + (p.offset - first) + t * stride ≡ a + (p.offset + t * stride - first) = omega (arith, le) in
         let b : t * stride + stride ≤ count low high * stride = rows limit cuts program c f x calls globals mains epar calls_do t (count low high) stride lt in
         does_before limit c f x (λ d. subst (λ q. To limit c (on f m1 (pos (a + (p.offset - first) + t * stride) ∷ st) d) (on f m1 (pos q ∷ st) d)) z (comes_here limit c _))
-        (picked f calls_do B rest m1 to s h st (Meaning.moved p (t * stride)) a first total stride m k en w.1 reach (omega (arith, le)) (omega (arith, room, r, b)) l2)))
+        (picked f calls_do B rest m1 to s h st (Meaning.moved p (t * stride)) a first total stride m k en w.1 reach (omega (arith, le)) (omega (arith, room, r, b)) near l2)))
 
     -- what is named is read, or what selections of it lead to
     named : (f : Fixed) (calls_do : InnerDo limit cuts program globals mains epar c f calls) → (B : Type 0) → (t : Selections) (y : ℕ → Entity) (from to : ℕ) {g : Ghost} {env : Env} (s : Sight) (h : ℕ) (st : List ℤ) (p : ObjectPart) (o : Option Named) (n : Named) → o ≡ Some n → (u : Refers g f n (y p.object) p.offset) → Knows limit cuts g f s env → s.scope.entry ≡ x.entry → FittedSelections program globals mains epar s t → Reaches n.cells t 1
@@ -444,7 +444,7 @@ module _ (limit : ℕ) (cuts : ℕ → ℕ → List ℕ) (program : Program) (c 
         let (j1, z1) = address_stands limit cuts program c f x calls globals mains epar calls_do s h o n from m1 e l1 in
         let z : u.address + (p.offset - p.offset) + offset ≡ u.address + (p.offset + offset - p.offset) = omega arith in
         named_does limit cuts program c f x calls globals mains epar calls_do from m1 n (y p.object) p.offset st u j1 z1
-        (does_before limit c f x (λ d. comes_goes limit c f (pos (u.address + (p.offset - p.offset)) ∷ st) (m1 + 1) (pos (u.address + (p.offset + offset - p.offset)) ∷ st) d j (ap (λ v. GoesOn (m1 + 1) (pos v ∷ (st ++ f.below))) z))
+        (does_by limit c f x (λ t d fit. subst (λ v. To limit c (on f m1 (pos (u.address + (p.offset - p.offset)) ∷ st) d) (on f (m1 + 1) (pos v ∷ st) d)) z (comes_field limit c f offset (u.address + (p.offset - p.offset)) st d fit (let n' = u.spread.near in omega (arith, n')) j))
         (reading f calls_do B rest y (m1 + 1) to s (h + 1) st (Meaning.moved p offset) p.object u.address p.offset n.cells i' refl k en w reach (omega arith) (omega (arith, r)) u.spread l2))
     named f calls_do B (Index at e low high stride Whole) y from to s h st p o n some u k en w (r, reach) l =
         does_assoc limit c f x _ _ _
@@ -461,7 +461,7 @@ module _ (limit : ℕ) (cuts : ℕ → ℕ → List ℕ) (program : Program) (c 
     named f calls_do B (Index at e low high stride rest) y from to s h st p o n some u k en w (r, reach) l =
         let (m1, l1, l2) = stands_seq c from to (Emission.component_address s.scope h o (Emission.main_named o) (Emission.own_cell s.scope e) low high stride (emit program s.scope (h + 1) e)) (read program s.scope (h + 1) rest) l in
         does_assoc limit c f x _ _ _
-        (named_index_does limit cuts program c f x calls globals mains epar e o n from m1 s h at low high stride (y p.object) p.offset u st _ some k en w.0 (λ a b l. valued f calls_do B e a b s (h + 1) (pos u.address ∷ st) k en w.0 l) l1 (λ v mid checked.
+        (named_index_does limit cuts program c f x calls globals mains epar e o n from m1 s h at low high stride (y p.object) p.offset u st _ (let n' = u.spread.near in omega (arith, n', r)) some k en w.0 (λ a b l. valued f calls_do B e a b s (h + 1) (pos u.address ∷ st) k en w.0 l) l1 (λ v mid checked.
         does_assoc limit c f x _ _ _
         (does_bind limit c f x checked (λ _ is.
         let t : ℕ = to_nat (v -ℤ low) in
@@ -479,7 +479,7 @@ module _ (limit : ℕ) (cuts : ℕ → ℕ → List ℕ) (program : Program) (c 
         does_returned limit c f x (λ r. stored.reads (y r.object) r.offset) p (reads_at limit cuts program c f x calls globals mains epar calls_do y p o first a total st same le (omega (arith, reach, room)) u (at_entry en j) z)
     reading f calls_do B (Field number offset rest) y from to s h st p o a first total n same k en w (i', r, reach) le room u (j, l) =
         let z : a + (p.offset - first) + offset ≡ a + (p.offset + offset - first) = omega (arith, le) in
-        does_before limit c f x (λ d. comes_goes limit c f (pos (a + (p.offset - first)) ∷ st) (from + 1) (pos (a + (p.offset + offset - first)) ∷ st) d j (ap (λ v. GoesOn (from + 1) (pos v ∷ (st ++ f.below))) z))
+        does_by limit c f x (λ t d fit. subst (λ v. To limit c (on f from (pos (a + (p.offset - first)) ∷ st) d) (on f (from + 1) (pos v ∷ st) d)) z (comes_field limit c f offset (a + (p.offset - first)) st d fit (let n' = u.near in omega (arith, n', room, le)) j))
         (reading f calls_do B rest y (from + 1) to s h st (Meaning.moved p offset) o a first total i' same k en w reach (omega (arith, le)) (omega (arith, room, r)) u l)
     reading f calls_do B (Index at e low high stride Whole) y from to s h st p o a first total n same k en w (r, reach) le room u l =
         does_assoc limit c f x _ _ _
@@ -496,7 +496,7 @@ module _ (limit : ℕ) (cuts : ℕ → ℕ → List ℕ) (program : Program) (c 
     reading f calls_do B (Index at e low high stride rest) y from to s h st p o a first total n same k en w (r, reach) le room u l =
         let (m1, l1, l2) = stands_seq c from to (Emission.indexed_by s.scope h (Emission.own_cell s.scope e) low high stride (emit program s.scope h e)) (read program s.scope h rest) l in
         does_assoc limit c f x _ _ _
-        (index_does limit cuts program c f x calls globals mains epar e from m1 s h at low high stride (a + (p.offset - first)) st _ k en w.0 (λ m l. valued f calls_do B e from m s h (pos (a + (p.offset - first)) ∷ st) k en w.0 l) l1 (λ v mid checked.
+        (index_does limit cuts program c f x calls globals mains epar e from m1 s h at low high stride (a + (p.offset - first)) st _ (let n' = u.near in omega (arith, n', room, r, le)) k en w.0 (λ m l. valued f calls_do B e from m s h (pos (a + (p.offset - first)) ∷ st) k en w.0 l) l1 (λ v mid checked.
         does_assoc limit c f x _ _ _
         (does_bind limit c f x checked (λ _ is.
         let t : ℕ = to_nat (v -ℤ low) in
@@ -514,7 +514,7 @@ module _ (limit : ℕ) (cuts : ℕ → ℕ → List ℕ) (program : Program) (c 
         does_assoc limit c f x _ _ then
         (does_seq limit c f x room.weak (λ ts al. al) (valued f calls_do B e from m s h st room.knows en w l1) (λ v _.
         does_assoc limit c f x _ _ then
-        (does_set limit c f x _ RangeCheck check.at m t check.scalar.low check.scalar.high v st room.weak own (at_entry en jk)
+        (does_set limit c f x _ RangeCheck check.at m t check.scalar v st room.weak own (at_entry en jk)
         (does_returned limit c f x then (v ∷ [])
         (subst (λ p. Doing limit c f x (keeping (f.base + t) (v ∷ []) g) j q (then (v ∷ [])) (λ d. on f p st d) goal) z (go (v ∷ []) (sym one')))))))
     valued_into f calls_do (Cells value) B g j env q goal s h t n st room en from to then w l go = composed_into f calls_do value B g j env q goal s h t n st room en from to then w l go
@@ -557,7 +557,7 @@ module _ (limit : ℕ) (cuts : ℕ → ℕ → List ℕ) (program : Program) (c 
         (does_before limit c f x (λ d. comes_goes limit c f st (from + 1) (pos (f.base + t) ∷ st) d jl refl)
         (does_seq limit c f x room.weak (λ ts al. al)
         (named_does limit cuts program c f x calls globals mains epar calls_do (from + 1) m1 m (VariableOf o.object) o.offset (pos (f.base + t) ∷ st) u j1 z1
-        (picked f calls_do B selections m1 m2 s (h + 1 + 1) (pos (f.base + t) ∷ st) o u.address o.offset m.cells m.cells n room.knows en ws reach (le_refl o.offset) (le_refl (o.offset + m.cells)) l3))
+        (picked f calls_do B selections m1 m2 s (h + 1 + 1) (pos (f.base + t) ∷ st) o u.address o.offset m.cells m.cells n room.knows en ws reach (le_refl o.offset) (le_refl (o.offset + m.cells)) u.spread.near l3))
         (λ p is.
         let part : Spread g (VariableOf p.object) p.offset n (u.address + (p.offset - o.offset)) = spread_part limit cuts program c f x calls globals mains epar u.spread (ap (λ y. VariableOf y) is.0) is.1 is.2 in
         does_copy limit cuts c f x (VariableOf p.object) p.offset (u.address + (p.offset - o.offset)) (f.base + t) n m2 (Values.layout program.subtypes subtype) n st then size (le_refl n) part room.own (at_entry en (subst (λ z. At c m2 (i.Copy z) s.scope.entry) size jc)) (λ vs len.
@@ -572,7 +572,7 @@ module _ (limit : ℕ) (cuts : ℕ → ℕ → List ℕ) (program : Program) (c 
         (does_before limit c f x (λ d. comes_goes limit c f st (from + 1) (pos (f.base + t) ∷ st) d jl refl)
         (does_seq limit c f x room.weak (λ ts al. al)
         (named_does limit cuts program c f x calls globals mains epar calls_do (from + 1) m1 m (ConstantOf o.object) o.offset (pos (f.base + t) ∷ st) u j1 z1
-        (picked f calls_do B selections m1 m2 s (h + 1 + 1) (pos (f.base + t) ∷ st) o u.address o.offset m.cells m.cells n room.knows en ws reach (le_refl o.offset) (le_refl (o.offset + m.cells)) l3))
+        (picked f calls_do B selections m1 m2 s (h + 1 + 1) (pos (f.base + t) ∷ st) o u.address o.offset m.cells m.cells n room.knows en ws reach (le_refl o.offset) (le_refl (o.offset + m.cells)) u.spread.near l3))
         (λ p is.
         let part : Spread g (ConstantOf p.object) p.offset n (u.address + (p.offset - o.offset)) = spread_part limit cuts program c f x calls globals mains epar u.spread (ap (λ y. ConstantOf y) is.0) is.1 is.2 in
         does_copy limit cuts c f x (ConstantOf p.object) p.offset (u.address + (p.offset - o.offset)) (f.base + t) n m2 (Values.layout program.subtypes subtype) n st then size (le_refl n) part room.own (at_entry en (subst (λ z. At c m2 (i.Copy z) s.scope.entry) size jc)) (λ vs len.
@@ -614,10 +614,10 @@ module _ (limit : ℕ) (cuts : ℕ → ℕ → List ℕ) (program : Program) (c 
       fold_does limit cuts program c x calls globals mains epar f calls_do (Unit {0}) by nested token filter value from to s h a st ne k en wf wb (λ from to l. valued limit cuts program c x calls globals mains epar f calls_do (Unit {0}) value from to s (h + 1) (a ∷ st) k en wv l) l
 
   pub selected_does : (t : Selections) (from to : ℕ) {g : Ghost} {env : Env} (s : Sight) (h : ℕ) (st : List ℤ) (p : ObjectPart) (a first total n m : ℕ) → Knows limit cuts g f s env → s.scope.entry ≡ x.entry → FittedSelections program globals mains epar s t → Reaches n t m
-      → first ≤ p.offset → p.offset + n ≤ first + total → Stands c (selected program s.scope h t) from to
+      → first ≤ p.offset → p.offset + n ≤ first + total → a + total ≤ g.top → Stands c (selected program s.scope h t) from to
       → Runs limit c f x g (λ r. (r.object ≡ p.object) × (first ≤ r.offset) × (r.offset + m ≤ first + total)) (Meaning.select (stored.noted_operations limit cuts) limit program calls t env p)
       (λ d. on f from (pos (a + (p.offset - first)) ∷ st) d) (λ r d. on f to (pos (a + (r.offset - first)) ∷ st) d)
-  selected_does t from to {g} {env} s h st p a first total n m k en w r le room l = picked limit cuts program c x calls globals mains epar f calls_do (Unit {0}) t from to {g = g} {env = env} s h st p a first total n m k en w r le room l
+  selected_does t from to {g} {env} s h st p a first total n m k en w r le room near l = picked limit cuts program c x calls globals mains epar f calls_do (Unit {0}) t from to {g = g} {env = env} s h st p a first total n m k en w r le room near l
 
   -- the cells of an array or record
   pub composed_does : {B : Type 0} {g j : Ghost} {env : Env} {q : B → Type 0} {goal : B → Dyn → Step} (co : Composite) (s : Sight) (h t n : ℕ) (st : List ℤ) → ((s : stored.State) (d : Dyn) → Fit g s d → Fit j s d) → Knows limit cuts g f s env → s.scope.entry ≡ x.entry → t + n ≤ s.scope.free → s.scope.free ≤ s.cells

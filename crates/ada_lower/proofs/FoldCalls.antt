@@ -4,6 +4,7 @@ use Rattle.std.specs.Int.{int_min}
 use Rattle.ada_base.specs.declared.reason.Reason.{Reason}
 use Rattle.behaviours.specs.Doings.{onto}
 use Rattle.behaviours.specs.Paths.{ConstantOf, Entity, Exits, Raises, Returns}
+use Rattle.ada_base.specs.declared.operation.Comparison.TheVariants as comparison
 use Rattle.typed_tree.specs.declared.scalars.Scalar.{Scalar}
 use Rattle.typed_tree.specs.declared.expressions.Reducer.{Reducer}
 use Rattle.typed_tree.specs.declared.expressions.Reducer.TheVariants.{Function}
@@ -27,6 +28,7 @@ use Rattle.ada_lower.specs.Fitted.{FittedFold, spot, spots}
 use Rattle.ada_lower.proofs.Framework.{any, To, comes_here, comes_on, comes_as, comes_goes, does_before, does_bind, does_ret}
 use Rattle.ada_lower.proofs.Memory.{set_what, own_free, what_same, what_other, fit_alike}
 use Rattle.ada_lower.proofs.Standing.{stands_seq, stands_when}
+use Rattle.ada_lower.proofs.Operands.{compare_is}
 use Rattle.ada_lower.proofs.Parts.{Runs, allows_fewer, does_first, does_keep}
 use Rattle.ada_lower.proofs.Calls.{BothChecked, checked_call, given, with_kept}
 use Rattle.ada_lower.proofs.Inner.{InnerDo}
@@ -72,14 +74,14 @@ module _ (limit : ℕ) (cuts : ℕ → ℕ → List ℕ) (program : Program) (c 
   -- whether a number that is kept is in its subtype
   ranged_goes : {g' : Ghost} {t : stored.State} (fk : Fixed) (h from to n : ℕ) (v : ℤ) (subtype : Scalar) (st : List ℤ) (d : Dyn) → Fit g' t d → g'.what (fk.base + n) ≡ Keeps v → Stands c (Emission.ranged s.scope h n subtype) from to → To limit c (on fk from st d) (on fk to (bit (Values.is_in subtype v) ∷ st) d)
   ranged_goes fk h from to n v subtype st d fit is (j1, (j2, (j3, (j4, (j5, (j6, (j7, z))))))) =
-      let low : Bool = int_le subtype.low v in
-      let high : Bool = int_le v subtype.high in
+      let low : Bool = int_le (Values.number_in subtype.class subtype.low) (Values.number_in subtype.class v) in
+      let high : Bool = int_le (Values.number_in subtype.class v) (Values.number_in subtype.class subtype.high) in
       comes_on limit c (comes_kept limit cuts c fk n v st d fit is j1)
       (comes_on limit c (comes_goes limit c fk (v ∷ st) (from + 1 + 1) (subtype.low ∷ v ∷ st) d j2 refl)
-      (comes_on limit c (comes_goes limit c fk (subtype.low ∷ v ∷ st) (from + 1 + 1 + 1) (bit low ∷ st) d j3 refl)
+      (comes_on limit c (comes_goes limit c fk (subtype.low ∷ v ∷ st) (from + 1 + 1 + 1) (bit low ∷ st) d j3 (compare_is c (from + 1 + 1) fk.base fk.outward comparison.AtLeast subtype.class v subtype.low (st ++ fk.below)))
       (comes_on limit c (comes_kept limit cuts c fk n v (bit low ∷ st) d fit is j4)
       (comes_on limit c (comes_goes limit c fk (v ∷ bit low ∷ st) (from + 1 + 1 + 1 + 1 + 1) (subtype.high ∷ v ∷ bit low ∷ st) d j5 refl)
-      (comes_on limit c (comes_goes limit c fk (subtype.high ∷ v ∷ bit low ∷ st) (from + 1 + 1 + 1 + 1 + 1 + 1) (bit high ∷ bit low ∷ st) d j6 refl)
+      (comes_on limit c (comes_goes limit c fk (subtype.high ∷ v ∷ bit low ∷ st) (from + 1 + 1 + 1 + 1 + 1 + 1) (bit high ∷ bit low ∷ st) d j6 (compare_is c (from + 1 + 1 + 1 + 1 + 1) fk.base fk.outward comparison.AtMost subtype.class v subtype.high (bit low ∷ st ++ fk.below)))
       (subst (λ q. To limit c (on fk (from + 1 + 1 + 1 + 1 + 1 + 1) (bit high ∷ bit low ∷ st) d) (on fk q (bit (low && high) ∷ st) d)) (sym z)
       (comes_goes limit c fk (bit high ∷ bit low ∷ st) (from + 1 + 1 + 1 + 1 + 1 + 1 + 1) (bit (low && high) ∷ st) d j7 (ap (λ b. GoesOn (from + 1 + 1 + 1 + 1 + 1 + 1 + 1) (b ∷ (st ++ fk.below))) (min_bits low high)))))))))
 

@@ -30,7 +30,7 @@ use Rattle.ada_lower.specs.Emission.{emit, reduction_kind}
 use Rattle.ada_lower.specs.Fits.{Ghost, Ends, Knows, Spread}
 use Rattle.ada_lower.specs.Fitted.{Reaches, Fitted, FittedFold, FittedOptional, FittedSelections}
 use Rattle.ada_lower.specs.FittedForks.{FittedChunk, FittedReductions, Within}
-use Rattle.ada_lower.specs.Forks.{thread_ends}
+use Rattle.ada_lower.proofs.Forks.{thread_ends}
 use Rattle.ada_lower.proofs.Calls.{CallsDo}
 use Rattle.ada_lower.proofs.Rounds.{with_rounds}
 use Rattle.ada_lower.proofs.Inner.{InnerDo, ExprsDo}

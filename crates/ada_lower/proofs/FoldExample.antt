@@ -13,6 +13,7 @@ use Rattle.typed_tree.specs.declared.expressions.Reducer.TheVariants.{Operator}
 use Rattle.typed_tree.specs.Syntax.{Absent, Expr, Variable, Parameter, Reduction, Range, Components, Whole, Number, NoChunk, Stmts, Assign, ParallelFor, Put, Image, NoPiece, End, Then, DeclareDefault, NoDecl, NoHandler, OfScalar, Array, Program}
 use Rattle.ada_meaning.specs.Stored as stored
 use Rattle.ada_meaning.specs.Meaning
+use Rattle.stack_code.specs.Valid.{IsCountable}
 use Rattle.stack_code.specs.declared.code.Code.{Code}
 use Rattle.stack_code.specs.declared.code.CodeSite.{CodeSite}
 use Rattle.stack_code.specs.declared.code.Around.TheVariants as around
@@ -124,7 +125,12 @@ fitted = (
   )),
 )
 
+-- no part of it is repeated too often
+countable : IsCountable code.instrs
+unfolding Rattle.ada_lower.specs.Emission.emit Rattle.ada_lower.specs.Emission.named_value Rattle.ada_lower.specs.Emission.selected Rattle.ada_lower.specs.Emission.read Rattle.ada_lower.specs.Emission.passed Rattle.ada_lower.specs.Emission.put_into Rattle.ada_lower.specs.Emission.composed Rattle.ada_lower.specs.Emission.associated Rattle.ada_lower.specs.Emission.component Rattle.ada_lower.specs.Emission.filtered Rattle.ada_lower.specs.Emission.iterated Rattle.ada_lower.specs.Emission.chunk_code Rattle.ada_lower.specs.Emission.course_code Rattle.ada_lower.specs.Emission.threaded Rattle.ada_lower.specs.Emission.back_code Rattle.ada_lower.specs.Emission.piece_values Rattle.ada_lower.specs.Emission.stmt Rattle.ada_lower.specs.Emission.all Rattle.ada_lower.specs.Emission.cases Rattle.ada_lower.specs.Emission.handling Rattle.ada_lower.specs.Emission.arm_codes
+countable = tt
+
 pub comes : (limit : ℕ) (cuts : ℕ → ℕ → List ℕ) (within : Within cuts) (slots : ℕ) (input before : List ℕ) (notes : Schedule) → let r = (Meaning.main (stored.noted_operations limit cuts) limit program).does (stored.noted_outset slots input before notes) in
     Ending limit code (outermost None) main_ends (main_variables program 0 program.body.decls) (on (outermost None) 0 [] (first_dyn notes cuts 12 input before)) 0 (λ d. off (Done None) d) r.state r.end
 comes limit cuts within slots input before notes =
-    whole_does None unleased limit cuts (not_lending limit cuts unleased) within program code (main_names program text) none_main [] text frames slots 12 1 (λ n sub e. absurd (none-some sub e)) refl is_code (record { same = λ k unit e q. absurd (none-some unit e) }) (λ k unit sub e. absurd (none-some unit e)) fitted input before notes tt
+    whole_does None unleased limit cuts (not_lending limit cuts unleased) within program code (main_names program text) none_main [] text frames slots 12 1 countable (λ n sub e. absurd (none-some sub e)) refl is_code (record { same = λ k unit e q. absurd (none-some unit e) }) (λ k unit sub e. absurd (none-some unit e)) fitted input before notes tt

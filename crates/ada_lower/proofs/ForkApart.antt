@@ -14,8 +14,8 @@ use Rattle.stack_code.specs.Machine.{Stop}
 use Rattle.ada_lower.specs.Driven.{Dyn, Fixed, cut_to}
 use Rattle.ada_lower.specs.Fits.{What, Access, Full, Ghost, Fit, Right, Allows, Stands as StandsFor}
 use Rattle.ada_lower.specs.Teams.{AreSound}
-use Rattle.ada_lower.specs.Forks.{ThreadDoes}
-use Rattle.ada_lower.specs.ForkViews.{access_by, view_what, view_of, view_ghost, TouchesFit, Apart}
+use Rattle.ada_lower.proofs.Forks.{ThreadDoes}
+use Rattle.ada_lower.proofs.ForkViews.{access_by, view_what, view_of, view_ghost, TouchesFit, Apart}
 use Rattle.ada_lower.proofs.Memory.{at_same}
 use Rattle.ada_lower.proofs.ForkThreads.{Ending, Endings, thread_ends_so}
 use Rattle.ada_lower.proofs.ForkSights.{fit_view, allows_view}

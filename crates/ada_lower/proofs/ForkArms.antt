@@ -19,7 +19,7 @@ use Rattle.behaviours.specs.Paths.{Entity}
 use Rattle.ada_lower.specs.Driven.{Dyn, Fixed, on, At, Alike}
 use Rattle.ada_lower.specs.Sights.{Emit, Named, Sight, Stands, one, taking, thread_sight, when_, ◌⨟◌}
 use Rattle.ada_lower.specs.Fits.{Keeps, Fit, Ghost, Knows}
-use Rattle.ada_lower.specs.Forks.{threaded, thread_ends, done_so, ThreadDoes}
+use Rattle.ada_lower.proofs.Forks.{threaded, thread_ends, done_so, ThreadDoes}
 use Rattle.ada_lower.specs.Emission.{in_share, arms_code}
 use Rattle.ada_lower.proofs.Inner.{InnerDo}
 use Rattle.ada_lower.proofs.Framework.{any, To, comes_as, comes_on, comes_goes, does_bind, does_ret}

@@ -25,7 +25,7 @@ use Rattle.ada_lower.specs.Sights.{nested_sight, Emit, Named, Sight, Stands, one
 use Rattle.ada_lower.specs.Emission.{exiting}
 use Rattle.ada_lower.specs.Fits.{Ghost, Ends, Knows}
 use Rattle.ada_lower.specs.FittedForks.{FittedCount}
-use Rattle.ada_lower.specs.Forks.{threaded}
+use Rattle.ada_lower.proofs.Forks.{threaded}
 use Rattle.ada_lower.specs.Emission.{arms_code, chunk_by, chunk_code, fork_code, left_code}
 use Rattle.ada_lower.proofs.Inner.{InnerDo}
 use Rattle.ada_lower.proofs.Framework.{any, To, itself, comes_here, comes_on, comes_goes, does_before, does_returned, does_assoc, does_bind}
@@ -44,7 +44,7 @@ use Rattle.ada_lower.proofs.ForkRange.{knows_nested, knows_forked}
 use Rattle.ada_lower.proofs.ForkChunks.{number_does, two_kept}
 use Rattle.ada_lower.proofs.ForkArms.{ArmDoes, block_thread}
 use Rattle.ada_lower.proofs.ForkFine.{Lends}
-use Rattle.ada_lower.specs.ForkViews.{view_ghost, no_free}
+use Rattle.ada_lower.proofs.ForkViews.{view_ghost, no_free}
 use Rattle.ada_lower.proofs.ForkSights.{knows_view}
 use Rattle.behaviours.specs.Joins.{deal}
 

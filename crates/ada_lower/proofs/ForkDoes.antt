@@ -18,7 +18,7 @@ use Rattle.ada_lower.specs.Sights.{Scope, AllKnown, Amid, ByLeave, Emit, Known, 
 use Rattle.ada_lower.specs.Emission.{all, arm_codes, exits_of, arm_exits, returning, returning_value, chunk_code, chunk_by, fork_code, arms_code, left_code}
 use Rattle.ada_lower.specs.Fits.{Ghost, Knows}
 use Rattle.ada_lower.specs.FittedForks.{FittedForks, FittedReductions, FittedArms, Within}
-use Rattle.ada_lower.specs.Forks.{threaded, thread_ends}
+use Rattle.ada_lower.proofs.Forks.{threaded, thread_ends}
 use Rattle.typed_scopes.specs.Outs.{Out}
 use Rattle.ada_lower.proofs.Calls.{CallsDo}
 use Rattle.ada_lower.proofs.Inner.{InnerDo}

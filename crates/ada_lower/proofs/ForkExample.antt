@@ -23,7 +23,7 @@ use Rattle.ada_lower.specs.Bodies.{main_scope}
 use Rattle.ada_lower.specs.Emission.{parallel_for}
 use Rattle.ada_lower.proofs.Inner.{InnerDo}
 use Rattle.ada_lower.specs.Driven.{on}
-use Rattle.ada_lower.specs.Forks.{thread_ends}
+use Rattle.ada_lower.proofs.Forks.{thread_ends}
 use Rattle.ada_lower.proofs.Framework.{any, does_ret, does_returned}
 use Rattle.ada_lower.proofs.Parts.{Runs}
 use Rattle.ada_lower.proofs.Statements.{Suits, Acts}

@@ -16,8 +16,8 @@ use Rattle.ada_lower.specs.Driven.{Dyn, Fixed, Final, On, at, alone, Finally, We
 use Rattle.ada_lower.specs.Lending.{Among, Owns}
 use Rattle.ada_lower.specs.Teams.{AreSound, IsSound}
 use Rattle.ada_lower.specs.Fits.{Ghost, Allows, Fit, Knows}
-use Rattle.ada_lower.specs.Forks.{ThreadDoes, thread_ends}
-use Rattle.ada_lower.specs.ForkViews.{view_of, view_ghost, TouchesFit, Apart}
+use Rattle.ada_lower.proofs.Forks.{ThreadDoes, thread_ends}
+use Rattle.ada_lower.proofs.ForkViews.{view_of, view_ghost, TouchesFit, Apart}
 use Rattle.ada_lower.proofs.Framework.{sound_split, allows_split}
 use Rattle.ada_lower.proofs.ForkThreads.{moved, dyn_moved, fit_moved, Endings}
 use Rattle.ada_lower.proofs.ForkApart.{view_ends_so}

@@ -21,7 +21,7 @@ use Rattle.ada_lower.specs.Driven.{Dyn, Fixed, Step, on, thrown, sizes_for, answ
 use Rattle.ada_lower.specs.Sights.{Emit, Scope, Named, Sight, Stands, aside, listed}
 use Rattle.ada_lower.specs.Emission.{exiting}
 use Rattle.ada_lower.specs.Fits.{Ghost, Fit, Ends, left_by, Lands, Knows, Asks}
-use Rattle.ada_lower.specs.Forks.{ThreadDoes}
+use Rattle.ada_lower.proofs.Forks.{ThreadDoes}
 use Rattle.ada_lower.specs.Emission.{left_code}
 use Rattle.ada_lower.proofs.Inner.{InnerDo}
 use Rattle.ada_lower.proofs.Framework.{any, To, Doing, comes_here, comes_on, comes_goes, does_before, does_returned, asks_split}
@@ -33,7 +33,7 @@ use Rattle.ada_lower.proofs.ForkSteps.{keeping, fork_ends, MayEnd, operands, com
 use Rattle.ada_lower.proofs.ForkInside.{nested_in, left_as_kept, left_as_nested, comes_unnest, Inside, does_caught, does_left}
 use Rattle.ada_lower.proofs.ForkLeft.{In, MayLeave, left_ended, left_own, left_away, takes_exit, takes_own, takes_raise, takes_return}
 use Rattle.ada_lower.proofs.ForkFine.{Lends, views_of}
-use Rattle.ada_lower.specs.ForkViews.{view_ghost, Apart}
+use Rattle.ada_lower.proofs.ForkViews.{view_ghost, Apart}
 use Rattle.ada_lower.specs.Lending.{Among}
 
 -- code that is jumped over

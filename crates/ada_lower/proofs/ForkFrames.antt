@@ -14,7 +14,7 @@ use Rattle.stack_code.specs.Machine.{outward_of}
 use Rattle.ada_lower.specs.Driven.{Dyn, Fixed, span_cells, thread_cells, cut_to}
 use Rattle.ada_lower.specs.Sights.{moved_named, moved_where, outer_level, outer_named, outer_where, Around, Level, Main, Named, Own, Sight, Where, thread_sight}
 use Rattle.ada_lower.specs.Fits.{What, Other, Free, Keeps, Shows, Access, Ghost, Fit, Right, Allows, IsAt, IsNumber, Leads, Refers, Holds, Knows, Stands as StandsFor}
-use Rattle.ada_lower.specs.Forks.{threaded}
+use Rattle.ada_lower.proofs.Forks.{threaded}
 use Rattle.ada_lower.proofs.Memory.{set_what, what_same, what_other, at_or_not}
 
 -- ---- lists
@@ -224,7 +224,7 @@ module _ {limit : ℕ} {cuts : ℕ → ℕ → List ℕ} {g : Ghost} {f : Fixed}
   refers_out m x first r = record {
     address = r.address;
     leads = leads_out m.through m.place r.address r.leads;
-    spread = record { cell = λ i lt. let (p, y, e, z) = r.spread.cell i lt in (p, y, e, stands_out (r.address + i) y p z) };
+    spread = record { near = (let n = r.spread.near in omega (arith, n)); cell = λ i lt. let (p, y, e, z) = r.spread.cell i lt in (p, y, e, stands_out (r.address + i) y p z) };
   }
 
   holds_out : (w : Where) (v : ℤ) → Holds g f w v → Holds g' f' (outer_where w) v
@@ -247,7 +247,7 @@ module _ {limit : ℕ} {cuts : ℕ → ℕ → List ℕ} {g : Ghost} {f : Fixed}
     one = λ a b x y p e e'. k.one a b x y p (frame_stands g n a x p e) (frame_stands g n b y p e');
     old = k.old;
     hidden = k.hidden;
-    global = λ x m e. let (o, is, there, cells) = k.global x m e in (o, is, there, λ i lt. let (p, y, z, w) = cells i lt in (p, y, z, stands_out (o + i) y p w));
+    global = λ x m e. let (o, is, there, cells, near) = k.global x m e in (o, is, there, (λ i lt. let (p, y, z, w) = cells i lt in (p, y, z, stands_out (o + i) y p w)), omega (arith, near));
     outside = k.outside;
     top = refl;
     beyond = λ a ge. frame_other g n a ge;

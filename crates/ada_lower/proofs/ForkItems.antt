@@ -1,5 +1,5 @@
 -- Threads that go through the components of an array do what those of the stored run do.
-use Rattle.std.proofs.Common.{◌≡◌, ℕ, zero, suc, ◌+◌, ◌*◌, ◌<◌, ◌≤◌, ℤ, pos, ◌+ℤ◌, ◌-ℤ◌, ◌*ℤ◌, int_le, ◌&&◌, List, [], ◌∷◌, ◌++◌, slice_get, set, nat_eq, nat_lt, Option, Some, None, Err, Bool, true, false, cond, refl, sym, ap, ap₂, ◌∙◌, subst, arith, inl, ⊎_elim, ltb-true, ltb-false, suc-mul, mul-le-mul_right}
+use Rattle.std.proofs.Common.{◌≡◌, ℕ, zero, suc, ◌+◌, ◌*◌, ◌<◌, ◌≤◌, ℤ, pos, ◌+ℤ◌, ◌-ℤ◌, ◌*ℤ◌, int_le, ◌&&◌, List, [], ◌∷◌, ◌++◌, slice_get, set, nat_eq, nat_lt, Option, Some, None, Err, Bool, true, false, cond, refl, sym, ap, ap₂, ◌∙◌, subst, le_refl, arith, inl, ⊎_elim, ltb-true, ltb-false, suc-mul, mul-le-mul_right}
 use Rattle.std.proofs.lemmas.Int.{ints}
 use Rattle.behaviours.specs.Doings.{through}
 use Rattle.behaviours.specs.Joins.{Share}
@@ -24,7 +24,7 @@ use Rattle.ada_lower.specs.Driven.{Dyn, Fixed, on, At, Alike}
 use Rattle.ada_lower.proofs.Alike.{alike}
 use Rattle.ada_lower.specs.Sights.{Around, Emit, chunk_sight, Named, Sight, Stands, looped, one, own, taking, thread_sight, when_, ◌⨟◌}
 use Rattle.ada_lower.specs.Fits.{What, Free, Keeps, Ghost, Fit, Right, Ends, Holds, Knows, Refers, Spread, place_in, Access, Stands as StandsFor, IsNumber}
-use Rattle.ada_lower.specs.Forks.{threaded, thread_ends, done_so, ThreadDoes}
+use Rattle.ada_lower.proofs.Forks.{threaded, thread_ends, done_so, ThreadDoes}
 use Rattle.ada_lower.specs.Emission
 use Rattle.ada_lower.specs.Emission.{items_code}
 use Rattle.ada_lower.proofs.Inner.{InnerDo}
@@ -32,7 +32,7 @@ use Rattle.ada_lower.proofs.Framework.{any, To, Doing, comes_on, comes_as, comes
 use Rattle.ada_lower.proofs.Memory.{set_what, what_same, what_other, at_or_not, own_free, own_keeps, fit_set, fit_unset, fit_alike, knows_keep, Extends, free_extends}
 use Rattle.ada_lower.proofs.Standing.{stands_assoc3, stands_seq, stands_when, stands_looped}
 use Rattle.ada_lower.proofs.Parts.{Runs, Fewer, truth_same, does_first, does_keep, does_to, does_weak}
-use Rattle.ada_lower.proofs.Names.{index_below, does_by, comes_number}
+use Rattle.ada_lower.proofs.Names.{comes_component, comes_field, does_by, comes_number}
 use Rattle.ada_lower.proofs.Loops.{counts_at, first_at, last_at, count_last, count_more}
 use Rattle.ada_lower.proofs.Courses.{knows_counts, knows_parameter, le_deed, truth_bit, comes_kept}
 use Rattle.ada_lower.proofs.Items.{named_entity, knows_item, comes_stores}
@@ -97,13 +97,13 @@ module _ (limit : ℕ) (cuts : ℕ → ℕ → List ℕ) (c : Code) (f : Fixed) 
       other false false false e = e
 
   -- the end of a turn, up to its count
-  item_steps : {t : stored.State} {d : Dyn} {e1 e2 e3 : Option ℕ} (st : List ℤ) (g : Ghost) (stride a at_ : ℕ) (u v : ℤ) → At c at_ (i.LoadL 4) e1 → At c (at_ + 1) (i.Field stride) e2 → At c (at_ + 1 + 1) (i.StoreL 4) e3 → Fit (item_ghost a u v g) t d
+  item_steps : {t : stored.State} {d : Dyn} {e1 e2 e3 : Option ℕ} (st : List ℤ) (g : Ghost) (stride a at_ : ℕ) (u v : ℤ) → At c at_ (i.LoadL 4) e1 → At c (at_ + 1) (i.Field stride) e2 → At c (at_ + 1 + 1) (i.StoreL 4) e3 → a ≤ g.top → Fit (item_ghost a u v g) t d
       → Fit (item_ghost (a + stride) u v g) t (record d { cells = set d.cells (f.base + 4) (Mine (pos (a + stride))) }) × To limit c (on f at_ st d) (on f (at_ + 1 + 1 + 1) st (record d { cells = set d.cells (f.base + 4) (Mine (pos (a + stride))) }))
-  item_steps {t} {d} st g stride a at_ u v j1 j2 j3 w =
+  item_steps {t} {d} st g stride a at_ u v j1 j2 j3 near w =
       let is : slice_get d.cells (f.base + 4) ≡ Some (Mine (pos a)) = subst (λ z. Right z t (slice_get d.cells (f.base + 4))) (item_at a u v g) (w.cells (f.base + 4)) in (
         fit_alike (item_ghost (a + stride) u v g).what (next_swap a (a + stride) u v g) (fit_set (f.base + 4) (pos (a + stride)) (own_keeps ((item_ghost a u v g).what (f.base + 4)) (pos a) (item_at a u v g)) w),
         comes_on limit c (comes_kept limit cuts c f 4 (pos a) st d w (item_at a u v g) j1)
-            (comes_on limit c (comes_goes limit c f (pos a ∷ st) (at_ + 1 + 1) (pos (a + stride) ∷ st) d j2 refl)
+            (comes_on limit c (comes_field limit c f stride a st d w near j2)
             (comes_stores limit c f (f.base + 4) (pos (a + stride)) (pos a) (pos (a + stride) ∷ st) st d j3 refl is)),
       )
 
@@ -126,7 +126,7 @@ module _ (limit : ℕ) (cuts : ℕ → ℕ → List ℕ) (c : Code) (f : Fixed) 
         let e1 = free_extends g (f.base + 4) (Keeps (pos a)) free4 in
         let e2 = free_extends (with_item_kept a) (f.base + 2) (Keeps u) (free_first a) in
         let e3 = free_extends (with_first_kept a u) (f.base + 3) (Keeps v) (free_last a u) in
-        record { place = λ y i p e. e; solid = λ b w ok e. e3.solid b w ok (e2.solid b w ok (e1.solid b w ok e)) }
+        record { top = le_refl g.top; place = λ y i p e. e; solid = λ b w ok e. e3.solid b w ok (e2.solid b w ok (e1.solid b w ok e)) }
 
     fewer_gone : (a : ℕ) (u v : ℤ) → Fewer limit c f x (item_ghost a u v g) g
     fewer_gone a u v b y p e = inl ((extends_item a u v).solid b (StandsFor y p) tt e)
@@ -136,33 +136,33 @@ module _ (limit : ℕ) (cuts : ℕ → ℕ → List ℕ) (c : Code) (f : Fixed) 
 
     pub components_do : {A : Type 0} {e1 e2 e3 e4 : Option ℕ} (stack : A → List ℤ) (stride a0 head mid : ℕ) (h : ℤ) (turn : ℕ → A → Stored A)
         → At c mid (i.LoadL 4) e1 → At c (mid + 1) (i.Field stride) e2 → At c (mid + 1 + 1) (i.StoreL 4) e3 → At c (mid + 1 + 1 + 1) (i.Next 2 3 head) e4
-        → (m k : ℕ) (b0 : A) → h ≡ (pos 1 +ℤ pos k) +ℤ pos m → ((i : ℕ) (b : A) → k ≤ i → i ≤ k + m → Runs limit c f x (item_ghost (a0 + i * stride) (pos 1 +ℤ pos i) h g) any (turn i b) (λ d. on f head (stack b) d) (λ b d. on f mid (stack b) d))
+        → (m k : ℕ) (b0 : A) → h ≡ (pos 1 +ℤ pos k) +ℤ pos m → ((i : ℕ) → i ≤ k + m → a0 + i * stride ≤ g.top) → ((i : ℕ) (b : A) → k ≤ i → i ≤ k + m → Runs limit c f x (item_ghost (a0 + i * stride) (pos 1 +ℤ pos i) h g) any (turn i b) (λ d. on f head (stack b) d) (λ b d. on f mid (stack b) d))
         → Doing limit c f x (item_ghost (a0 + k * stride) (pos 1 +ℤ pos k) h g) g any (through stored.doings k (suc m) b0 turn) (λ d. on f head (stack b0) d) (λ b d. on f (mid + 1 + 1 + 1 + 1) (stack b) d)
-    components_do {A} stack stride a0 head mid h turn j1 j2 j3 j4 zero k b0 is b =
+    components_do {A} stack stride a0 head mid h turn j1 j2 j3 j4 zero k b0 is near b =
         let a : ℕ = a0 + k * stride in
         does_seq limit c f x (λ t d w. fit_gone a (pos 1 +ℤ pos k) h t d w) (λ ts al. al) (b k b0 (omega arith) (omega arith)) (λ b' _.
         does_first limit c f x (fewer_gone a (pos 1 +ℤ pos k) h) (λ t d w.
-        let (w', goes) = item_steps (stack b') g stride a mid (pos 1 +ℤ pos k) h j1 j2 j3 w in (
+        let (w', goes) = item_steps (stack b') g stride a mid (pos 1 +ℤ pos k) h j1 j2 j3 (near k (omega arith)) w in (
           _,
           fit_gone (a + stride) (pos 1 +ℤ pos k) h t _ w',
           comes_on limit c goes (count_last limit cuts c f x (set_what (f.base + 4) (Keeps (pos (a + stride))) g) (stack b') false 2 head k (pos 1) h j4 (omega (arith, ints, is)) w'),
         ))
         (does_ret limit c f x {to = λ b d. on f (mid + 1 + 1 + 1 + 1) (stack b) d} b' tt))
-    components_do {A} stack stride a0 head mid h turn j1 j2 j3 j4 (suc m) k b0 is b =
+    components_do {A} stack stride a0 head mid h turn j1 j2 j3 j4 (suc m) k b0 is near b =
         let a : ℕ = a0 + k * stride in
         let next : a0 + k * stride + stride ≡ a0 + suc k * stride = omega (arith, suc-mul k stride) in
         does_seq limit c f x (λ t d w. fit_gone a (pos 1 +ℤ pos k) h t d w) (λ ts al. al) (b k b0 (omega arith) (omega arith)) (λ b' _.
         does_first limit c f x (fewer_item a (a0 + suc k * stride) (pos 1 +ℤ pos k) (pos 1 +ℤ pos (suc k)) h h g) (λ t d w.
-        let (w', goes) = item_steps (stack b') g stride a mid (pos 1 +ℤ pos k) h j1 j2 j3 w in
+        let (w', goes) = item_steps (stack b') g stride a mid (pos 1 +ℤ pos k) h j1 j2 j3 (near k (omega arith)) w in
         let (d', w'', goes') = count_more limit cuts c f x (set_what (f.base + 4) (Keeps (pos (a + stride))) g) (stack b') false 2 head k m (pos 1) h j4 is w' in
         (d', subst (λ q. Fit (item_ghost q (pos 1 +ℤ pos (suc k)) h g) t d') next w'', comes_on limit c goes goes'))
-        (components_do stack stride a0 head mid h turn j1 j2 j3 j4 m (suc k) b' (omega (arith, ints, is)) (λ i e le le'. b i e (omega (arith, le)) (omega (arith, le')))))
+        (components_do stack stride a0 head mid h turn j1 j2 j3 j4 m (suc k) b' (omega (arith, ints, is)) (λ i le. near i (omega (arith, le))) (λ i e le le'. b i e (omega (arith, le)) (omega (arith, le')))))
 
 -- ---- threads
 
 module _ (limit : ℕ) (cuts : ℕ → ℕ → List ℕ) (program : Program) (c : Code) (f : Fixed) (calls : ℕ → ℕ → Stored (Unit {0}) → List Passed → Stored Returned) (globals : ℕ → Entity → Option Named) (mains : Entity → Bool) (epar : Sight → Expr → Type 0) (calls_all : (f' : Fixed) → Alike f' f → InnerDo limit cuts program globals mains epar c f' calls) where
   module _ (g : Ghost) (s : Sight) (env : Env) (kn : Knows limit cuts g f s env) (site : ℕ) (cs : CodeSite) (four : 4 ≤ cs.frame) (five : 5 ≤ cs.frame) (count stride : ℕ) (cl ch initial : ℤ) (j : Share) (inside : j.first + j.size ≤ count)
-      (around a0 : ℕ) (held : IsNumber (g.what (f.base + around)) (pos a0)) (lower : around < s.cells) where
+      (around a0 : ℕ) (held : IsNumber (g.what (f.base + around)) (pos a0)) (lower : around < s.cells) (reach : a0 + count * stride ≤ g.top) where
     abbrev pub asking : Asked
     asking = Deeds.asked site (pos 1) (pos count) cl ch initial
 
@@ -234,6 +234,9 @@ module _ (limit : ℕ) (cuts : ℕ → ℕ → List ℕ) (program : Program) (c 
         go true e = e
         go false e = absurd (omega (arith, ints, e))
 
+    up_to : (k : ℕ) → k ≤ count → a0 + k * stride ≤ g.top
+    up_to k le = let b : k * stride ≤ count * stride = mul-le-mul_right stride le in omega (arith, b, reach)
+
     -- code that goes through the components of a thread, with what goes from turn to turn on the stack
     pub items_code_does : {A : Type 0} (stack : A → List ℤ) (t1 : Sight) (h : ℕ) (body : Emit) (from to : ℕ) (turn : ℕ → A → Stored A) → t1.scope.entry ≡ None → Stands c (items_code t1.scope h 2 around stride count body) from to
         → ((k : ℕ) (b : A) (head mid : ℕ) → k < count → Stands c body head mid → Runs limit c fx thread_ends (it_ghost k) any (turn k b) (λ d. on fx head (stack b) d) (λ b d. on fx mid (stack b) d))
@@ -275,15 +278,14 @@ module _ (limit : ℕ) (cuts : ℕ → ℕ → List ℕ) (program : Program) (c 
             (ap (λ b. GoesOn (cond b p to) (stack b0 ++ fx.below)) (truth_same (Values.bit (int_le first last)) ∙ (truth_bit limit cuts c fx (int_le first last) ∙ le_more first m))))
             (comes_on limit c (comes_number limit c fx (record { level = Around 1; cell = around }) (pos a0) (stack b0) d w (f.base + around, (f.base, refl, refl), kept) jo)
             (comes_on limit c (comes_kept limit cuts c fx 2 first (pos a0 ∷ stack b0) d w (first_at limit cuts c fx thread_ends 2 first last base) ji)
-            (comes_goes limit c fx (first ∷ pos a0 ∷ stack b0) (p + 1 + 1 + 1) (pos a1 ∷ stack b0) d jx
-            (ap (λ b. pushed (p + 1 + 1) (cond b (Some (pos a0 +ℤ ((first -ℤ pos 1) *ℤ pos stride))) None) (stack b0 ++ fx.below)) e
-            ∙ ap (λ z. pushed (p + 1 + 1) (Some (pos a0 +ℤ (z *ℤ pos stride))) (stack b0 ++ fx.below)) (index_below (pos 1) first (pos count) e).1
-            ∙ ap (λ n. GoesOn (p + 1 + 1 + 1) (pos n ∷ (stack b0 ++ fx.below))) moved_to)))))
+            (subst (λ n. To limit c (on fx (p + 1 + 1) (first ∷ pos a0 ∷ stack b0) d) (on fx (p + 1 + 1 + 1) (pos n ∷ stack b0) d)) moved_to
+            (comes_component limit c fx (pos 1) (pos count) first stride a0 (stack b0) d w e (let z : a0 + to_nat (first -ℤ pos 1) * stride ≤ g.top + cs.frame = (let y = up_to j.first (omega (arith, lt)) in omega (arith, y, moved_to)) in z) jx)))))
             (does_keep limit c fx thread_ends (p + 1 + 1 + 1) 4 (pos a1) (stack b0) (own_free (G.what (fx.base + 4)) own4) (at_none en jk)
             (does_first limit c fx thread_ends (λ b y q z. inl (first_swap limit cuts c fx thread_ends a1 first last base b ∙ z))
             (λ st d w. (d, fit_alike (item_ghost limit cuts c fx thread_ends a1 first last base).what (first_swap limit cuts c fx thread_ends a1 first last base) w, comes_goes limit c fx (stack b0) (p + 1 + 1 + 1 + 1 + 1 + 1) (stack b0) d o.enter refl))
             (subst (λ z. Doing limit c fx thread_ends (item_ghost limit cuts c fx thread_ends a1 first last base) base any (through stored.doings j.first (suc m) b0 turn) (λ d. on fx (p + 1 + 1 + 1 + 1 + 1 + 1) (stack b0) d) (λ b d. on fx z (stack b) d)) (sym be)
             (components_do limit cuts c fx thread_ends base free2 free3 free4 stack stride a0 (p + 1 + 1 + 1 + 1 + 1 + 1) o.mid last turn b1 b2 b3 b4 m j.first b0 refl
+            (λ k le. (let y = up_to k (omega (arith, le, inn)) in omega (arith, y)))
             (λ k b le le'. step k b (p + 1 + 1 + 1 + 1 + 1 + 1) o.mid (omega (arith, le', inn)) o.turn)))))
 
     -- ---- by what is done in each turn
@@ -300,6 +302,11 @@ module _ (limit : ℕ) (cuts : ℕ → ℕ → List ℕ) (program : Program) (c 
         address = a0 + i * stride;
         leads = (fx.base + 4, refl, inl (item_at limit cuts c fx thread_ends (a0 + i * stride) (pos 1 +ℤ pos i) (last_of first j.size) base));
         spread = record {
+          near = (
+              let r = part.near in
+              let b : suc i * stride ≤ count * stride = mul-le-mul_right stride (let z : suc i ≤ count = omega (arith, lt) in z) in
+              let z : a0 + i * stride + stride ≤ g.top + cs.frame = omega (arith, r, b, suc-mul i stride) in
+              z);
           cell = λ l ll.
               let b : suc i * stride ≤ count * stride = mul-le-mul_right stride (let z : suc i ≤ count = omega (arith, lt) in z) in
               let (pl, access, here, stands) = part.cell (i * stride + l) (omega (arith, b, suc-mul i stride, ll)) in

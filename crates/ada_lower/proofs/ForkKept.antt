@@ -18,7 +18,7 @@ use Rattle.stack_code.specs.declared.path.Gave.TheVariants as gave
 use Rattle.stack_code.specs.Deeds.{can_fork, asked, many}
 use Rattle.ada_lower.specs.Driven.{Dyn, Fixed, Step, on, sizes_for, answer_of, fork_end, state_of, combined_by, At}
 use Rattle.ada_lower.specs.Fits.{Ghost, Ends, left_by, Land, Lands, Asks, Knows}
-use Rattle.ada_lower.specs.Forks.{ThreadDoes}
+use Rattle.ada_lower.proofs.Forks.{ThreadDoes}
 use Rattle.ada_lower.proofs.Framework.{comes_as, any, To, comes_here, comes_on, comes_goes, does_bind, leads_on}
 use Rattle.ada_lower.proofs.Parts.{Runs}
 use Rattle.ada_lower.proofs.ForkSteps.{keeping, fork_ends, MayEnd, operands, comes_too_many, resumes, fork_lands}
@@ -26,7 +26,7 @@ use Rattle.ada_lower.proofs.ForkInside.{nested_in, left_as_kept, left_as_nested,
 use Rattle.ada_lower.proofs.ForkFor.{Every, all_do, every_among}
 use Rattle.ada_lower.proofs.ForkReduce.{OnlyRaises}
 use Rattle.ada_lower.proofs.ForkFine.{Lends, views_of}
-use Rattle.ada_lower.specs.ForkViews.{view_ghost, Apart}
+use Rattle.ada_lower.proofs.ForkViews.{view_ghost, Apart}
 use Rattle.ada_lower.specs.Sights.{Sight}
 
 module _ (limit : ℕ) (c : Code) (f : Fixed) where

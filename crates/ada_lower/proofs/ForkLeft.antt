@@ -21,7 +21,7 @@ use Rattle.ada_lower.specs.Sights.{Emit, Named, Sight, Stands, choose, none, one
 use Rattle.ada_lower.specs.Emission
 use Rattle.ada_lower.specs.Emission.{is_own, returning, returning_value, exiting}
 use Rattle.ada_lower.specs.Fits.{What, Keeps, Ghost, Fit, Ends, Does, Knows}
-use Rattle.ada_lower.specs.Forks.{machine_leave}
+use Rattle.ada_lower.proofs.Forks.{machine_leave}
 use Rattle.ada_lower.specs.Emission.{left_code, exits_code}
 use Rattle.ada_lower.proofs.Inner.{InnerDo}
 use Rattle.ada_lower.proofs.Framework.{any, To, Doing, comes_on, comes_goes, does_ret, does_before}

@@ -21,7 +21,7 @@ use Rattle.behaviours.specs.Paths.{Entity}
 use Rattle.ada_lower.specs.Driven.{Dyn, Fixed, Step, on, off, span_cells, thread_cells, At, Alike}
 use Rattle.ada_lower.specs.Sights.{Emit, Named, Sight, Stands, looped, one, taking, thread_sight, when_, ◌⨟◌}
 use Rattle.ada_lower.specs.Fits.{Keeps, Ghost, Fit, Allows, Knows, Stands as StandsFor}
-use Rattle.ada_lower.specs.Forks.{threaded, thread_ends, framed, done_so, ThreadDoes}
+use Rattle.ada_lower.proofs.Forks.{threaded, thread_ends, framed, done_so, ThreadDoes}
 use Rattle.ada_lower.specs.Emission.{turns_code}
 use Rattle.ada_lower.proofs.Inner.{InnerDo}
 use Rattle.ada_lower.proofs.Framework.{any, Doing, comes_on, comes_as, comes_goes, does_ret, does_before}

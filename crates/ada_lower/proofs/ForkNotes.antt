@@ -14,7 +14,7 @@ use Rattle.stack_code.specs.Machine.{Stop, Done, Left, Spent, Cut, Astray}
 use Rattle.ada_lower.specs.Driven
 use Rattle.ada_lower.specs.Driven.{Dyn, Fixed, Path, Final, Step, On, Off, Forked, at, goes, noted_went, noted_thread, cut_to, with_turns, with_left, with_notes}
 use Rattle.ada_lower.specs.Fits.{Ghost, Fit, Asks}
-use Rattle.ada_lower.specs.Forks.{thread_ends, machine_leave, ThreadDoes, Reaches}
+use Rattle.ada_lower.proofs.Forks.{thread_ends, machine_leave, ThreadDoes, Reaches}
 use Rattle.ada_lower.proofs.Framework.{asks_split}
 use Rattle.ada_lower.proofs.ForkFuel.{goes_by}
 use Rattle.ada_lower.proofs.ForkThreads.{moved, dyn_moved, fit_moved, reaches_by, start, Ending, Endings, thread_ends_so, AllDo}

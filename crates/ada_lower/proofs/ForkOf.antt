@@ -28,7 +28,7 @@ use Rattle.ada_lower.specs.Fits
 use Rattle.ada_lower.specs.Fits.{Keeps, Free, Ghost, Fit, Ends, Knows, Refers, Spread}
 use Rattle.ada_lower.specs.Fitted.{Reaches, FittedSelections}
 use Rattle.ada_lower.specs.FittedForks.{FittedChunk, Within}
-use Rattle.ada_lower.specs.Forks.{threaded, thread_ends}
+use Rattle.ada_lower.proofs.Forks.{threaded, thread_ends}
 use Rattle.ada_lower.proofs.Inner.{InnerDo}
 use Rattle.ada_lower.proofs.Framework.{itself, any, To, Doing, comes_here, comes_on, comes_goes, does_bind, does_assoc, does_returned}
 use Rattle.ada_lower.proofs.Memory.{set_what, what_same, what_other, own_free, knows_keep, fit_unset, free_extends}
@@ -50,7 +50,7 @@ use Rattle.ada_lower.proofs.ForkDeals.{loop_shares}
 use Rattle.ada_lower.proofs.ForkItems.{items_thread}
 use Rattle.ada_lower.proofs.ForkChunks.{chunk_does}
 use Rattle.ada_lower.proofs.ForkFine.{Lends}
-use Rattle.ada_lower.specs.ForkViews.{view_ghost, no_free}
+use Rattle.ada_lower.proofs.ForkViews.{view_ghost, no_free}
 use Rattle.ada_lower.proofs.ForkSights.{knows_view, number_view, spread_view}
 
 pub many_is : (count : ℕ) → many (pos 1) (pos count) ≡ count
@@ -93,7 +93,7 @@ module _ (limit : ℕ) (cuts : ℕ → ℕ → List ℕ) (program : Program) (c 
       let (j1, z1) = address_stands limit cuts program c f x calls globals mains epar calls_do s h (array_root_of constant s.scope r) n from m1 e l1 in
       does_assoc limit c f x _ _ then
       (does_bind limit c f x (named_does limit cuts program c f x calls globals mains epar calls_do from m1 n (named_entity constant o.object) o.offset st v j1 z1
-      (selected_does limit cuts program c f x calls globals mains epar calls_do selections m1 m2 s (h + 1) st o v.address o.offset n.cells n.cells (count * stride) kn en ws reach (le_refl o.offset) (le_refl (o.offset + n.cells)) l3)) (λ q is.
+      (selected_does limit cuts program c f x calls globals mains epar calls_do selections m1 m2 s (h + 1) st o v.address o.offset n.cells n.cells (count * stride) kn en ws reach (le_refl o.offset) (le_refl (o.offset + n.cells)) v.spread.near l3)) (λ q is.
       let a : ℕ = v.address + (q.offset - o.offset) in
       let part : Placed g q a = spread_part limit cuts program c f x calls globals mains epar v.spread (ap (λ z. named_entity constant z) is.0) is.1 is.2 in
       does_returned limit c f x then (course_of q)
@@ -203,13 +203,13 @@ module _ (limit : ℕ) (cuts : ℕ → ℕ → List ℕ) (within : Within cuts) 
           (sizes_same limit cuts chunk cl ch count k site told ∙ ap₂ (λ pl kd. sizes_for pl kd asking) (sym plan) (sym kind))
           (λ j. j.first + j.size ≤ asking.count) (loop_shares cuts gg.plan within plan chunk asking cs.kind kind)
           (λ j inn. items_thread limit cuts program c fi calls globals mains epar calls_all gg s4 (inside env) (knows_forked (kn2 cl ch a0)) site cs four five count stride cl ch (pos 0) j (let z = many_is count in omega (arith, inn, z)) (s.scope.free + 1 + 1) a0
-          (inl (ap (λ n. gg.what (f.base + n)) same_cell ∙ what_same (g1 cl ch) (f.base + (s.scope.free + 2)) (Keeps (pos a0)))) (omega (arith, room)) p constant q part chunk k told (chunk_of (cut_of k count) j.number) (numbered chunk cl ch k count j.number told) (MayLeave (Some number) loops) tests does
+          (inl (ap (λ n. gg.what (f.base + n)) same_cell ∙ what_same (g1 cl ch) (f.base + (s.scope.free + 2)) (Keeps (pos a0)))) (omega (arith, room)) part.near p constant q part chunk k told (chunk_of (cut_of k count) j.number) (numbered chunk cl ch k count j.number told) (MayLeave (Some number) loops) tests does
           (filtered program turn.scope 0 filter (body turn.scope)) m4 (subst (λ z. Stands c tb z m4) (sym (entry (m3 + 1 + 1 + 1) (itself refl jf))) bd)
           (λ g' env' a b kk ss. step (threaded fi gg.top) (alike f) gg.top refl g' env' a b kk ss)
           (λ stt w e. leaves_so j.first j.size _ stt w e))
           (knows_forked (kn2 cl ch a0)) (lends k cl ch q a0 told gg (knows_forked (kn2 cl ch a0)) part)
           (λ owner apart j inn. items_thread limit cuts program c fi calls globals mains epar calls_all (view_ghost owner j.number gg) (no_free s4) (inside env) (knows_view owner j.number (knows_forked (kn2 cl ch a0)) apart) site cs four five count stride cl ch (pos 0) j (let z = many_is count in omega (arith, inn, z)) (s.scope.free + 1 + 1) a0
-          (number_view owner j.number (knows_forked (kn2 cl ch a0)) apart (f.base + (s.scope.free + 1 + 1)) (pos a0) (inl (ap (λ n. gg.what (f.base + n)) same_cell ∙ what_same (g1 cl ch) (f.base + (s.scope.free + 2)) (Keeps (pos a0))))) (omega (arith, room)) p constant q (spread_view owner j.number (knows_forked (kn2 cl ch a0)) apart (named_entity constant q.object) q.offset (count * stride) a0 part) chunk k told (chunk_of (cut_of k count) j.number) (numbered chunk cl ch k count j.number told) (MayLeave (Some number) loops) tests does
+          (number_view owner j.number (knows_forked (kn2 cl ch a0)) apart (f.base + (s.scope.free + 1 + 1)) (pos a0) (inl (ap (λ n. gg.what (f.base + n)) same_cell ∙ what_same (g1 cl ch) (f.base + (s.scope.free + 2)) (Keeps (pos a0))))) (omega (arith, room)) part.near p constant q (spread_view owner j.number (knows_forked (kn2 cl ch a0)) apart (named_entity constant q.object) q.offset (count * stride) a0 part) chunk k told (chunk_of (cut_of k count) j.number) (numbered chunk cl ch k count j.number told) (MayLeave (Some number) loops) tests does
           (filtered program turn.scope 0 filter (body turn.scope)) m4 (subst (λ z. Stands c tb z m4) (sym (entry (m3 + 1 + 1 + 1) (itself refl jf))) bd)
           (λ g' env' a b kk ss. step (threaded fi gg.top) (alike f) gg.top refl g' env' a b kk ss)
           (λ stt w e. leaves_so j.first j.size _ stt w e))))

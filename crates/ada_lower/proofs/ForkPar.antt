@@ -14,7 +14,7 @@ use Rattle.stack_code.specs.Machine.{Astray}
 use Rattle.ada_lower.specs.Driven
 use Rattle.ada_lower.specs.Driven.{Dyn, Fixed, Path, Final, Step, Forked, goes, with_notes, gathered}
 use Rattle.ada_lower.specs.Fits.{Ghost, Fit, Asks}
-use Rattle.ada_lower.specs.Forks.{ThreadDoes, Reaches}
+use Rattle.ada_lower.proofs.Forks.{ThreadDoes, Reaches}
 use Rattle.ada_lower.proofs.Memory.{right_same}
 use Rattle.ada_lower.proofs.ForkThreads.{start, AllDo, in_order_reaches, reaches_by}
 use Rattle.ada_lower.proofs.ForkNotes.{chosen_reaches}

@@ -26,7 +26,7 @@ use Rattle.ada_lower.specs.Emission
 use Rattle.ada_lower.specs.Emission.{emit, exiting, filtered}
 use Rattle.ada_lower.specs.Fits.{What, Keeps, Ghost, Fit, Ends, Does, Refers, Leads, Holds, Knows}
 use Rattle.ada_lower.specs.Fitted.{Fitted}
-use Rattle.ada_lower.specs.Forks.{threaded, thread_ends, ThreadDoes}
+use Rattle.ada_lower.proofs.Forks.{threaded, thread_ends, ThreadDoes}
 use Rattle.ada_lower.specs.Emission.{loop_kind, parallel_for, chunk_code, course_code, ends_code, fork_code, left_code}
 use Rattle.ada_lower.proofs.Inner.{InnerDo}
 use Rattle.ada_lower.proofs.Framework.{any, To, itself, Doing, comes_here, comes_on, comes_goes, does_bind}
@@ -43,7 +43,7 @@ use Rattle.ada_lower.proofs.ForkLeft.{In, MayLeave}
 use Rattle.ada_lower.proofs.ForkLoops.{turn_ghost, knows_turn, first_kept, chunk_kept, loop_thread, fold_thread}
 use Rattle.ada_lower.proofs.ForkFor.{every_one, stands_behind, forked_does}
 use Rattle.ada_lower.proofs.ForkFine.{Lends}
-use Rattle.ada_lower.specs.ForkViews.{view_ghost, no_free}
+use Rattle.ada_lower.proofs.ForkViews.{view_ghost, no_free}
 use Rattle.ada_lower.proofs.ForkSights.{knows_view}
 
 -- ---- what is known where a construct is begun

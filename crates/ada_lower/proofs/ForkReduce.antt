@@ -26,41 +26,15 @@ use Rattle.stack_code.specs.Deeds.{can_fork, asked, many}
 use Rattle.ada_lower.specs.Driven
 use Rattle.ada_lower.specs.Driven.{Dyn, Fixed, Step, on, thrown, sizes_for, answer_of, fork_end, state_of, op_applied, onto_by, combined_by, At}
 use Rattle.ada_lower.specs.Fits.{Ghost, Ends, left_by, Land, Lands, Asks, Knows}
-use Rattle.ada_lower.specs.Forks.{ThreadDoes}
+use Rattle.ada_lower.proofs.Forks.{ThreadDoes}
 use Rattle.ada_lower.proofs.Framework.{any, To, comes_here, comes_on, comes_goes, does_bind, asks_split, leads_on}
-use Rattle.ada_lower.proofs.Parts.{Runs, made, outcome, operate_is, bit_same, truth_same}
+use Rattle.ada_lower.proofs.Parts.{applied_made, Runs, made, outcome, operate_is, bit_same, truth_same}
 use Rattle.ada_lower.proofs.ForkSteps.{keeping, fork_ends, MayEnd, operands, comes_too_many, comes_left, resumes, fork_lands}
 use Rattle.ada_lower.proofs.ForkInside.{nested_in, left_as_kept, left_as_nested, does_unless, comes_unnest}
 use Rattle.ada_lower.proofs.ForkFor.{Every, all_do, every_among}
 use Rattle.ada_lower.proofs.ForkFine.{Lends, views_of}
-use Rattle.ada_lower.specs.ForkViews.{view_ghost, Apart}
+use Rattle.ada_lower.proofs.ForkViews.{view_ghost, Apart}
 use Rattle.ada_lower.specs.Sights.{Sight}
-
--- ---- the operator that combines is the language's
-
-differ_same : (a b : Bool) → Deeds.differ a b ≡ Values.differ a b
-differ_same true b = refl
-differ_same false b = refl
-
-applied_made : (c : Code) (o : Op) (class : Class) (u v : ℤ) → op_applied c o (base_of class) u v ≡ made o class u v
-applied_made c op.Add class u v = refl
-applied_made c op.Sub class u v = refl
-applied_made c op.Mul class u v = refl
-applied_made c op.Pow class u v = refl
-applied_made c op.And class u v = refl
-applied_made c op.Or class u v = refl
-applied_made c op.Max class u v = refl
-applied_made c op.Min class u v = refl
-applied_made c op.Xor class u v = ap (λ b. Some b) (bit_same _ ∙ ap Values.bit (differ_same (Deeds.truth u) (Deeds.truth v) ∙ ap₂ Values.differ (truth_same u) (truth_same v)))
-applied_made c op.Div class u (pos zero) = refl
-applied_made c op.Div class u (pos (suc n)) = refl
-applied_made c op.Div class u (negsuc n) = refl
-applied_made c op.Mod class u (pos zero) = refl
-applied_made c op.Mod class u (pos (suc n)) = refl
-applied_made c op.Mod class u (negsuc n) = refl
-applied_made c op.Rem class u (pos zero) = refl
-applied_made c op.Rem class u (pos (suc n)) = refl
-applied_made c op.Rem class u (negsuc n) = refl
 
 -- ---- accumulators combined from the left
 

@@ -9,7 +9,7 @@ use Rattle.ada_base.specs.Cells.{Cell, Gone, Seen, Mine, value_in}
 use Rattle.ada_lower.specs.Driven.{Dyn, Fixed}
 use Rattle.ada_lower.specs.Sights.{Named, Sight, Where}
 use Rattle.ada_lower.specs.Fits.{What, Other, Free, Keeps, Shows, Access, Barred, Readable, Full, Bears, Right, allows, Allowed, Allows, Ghost, Fit, IsNumber, Leads, Refers, Knows, Stands as StandsFor, Spread}
-use Rattle.ada_lower.specs.ForkViews.{access_by, lesser, view_what, view_cell, viewed, view_of, view_ghost, no_free, TouchFits, TouchesFit, Apart}
+use Rattle.ada_lower.proofs.ForkViews.{access_by, lesser, view_what, view_cell, viewed, view_of, view_ghost, no_free, TouchFits, TouchesFit, Apart}
 use Rattle.ada_lower.proofs.Memory.{at_same}
 
 -- ---- cells of a view
@@ -113,13 +113,13 @@ module _ (owner : ℕ → Option ℕ) (j : ℕ) where
     leads_view false w b is = is
 
     pub spread_view : (x : Entity) (first count address : ℕ) → Spread g x first count address → Spread (view_ghost owner j g) x first count address
-    spread_view x first count address r = record { cell = λ i lt. let (p, y, e, z) = r.cell i lt in (p, lesser y (access_by (owner (address + i)) j), e, stands_view (address + i) y p z) }
+    spread_view x first count address r = record { near = r.near; cell = λ i lt. let (p, y, e, z) = r.cell i lt in (p, lesser y (access_by (owner (address + i)) j), e, stands_view (address + i) y p z) }
 
     refers_view : (n : Named) (x : Entity) (first : ℕ) → Refers g f n x first → Refers (view_ghost owner j g) f n x first
     refers_view n x first r = record {
       address = r.address;
       leads = leads_view n.through n.place r.address r.leads;
-      spread = record { cell = λ i lt. let (p, y, e, z) = r.spread.cell i lt in (p, lesser y (access_by (owner (r.address + i)) j), e, stands_view (r.address + i) y p z) };
+      spread = record { near = r.spread.near; cell = λ i lt. let (p, y, e, z) = r.spread.cell i lt in (p, lesser y (access_by (owner (r.address + i)) j), e, stands_view (r.address + i) y p z) };
     }
 
     pub knows_view : Knows limit cuts (view_ghost owner j g) f (no_free s) env
@@ -131,7 +131,7 @@ module _ (owner : ℕ → Option ℕ) (j : ℕ) where
       one = λ a b x y p e e'. let (z, h) = stood (access_by (owner a) j) (g.what a) x p e in let (z', h') = stood (access_by (owner b) j) (g.what b) y p e' in k.one a b z z' p h h';
       old = k.old;
       hidden = k.hidden;
-      global = λ x n e. let (m, is, there, cells) = k.global x n e in (m, is, there, λ i lt. let (p, y, z, w) = cells i lt in (p, lesser y (access_by (owner (m + i)) j), z, stands_view (m + i) y p w));
+      global = λ x n e. let (m, is, there, cells, near) = k.global x n e in (m, is, there, (λ i lt. let (p, y, z, w) = cells i lt in (p, lesser y (access_by (owner (m + i)) j), z, stands_view (m + i) y p w)), near);
       outside = k.outside;
       top = k.top;
       beyond = λ a ge. ap (λ w. view_what (access_by (owner a) j) w) (k.beyond a ge);

@@ -29,7 +29,7 @@ use Rattle.ada_lower.specs.Emission.{emit, reduction_kind, chunk_code, course_co
 use Rattle.ada_lower.specs.Fits.{Keeps, Ghost, Ends, Knows, Spread}
 use Rattle.ada_lower.specs.FittedForks.{FittedChunk, Within}
 use Rattle.ada_lower.specs.Fitted.{Reaches, Fitted, FittedSelections}
-use Rattle.ada_lower.specs.Forks.{threaded, thread_ends, ThreadDoes}
+use Rattle.ada_lower.proofs.Forks.{threaded, thread_ends, ThreadDoes}
 use Rattle.ada_lower.proofs.Inner.{InnerDo}
 use Rattle.ada_lower.proofs.Framework.{itself, any, To, Doing, comes_here, comes_on, comes_goes, does_bind}
 use Rattle.ada_lower.proofs.Memory.{set_what, what_same, what_other, own_free, knows_keep, fit_unset}
@@ -50,7 +50,7 @@ use Rattle.ada_lower.proofs.ForkChunks.{chunk_does}
 use Rattle.ada_lower.proofs.ForkOf.{many_is, knows_two, array_does}
 use Rattle.ada_lower.proofs.ForkReduce.{OnlyRaises}
 use Rattle.ada_lower.proofs.ForkFine.{Lends}
-use Rattle.ada_lower.specs.ForkViews.{view_ghost, no_free, Apart}
+use Rattle.ada_lower.proofs.ForkViews.{view_ghost, no_free, Apart}
 use Rattle.ada_lower.proofs.ForkSights.{knows_view, number_view, spread_view}
 
 -- it is dealt alike
@@ -317,13 +317,13 @@ module _ (limit : ℕ) (cuts : ℕ → ℕ → List ℕ) (program : Program) (c 
             (kept_under start cl ch a0 (s1.scope.free + 1) ch (omega arith) (last_at limit cuts c f x s1.scope.free cl ch (g0 start)))
             tbi m3 to r3 (λ j. j.first + j.size ≤ many (pos 1) (pos count)) (fold_shares cuts gg.plan within kn.plan by chunk (Deeds.asked site (pos 1) (pos count) cl ch start) cs.kind kind)
             (λ m4 bd j inn. fold_items_thread limit cuts program c fi calls globals mains epar calls_all gg s5 (inside env) (knows_forked (kna start cl ch a0)) site cs four five count stride cl ch start j (let z = many_is count in omega (arith, inn, z)) (s.scope.free + 1 + 1 + 1) a0
-            (inl (ap (λ n. gg.what (f.base + n)) same_cell ∙ what_same (g1 start cl ch) (f.base + (s1.scope.free + 2)) (Keeps (pos a0)))) (omega (arith, room)) p constant q part chunk k told (chunk_of (value_cut_of k count) j.number)
+            (inl (ap (λ n. gg.what (f.base + n)) same_cell ∙ what_same (g1 start cl ch) (f.base + (s1.scope.free + 2)) (Keeps (pos a0)))) (omega (arith, room)) part.near p constant q part chunk k told (chunk_of (value_cut_of k count) j.number)
             (numbered chunk cl ch k count j.number told) OnlyRaises turning (item_value item_turn.scope) m4 bd
             (λ g' env' a head mid kk ss. step (threaded fi gg.top) (alike f) refl g' env' a head mid kk ss)
             (λ w e h. leaves_so j.first j.size start _ w e h))
             (lends start cl ch q a0 k told gg (knows_forked (kna start cl ch a0)) part)
             (λ m4 bd owner apart j inn. fold_items_thread limit cuts program c fi calls globals mains epar calls_all (view_ghost owner j.number gg) (no_free s5) (inside env) (knows_view owner j.number (knows_forked (kna start cl ch a0)) apart) site cs four five count stride cl ch start j (let z = many_is count in omega (arith, inn, z)) (s.scope.free + 1 + 1 + 1) a0
-            (number_view owner j.number (knows_forked (kna start cl ch a0)) apart (f.base + (s.scope.free + 1 + 1 + 1)) (pos a0) (inl (ap (λ n. gg.what (f.base + n)) same_cell ∙ what_same (g1 start cl ch) (f.base + (s1.scope.free + 2)) (Keeps (pos a0))))) (omega (arith, room)) p constant q (spread_view owner j.number (knows_forked (kna start cl ch a0)) apart (named_entity constant q.object) q.offset (count * stride) a0 part) chunk k told (chunk_of (value_cut_of k count) j.number)
+            (number_view owner j.number (knows_forked (kna start cl ch a0)) apart (f.base + (s.scope.free + 1 + 1 + 1)) (pos a0) (inl (ap (λ n. gg.what (f.base + n)) same_cell ∙ what_same (g1 start cl ch) (f.base + (s1.scope.free + 2)) (Keeps (pos a0))))) (omega (arith, room)) part.near p constant q (spread_view owner j.number (knows_forked (kna start cl ch a0)) apart (named_entity constant q.object) q.offset (count * stride) a0 part) chunk k told (chunk_of (value_cut_of k count) j.number)
             (numbered chunk cl ch k count j.number told) OnlyRaises turning (item_value item_turn.scope) m4 bd
             (λ g' env' a head mid kk ss. step (threaded fi gg.top) (alike f) refl g' env' a head mid kk ss)
             (λ w e h. leaves_so j.first j.size start _ w e h)))

@@ -21,7 +21,7 @@ use Rattle.stack_code.specs.Machine.{Stop, Done, Left, Spent, Cut, Astray, left_
 use Rattle.ada_lower.specs.Driven
 use Rattle.ada_lower.specs.Driven.{Dyn, Fixed, Path, Final, Step, On, Off, Forks, Forked, off, on, at, path, state_of, goes, fork, at_site, answering, answer_of, with_answer, fork_end, fork_ended, with_dyn, sizes_for, gathered, thrown, At, driven, Finally, Comes, Fine, IsFine}
 use Rattle.ada_lower.specs.Fits.{Ghost, Fit, Ends, left_by, Lands, Asks, Knows}
-use Rattle.ada_lower.specs.Forks.{machine_leave, Reaches}
+use Rattle.ada_lower.proofs.Forks.{machine_leave, Reaches}
 use Rattle.ada_lower.proofs.Framework.{any, To, itself, comes_here, comes_as, comes_fails, comes_thrown, leads_on}
 use Rattle.ada_lower.proofs.ForkFuel.{comes_fork}
 use Rattle.ada_lower.proofs.ForkThreads.{AllDo, reaches_by}

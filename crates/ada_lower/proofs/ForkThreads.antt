@@ -13,7 +13,7 @@ use Rattle.stack_code.specs.declared.path.Gave.TheVariants as gave
 use Rattle.stack_code.specs.Machine.{Stop, Done, Left, Spent, Cut}
 use Rattle.ada_lower.specs.Driven.{Dyn, Fixed, Path, Final, Step, On, Forked, off, on, at, Finally, goes, thread_at, thread_went, in_order, cut_to, with_turns, gathered}
 use Rattle.ada_lower.specs.Fits.{Ghost, Fit, left_by, Land, Lands, Asks}
-use Rattle.ada_lower.specs.Forks.{threaded, thread_ends, machine_leave, framed, done_so, ThreadDoes, Reach, Reaches}
+use Rattle.ada_lower.proofs.Forks.{threaded, thread_ends, machine_leave, framed, done_so, ThreadDoes, Reach, Reaches}
 use Rattle.ada_lower.proofs.Framework.{asks_split}
 use Rattle.ada_lower.proofs.Memory.{right_same}
 use Rattle.ada_lower.proofs.ForkFuel.{goes_by, off_ends}

@@ -19,7 +19,7 @@ use Rattle.ada_lower.specs.Emission.{exiting, filtered}
 use Rattle.ada_lower.specs.Fits.{Ghost, Ends, Knows}
 use Rattle.ada_lower.specs.FittedForks.{FittedChunk}
 use Rattle.ada_lower.specs.Fitted.{Fitted}
-use Rattle.ada_lower.specs.Forks.{threaded, thread_ends}
+use Rattle.ada_lower.proofs.Forks.{threaded, thread_ends}
 use Rattle.ada_lower.specs.Emission.{loop_kind, parallel_for}
 use Rattle.ada_lower.proofs.Inner.{InnerDo}
 use Rattle.ada_lower.proofs.Framework.{To}

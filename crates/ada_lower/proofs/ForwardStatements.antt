@@ -5,6 +5,8 @@ use Rattle.ada_meaning.proofs.Cells.{some_same}
 use Rattle.ada_base.specs.declared.reason.Reason.{Reason}
 use Rattle.typed_tree.specs.declared.scalars.Class.{Class}
 use Rattle.typed_tree.specs.declared.scalars.Class.TheVariants as class
+use Rattle.ada_base.specs.declared.operation.Base.TheVariants.{Narrow, Wide, Modulo}
+use Rattle.lower_emission.proofs.Fused.{of_set}
 use Rattle.typed_tree.specs.declared.scalars.Scalar.{Scalar}
 use Rattle.typed_tree.specs.declared.statements.Span.{Span}
 use Rattle.typed_tree.specs.declared.program.Field.{Field}
@@ -28,7 +30,7 @@ use Rattle.lower_emission.specs.Programs.{has_fork, idle_fork, idle_forks, whole
 use Rattle.ada_lower.specs.ProgramCode.{IsCodeOf}
 use Rattle.ada_lower.proofs.Forward.{Also, Fore}
 use Rattle.ada_lower.proofs.ForwardCode.{Nowhere, forward_code}
-use Rattle.ada_lower.proofs.ForwardValues.{Known, known_more, known_nothing, known_exit, known_chunk, fore_load_of, fore_address_of, fore_address, fore_cond, fore_doubled, fore_ends, begins, ForeTurns, fore_emit, fore_selected, fore_passed, fore_into, fore_composed, fore_iterated, fore_chunk, fore_course, fore_threaded}
+use Rattle.ada_lower.proofs.ForwardValues.{fore_checked, Known, known_more, known_nothing, known_exit, known_chunk, fore_load_of, fore_address_of, fore_address, fore_cond, fore_doubled, fore_ends, begins, ForeTurns, fore_emit, fore_selected, fore_passed, fore_into, fore_composed, fore_iterated, fore_chunk, fore_course, fore_threaded}
 
 module _ (l t : ℕ → Type 0) (s : Scope) (k : Known l s) where
   fore_store : (h : ℕ) (level : Level) (n : ℕ) → Fore l t (one s h (store_at level n))
@@ -68,7 +70,9 @@ module _ (l t : ℕ → Type 0) (s : Scope) (k : Known l s) where
 
   fore_image : (h : ℕ) (class : Class) → Fore l t (one s h (image_instr class))
   fore_image h class.Boolean = ((λ n z. absurd z), k.0)
-  fore_image h (class.Integer base) = ((λ n z. absurd z), k.0)
+  fore_image h (class.Integer Narrow) = ((λ n z. absurd z), k.0)
+  fore_image h (class.Integer Wide) = ((λ n z. absurd z), k.0)
+  fore_image h (class.Integer (Modulo d)) = ((λ n z. absurd z), k.0)
   fore_image h class.Universal = ((λ n z. absurd z), k.0)
 
   fore_send : (h : ℕ) (feed : Bool) → Fore l t (one s h (send_instr feed))
@@ -119,14 +123,14 @@ module _ (l t : ℕ → Type 0) (s : Scope) (k : Known l s) where
   )
 
   fore_store_checked : (x : Scalar) (level : Level) (n : ℕ) → Fore l t (store_checked s x level n)
-  fore_store_checked x Own n = ((λ n z. absurd z), k.0)
-  fore_store_checked x level n = (((λ n z. absurd z), k.0), fore_store 1 level n)
+  fore_store_checked x Own n = of_set (λ j. Fore l t (one s 1 j)) x n ((λ n z. absurd z), k.0) ((λ n z. absurd z), k.0)
+  fore_store_checked x level n = (fore_checked l t s k 1 x, fore_store 1 level n)
 
   fore_assigned : (o : Option Named) (whole : Bool) (x : Scalar) (moved : Emit) (value : Scope → ℕ → Emit) → Fore l t moved → ((u : Scope) (h : ℕ) → Known l u → Fore l t (value u h)) → Fore l t (assigned s o whole x moved value)
   fore_assigned None whole x moved value f g = ((λ n z. absurd z), k.0)
   fore_assigned (Some n) whole x moved value f g = fore_cond l t s k (whole && not n.through) _ _
       (g (with_target n s) 0 k, fore_store_checked x n.place.level n.place.cell)
-      (fore_address_of l t s k 0 n, (f, (((λ n z. absurd z), k.0), (((λ n z. absurd z), k.0), (g (with_target (record { through = true; place = own s.free; cells = 1 }) (taking 1 s)) 1 k, (((λ n z. absurd z), k.0), ((λ n z. absurd z), k.0)))))))
+      (fore_address_of l t s k 0 n, (f, (((λ n z. absurd z), k.0), (((λ n z. absurd z), k.0), (g (with_target (record { through = true; place = own s.free; cells = 1 }) (taking 1 s)) 1 k, (fore_checked l t s k (1 + 1) x, ((λ n z. absurd z), k.0)))))))
 
 module _ (program : Program) where
   fore_in_share : (l t : ℕ → Type 0) (s : Scope) (n : ℕ) → Known l s → Fore l t (in_share program s n)
@@ -158,8 +162,8 @@ module _ (program : Program) where
   unfolding Rattle.ada_lower.specs.Emission.back_code
   fore_back l t s sub w NoActual k = tt
   fore_back l t s sub w (In formal value rest) k = fore_back l t s sub w rest k
-  fore_back l t s sub w (InOut formal at r selections inner outer rest) k = ((((λ n z. absurd z), k.0), (((λ n z. absurd z), k.0), (((λ n z. absurd z), k.0), ((λ n z. absurd z), k.0)))), fore_back l t s sub w rest k)
-  fore_back l t s sub w (Out formal at r selections inner outer rest) k = ((((λ n z. absurd z), k.0), (((λ n z. absurd z), k.0), (((λ n z. absurd z), k.0), ((λ n z. absurd z), k.0)))), fore_back l t s sub w rest k)
+  fore_back l t s sub w (InOut formal at r selections inner outer rest) k = ((((λ n z. absurd z), k.0), (((λ n z. absurd z), k.0), (fore_checked l t s k 2 outer, ((λ n z. absurd z), k.0)))), fore_back l t s sub w rest k)
+  fore_back l t s sub w (Out formal at r selections inner outer rest) k = ((((λ n z. absurd z), k.0), (((λ n z. absurd z), k.0), (fore_checked l t s k 2 outer, ((λ n z. absurd z), k.0)))), fore_back l t s sub w rest k)
   fore_back l t s sub w (CompositeInOut formal at r selections subtype rest) k = (fore_back_cells l t s _ subtype k, fore_back l t s sub w rest k)
   fore_back l t s sub w (CompositeOut formal at r selections subtype rest) k = (fore_back_cells l t s _ subtype k, fore_back l t s sub w rest k)
 
@@ -202,7 +206,7 @@ module _ (program : Program) where
     fore_stmt l t s (Exit loop Absent) k = fore_exiting l t s k loop (s.exits loop) refl
     fore_stmt l t s (Exit loop (Present e)) k = (fore_emit program l t s 0 e k, (k.0, fore_exiting l t s k loop (s.exits loop) refl))
     fore_stmt l t s Return k = fore_returning l t s k 0 s.leaving
-    fore_stmt l t s (ReturnValue (Number check e)) k = (fore_emit program l t s 0 e k, (((λ n z. absurd z), k.0), fore_returning_value l t s k s.leaving))
+    fore_stmt l t s (ReturnValue (Number check e)) k = (fore_emit program l t s 0 e k, (fore_checked l t s k 1 check.scalar, fore_returning_value l t s k s.leaving))
     fore_stmt l t s (ReturnValue (Cells c)) k = ((λ n z. absurd z), k.0)
     fore_stmt l t s (Raise r) k = ((λ n z. absurd z), k.0)
     fore_stmt l t s Reraise k = fore_handled_target l t s k s.handled
@@ -241,7 +245,7 @@ module _ (program : Program) where
           ),
         ))
     fore_stmt l t s (Put at callee pieces line) k = (fore_piece_values l t s pieces k, (fore_texts l t s k s.free pieces, fore_send l t s k 0 line))
-    fore_stmt l t s (Get at callee first r selections scalar) k = (fore_address l t s k 0 (root_of s r), (fore_selected program l t s 1 selections k, (((λ n z. absurd z), k.0), (((λ n z. absurd z), k.0), ((λ n z. absurd z), k.0)))))
+    fore_stmt l t s (Get at callee first r selections scalar) k = (fore_address l t s k 0 (root_of s r), (fore_selected program l t s 1 selections k, (((λ n z. absurd z), k.0), (fore_checked l t s k 2 scalar, ((λ n z. absurd z), k.0)))))
 
     pub fore_all : (l t : ℕ → Type 0) (s : Scope) (x : Stmts) → Known l s → Fore l t (all program s x)
     fore_all l t s End k = tt

@@ -1,10 +1,11 @@
 -- The code of expressions, values, aggregates, actual parameters and iterations is put together forward.
-use Rattle.std.proofs.Common.{◌≡◌, ℕ, zero, suc, ◌+◌, ◌-◌, min, ℤ, ◌&&◌, List, [], ◌∷◌, nat_eq, nat_lt, Option, Some, None, Bool, true, false, cond, refl, sym, ◌∙◌, inl, inr}
+use Rattle.std.proofs.Common.{◌≡◌, ℕ, zero, suc, ◌+◌, ◌-◌, min, max, ℤ, ◌&&◌, List, [], ◌∷◌, nat_eq, nat_lt, Option, Some, None, Bool, true, false, cond, refl, sym, ◌∙◌, inl, inr}
 use Rattle.std.proofs.lemmas.Option.{none-some}
 use Rattle.ada_meaning.proofs.Cells.{some_same}
 use Rattle.ada_base.specs.declared.operation.Op.{Op}
 use Rattle.ada_base.specs.declared.operation.Op.TheVariants as op
 use Rattle.typed_tree.specs.declared.scalars.Class.{Class}
+use Rattle.ada_meaning.specs.Values.{is_modular}
 use Rattle.ada_base.specs.declared.operation.Comparison.{Comparison}
 use Rattle.ada_base.specs.declared.operation.Comparison.TheVariants as comparison
 use Rattle.typed_tree.specs.declared.scalars.Check.{Check}
@@ -18,11 +19,11 @@ use Rattle.typed_tree.specs.Syntax.{Expr, Static, Variable, Constant, Parameter,
 use Rattle.stack_code.specs.declared.instr.Instr.TheVariants as i
 use Rattle.stack_code.specs.Operands.{flow_of}
 use Rattle.stack_code.specs.Stands.{IsTarget}
-use Rattle.lower_emission.specs.Emits.{Emit}
-use Rattle.lower_emission.specs.Scope.{Scope, own, taking, with_exit, with_parameter, with_item, nested, thread_scope, load_at, address_at, load_of, address_of, none, one, ◌⨟◌, root_of, constant_root_of}
+use Rattle.lower_emission.specs.Emits.{Emit, One}
+use Rattle.lower_emission.specs.Scope.{Scope, mark_of, keep_checked, own, taking, with_exit, with_parameter, with_item, nested, thread_scope, load_at, address_at, load_of, address_of, none, one, ◌⨟◌, root_of, constant_root_of}
 use Rattle.ada_lower.specs.Sights.{Level, Own, Around, Main, Where, Named}
 use Rattle.ada_lower.specs.Emission.{emit, named_value, read, selected, passed, put_into, composed, associated, component, filtered, iterated, chunk_code, course_code, threaded, lost, checked, load_by, load, load_named, load_where, address, is_whole, unary_instr, binary_instr, static_instr, operated_by, compare_instr, falsity, truth, within, negated_code, leaving_by, first_parameter, range_scope, item_scope, counting, bounds_code, ascending, stepping, folding, ranged, combined, doubled, filling, fillings, is_plain, is_repeated, iterated_scope, turning, turnings, entering, entering_next, run_steps, run_turnings, turn_height, components_of, locating, locating_in, repeating, width, composite_width, array_root_of, chunk_scope, raise_above, raise_beyond, ends_code, fork_code, turns_code, items_code, turn_range, turn_component, cells_of, formal_of, passing, own_cell, indexed_by, item_by, main_named, component_address, component_value}
-use Rattle.lower_emission.proofs.Fused.{of_operated, of_component_address, of_component_value}
+use Rattle.lower_emission.proofs.Fused.{of_either, of_check, of_set, of_not, of_operated, of_component_address, of_component_value}
 use Rattle.ada_lower.proofs.Forward.{BeginsTurn, Also, Fore}
 
 -- the handler and the exits that are known where code is emitted are landmarks
@@ -72,7 +73,7 @@ module _ (l t : ℕ → Type 0) (s : Scope) (k : Known l s) where
   fore_unary : (h : ℕ) (g : Sign) (class : Class) → Fore l t (one s h (unary_instr g class))
   fore_unary h sign.Minus class = ((λ n z. absurd z), k.0)
   fore_unary h sign.Abs class = ((λ n z. absurd z), k.0)
-  fore_unary h sign.Not class = ((λ n z. absurd z), k.0)
+  fore_unary h sign.Not class = of_not (λ j. Fore l t (one s h j)) class ((λ n z. absurd z), k.0) (λ n d. ((λ n z. absurd z), k.0))
 
   pub fore_binary : (h : ℕ) (o : Op) (class : Class) → Fore l t (one s h (binary_instr o class))
   fore_binary h op.Add class = ((λ n z. absurd z), k.0)
@@ -82,23 +83,29 @@ module _ (l t : ℕ → Type 0) (s : Scope) (k : Known l s) where
   fore_binary h op.Mod class = ((λ n z. absurd z), k.0)
   fore_binary h op.Rem class = ((λ n z. absurd z), k.0)
   fore_binary h op.Pow class = ((λ n z. absurd z), k.0)
-  fore_binary h op.And class = ((λ n z. absurd z), k.0)
-  fore_binary h op.Or class = ((λ n z. absurd z), k.0)
-  fore_binary h op.Xor class = ((λ n z. absurd z), k.0)
-  fore_binary h op.Max class = ((λ n z. absurd z), k.0)
-  fore_binary h op.Min class = ((λ n z. absurd z), k.0)
+  fore_binary h op.And class = of_either (λ j. Fore l t (one s h j)) (is_modular class) _ _ ((λ n z. absurd z), k.0) ((λ n z. absurd z), k.0)
+  fore_binary h op.Or class = of_either (λ j. Fore l t (one s h j)) (is_modular class) _ _ ((λ n z. absurd z), k.0) ((λ n z. absurd z), k.0)
+  fore_binary h op.Xor class = of_either (λ j. Fore l t (one s h j)) (is_modular class) _ _ ((λ n z. absurd z), k.0) ((λ n z. absurd z), k.0)
+  fore_binary h op.Max class = of_either (λ j. Fore l t (one s h j)) (is_modular class) _ _ ((λ n z. absurd z), k.0) ((λ n z. absurd z), k.0)
+  fore_binary h op.Min class = of_either (λ j. Fore l t (one s h j)) (is_modular class) _ _ ((λ n z. absurd z), k.0) ((λ n z. absurd z), k.0)
 
   pub fore_operated : (h : ℕ) (o : Op) (class : Class) (f : Expr) (right : Emit) → Fore l t right → Fore l t (operated_by s h (static_instr o class f) (binary_instr o class) right)
   fore_operated h o class f right m =
       of_operated (λ a. Fore l t a) s h o class f (binary_instr o class) right (λ v. ((λ n z. absurd z), k.0)) (λ v. ((λ n z. absurd z), k.0)) (λ v. ((λ n z. absurd z), k.0)) (λ v. ((λ n z. absurd z), k.0)) (m, fore_binary (h + 1) o class)
 
-  fore_compare : (h : ℕ) (c : Comparison) → Fore l t (one s h (compare_instr c))
-  fore_compare h comparison.Equal = ((λ n z. absurd z), k.0)
-  fore_compare h comparison.Unequal = ((λ n z. absurd z), k.0)
-  fore_compare h comparison.Less = ((λ n z. absurd z), k.0)
-  fore_compare h comparison.AtMost = ((λ n z. absurd z), k.0)
-  fore_compare h comparison.Greater = ((λ n z. absurd z), k.0)
-  fore_compare h comparison.AtLeast = ((λ n z. absurd z), k.0)
+  fore_compare : (h : ℕ) (c : Comparison) (class : Class) → Fore l t (one s h (compare_instr c class))
+  fore_compare h comparison.Equal class = ((λ n z. absurd z), k.0)
+  fore_compare h comparison.Unequal class = ((λ n z. absurd z), k.0)
+  fore_compare h comparison.Less class = of_either (λ j. Fore l t (one s h j)) (is_modular class) _ _ ((λ n z. absurd z), k.0) ((λ n z. absurd z), k.0)
+  fore_compare h comparison.AtMost class = of_either (λ j. Fore l t (one s h j)) (is_modular class) _ _ ((λ n z. absurd z), k.0) ((λ n z. absurd z), k.0)
+  fore_compare h comparison.Greater class = of_either (λ j. Fore l t (one s h j)) (is_modular class) _ _ ((λ n z. absurd z), k.0) ((λ n z. absurd z), k.0)
+  fore_compare h comparison.AtLeast class = of_either (λ j. Fore l t (one s h j)) (is_modular class) _ _ ((λ n z. absurd z), k.0) ((λ n z. absurd z), k.0)
+
+  pub fore_checked : (h : ℕ) (x : Scalar) → Fore l t (checked s h x)
+  fore_checked h x = of_check (λ j. Fore l t (one s h j)) x ((λ n z. absurd z), k.0) ((λ n z. absurd z), k.0)
+
+  pub fore_keep_checked : (h n : ℕ) (x : Scalar) → Fore l t (keep_checked s h x n)
+  fore_keep_checked h n x = of_set (λ j. Fore l t (One (mark_of (max s.free (n + 1)) s) h j)) x n ((λ n z. absurd z), k.0) ((λ n z. absurd z), k.0)
 
   -- ---- parts without parts of the program
 
@@ -138,8 +145,8 @@ module _ (l t : ℕ → Type 0) (s : Scope) (k : Known l s) where
   fore_component_value h o first own low high stride index f =
       of_component_value (λ a. Fore l t a) s h o first own low high stride index (λ g j e e'. ((λ n z. absurd z), k.0)) (fore_address h o, fore_item (h + 1) own low high stride index f)
 
-  fore_within : (h d : ℕ) → Fore l t (within s h d)
-  fore_within h d = (((λ n z. absurd z), k.0), (((λ n z. absurd z), k.0), (((λ n z. absurd z), k.0), (((λ n z. absurd z), k.0), (((λ n z. absurd z), k.0), ((λ n z. absurd z), k.0))))))
+  fore_within : (h : ℕ) (class : Class) (d : ℕ) → Fore l t (within s h class d)
+  fore_within h class d = (((λ n z. absurd z), k.0), (fore_compare (h + 1 + 1) comparison.AtLeast class, (((λ n z. absurd z), k.0), (((λ n z. absurd z), k.0), (fore_compare (h + 1 + 1 + 1) comparison.AtMost class, ((λ n z. absurd z), k.0))))))
 
   fore_negated : (h : ℕ) (b : Bool) → Fore l t (negated_code s h b)
   fore_negated h true = ((λ n z. absurd z), k.0)
@@ -147,17 +154,17 @@ module _ (l t : ℕ → Type 0) (s : Scope) (k : Known l s) where
 
   pub fore_bounds : (h d : ℕ) (check : Option Check) → Fore l t (bounds_code s h d check)
   fore_bounds h d None = tt
-  fore_bounds h d (Some c) = (((λ n z. absurd z), k.0), (((λ n z. absurd z), k.0), (((λ n z. absurd z), k.0), (((λ n z. absurd z), k.0), (((λ n z. absurd z), k.0), ((λ n z. absurd z), k.0))))))
+  fore_bounds h d (Some c) = (((λ n z. absurd z), k.0), (fore_checked (h + 1) c.scalar, (((λ n z. absurd z), k.0), (((λ n z. absurd z), k.0), (fore_checked (h + 1) c.scalar, ((λ n z. absurd z), k.0))))))
 
   pub fore_ascending : (h d : ℕ) → Fore l t (ascending s h d)
   fore_ascending h d = (((λ n z. absurd z), k.0), (((λ n z. absurd z), k.0), ((λ n z. absurd z), k.0)))
 
   pub fore_folding : (h : ℕ) (by : Reducer) → Fore l t (folding s h by)
   fore_folding h (Operator at o class) = fore_binary (h + 1 + 1) o class
-  fore_folding h (Function at sub accumulator value) = (((λ n z. absurd z), k.0), (((λ n z. absurd z), k.0), (((λ n z. absurd z), k.0), (((λ n z. absurd z), k.0), (((λ n z. absurd z), k.0), ((λ n z. absurd z), k.0))))))
+  fore_folding h (Function at sub accumulator value) = (((λ n z. absurd z), k.0), (fore_keep_checked (h + 1) s.free accumulator, (((λ n z. absurd z), k.0), (fore_checked (h + 1) value, (((λ n z. absurd z), k.0), ((λ n z. absurd z), k.0))))))
 
   fore_ranged : (h n : ℕ) (subtype : Scalar) → Fore l t (ranged s h n subtype)
-  fore_ranged h n subtype = (((λ n z. absurd z), k.0), (((λ n z. absurd z), k.0), (((λ n z. absurd z), k.0), (((λ n z. absurd z), k.0), (((λ n z. absurd z), k.0), (((λ n z. absurd z), k.0), ((λ n z. absurd z), k.0)))))))
+  fore_ranged h n subtype = (((λ n z. absurd z), k.0), (((λ n z. absurd z), k.0), (fore_compare (h + 1 + 1) comparison.AtLeast subtype.class, (((λ n z. absurd z), k.0), (((λ n z. absurd z), k.0), (fore_compare (h + 1 + 1 + 1) comparison.AtMost subtype.class, ((λ n z. absurd z), k.0)))))))
 
   fore_combined : (h : ℕ) (by : Reducer) → Fore l t (combined s h by)
   fore_combined h (Operator at o class) = tt
@@ -288,12 +295,12 @@ module _ (program : Program) where
     fore_emit l t s h (Binary at o class e f) k = (fore_emit l t s h e k, fore_operated l t s k (h + 1) o class f (emit program s (h + 1) f) (fore_emit l t s (h + 1) f k))
     fore_emit l t s h (AndThen e f) k = (fore_emit l t s h e k, (k.0, (fore_emit l t s h f k, ((λ n z. absurd z), k.0))))
     fore_emit l t s h (OrElse e f) k = (fore_emit l t s h e k, (k.0, (((λ n z. absurd z), k.0), fore_emit l t s h f k)))
-    fore_emit l t s h (Relation class c e f) k = (fore_emit l t s h e k, (fore_emit l t s (h + 1) f k, fore_compare l t s k (h + 1 + 1) c))
+    fore_emit l t s h (Relation class c e f) k = (fore_emit l t s h e k, (fore_emit l t s (h + 1) f k, fore_compare l t s k (h + 1 + 1) c class))
     fore_emit l t s h (Membership class negated e low high) k =
-        (fore_emit l t s h e k, (((λ n z. absurd z), k.0), (fore_emit l t (taking 1 s) h low k, (((λ n z. absurd z), k.0), (fore_emit l t (taking 2 s) h high k, (fore_within l t s k h s.free, fore_negated l t s k h negated))))))
+        (fore_emit l t s h e k, (((λ n z. absurd z), k.0), (fore_emit l t (taking 1 s) h low k, (((λ n z. absurd z), k.0), (fore_emit l t (taking 2 s) h high k, (fore_within l t s k h class s.free, fore_negated l t s k h negated))))))
     fore_emit l t s h (If condition value otherwise) k = (fore_emit l t s h condition k, (k.0, (fore_emit l t s h value k, fore_emit l t s h otherwise k)))
     fore_emit l t s h (Call at callee sub actuals) k = (fore_passed l t (passing program sub s) h sub s.free actuals k, ((λ n z. absurd z), k.0))
-    fore_emit l t s h (Convert check e) k = (fore_emit l t s h e k, ((λ n z. absurd z), k.0))
+    fore_emit l t s h (Convert check e) k = (fore_emit l t s h e k, fore_checked l t s k (h + 1) check.scalar)
     fore_emit l t s h (Reduction at attribute by initial None chunk iteration value) k = (
       fore_emit l t s h initial k,
       fore_iterated l t s (h + 1) None iteration (λ u. emit program u (h + 1) value ⨟ folding u h by) k (λ l' u up k'. (fore_emit l' t u (h + 1) value k', fore_folding l' t u k' h by)),
@@ -365,7 +372,7 @@ module _ (program : Program) where
     fore_passed l t s h sub w NoActual k = tt
     fore_passed l t s h sub w (In formal value rest) k = (fore_into l t s h _ value k, fore_passed l t s h sub w rest k)
     fore_passed l t s h sub w (InOut formal at r selections inner outer rest) k =
-        ((fore_address l t s k h (root_of s r), (fore_selected l t s (h + 1) selections k, (((λ n z. absurd z), k.0), (((λ n z. absurd z), k.0), (((λ n z. absurd z), k.0), ((λ n z. absurd z), k.0)))))), fore_passed l t s h sub w rest k)
+        ((fore_address l t s k h (root_of s r), (fore_selected l t s (h + 1) selections k, (((λ n z. absurd z), k.0), (((λ n z. absurd z), k.0), (((λ n z. absurd z), k.0), fore_keep_checked l t s k (h + 1) _ inner))))), fore_passed l t s h sub w rest k)
     fore_passed l t s h sub w (Out formal at r selections inner outer rest) k =
         ((fore_address l t s k h (root_of s r), (fore_selected l t s (h + 1) selections k, (((λ n z. absurd z), k.0), (((λ n z. absurd z), k.0), ((λ n z. absurd z), k.0))))), fore_passed l t s h sub w rest k)
     fore_passed l t s h sub w (CompositeInOut formal at r selections subtype rest) k =
@@ -374,7 +381,7 @@ module _ (program : Program) where
         ((((λ n z. absurd z), k.0), (fore_address l t s k (h + 1) (root_of s r), (fore_selected l t s (h + 1 + 1) selections k, (((λ n z. absurd z), k.0), (((λ n z. absurd z), k.0), ((λ n z. absurd z), k.0)))))), fore_passed l t s h sub w rest k)
 
     pub fore_into : (l t : ℕ → Type 0) (s : Scope) (h n : ℕ) (x : Value) → Known l s → Fore l t (put_into program s h n x)
-    fore_into l t s h n (Number check e) k = (fore_emit l t s h e k, ((λ n z. absurd z), k.0))
+    fore_into l t s h n (Number check e) k = (fore_emit l t s h e k, fore_keep_checked l t s k (h + 1) n check.scalar)
     fore_into l t s h n (Cells c) k = fore_composed l t s h n c k
 
     pub fore_composed : (l t : ℕ → Type 0) (s : Scope) (h n : ℕ) (x : Composite) → Known l s → Fore l t (composed program s h n x)
@@ -395,7 +402,7 @@ module _ (program : Program) where
         (fore_turnings l t s k h n x.first _ runs (λ l' up. fore_component l' t (iterated_scope s x.parameter) (turn_height runs h) (s.free + 1 + 1) value ((λ e is. up e (k.0 e is)), (λ j e is. up e (k.1 j e is)))), fore_associated l t s h n rest k)
 
     pub fore_component : (l t : ℕ → Type 0) (s : Scope) (h at : ℕ) (x : Value) → Known l s → Fore l t (component program s h at x)
-    fore_component l t s h at (Number check e) k = (((λ n z. absurd z), k.0), (fore_emit l t s (h + 1) e k, (((λ n z. absurd z), k.0), ((λ n z. absurd z), k.0))))
+    fore_component l t s h at (Number check e) k = (((λ n z. absurd z), k.0), (fore_emit l t s (h + 1) e k, (fore_checked l t s k (h + 1 + 1) check.scalar, ((λ n z. absurd z), k.0))))
     fore_component l t s h at (Cells c) k = (fore_composed l t (taking (composite_width program c) s) h s.free c k, (((λ n z. absurd z), k.0), (((λ n z. absurd z), k.0), ((λ n z. absurd z), k.0))))
 
     pub fore_filtered : (l t : ℕ → Type 0) (s : Scope) (h : ℕ) (filter : Optional) (body : Emit) → Known l s → Fore l t body → Fore l t (filtered program s h filter body)

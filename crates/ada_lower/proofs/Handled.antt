@@ -154,7 +154,7 @@ fitted = ((refl, omega arith, (refl, tt), (omega arith, (λ h. ((omega arith, tt
 -- where the stored run of the program gives a value, the machine ends with its output
 pub comes : (limit : ℕ) (cuts : ℕ → ℕ → List ℕ) (slots : ℕ) (input before : List ℕ) (notes : Schedule) → let r = (Meaning.main (stored.noted_operations limit cuts) limit program).does (stored.noted_outset slots input before notes) in r.end ≡ Ok tt
     → (d : Dyn) × Finally limit code (On (record { state = begun 0 0 [] 0 0 0 None (replicate 8 (Mine (pos 0))); world = (first_dyn notes cuts 8 input before).world })) (record { how = Done None; dyn = d }) × (d.world.output ≡ r.state.output) × (d.turns ≡ r.state.turns)
-comes limit cuts slots input before notes e = let (d, a, b, g, w) = program_gives None limit cuts program code none_there none_main no_threads [] text four_each no_fork slots 8 refl (call_only limit cuts program (λ n sub e. absurd (none-some sub e)) 1000) (λ f fa depth all. record { forked = (λ rs e from to g env x s h st k en w l. absurd w); parallel = (λ t from to g env x s k u w l. absurd w) }) (λ n unit q. absurd (none-some unit q)) 0 29 stands fitted input before notes tt e in (d, a, b, g)
+comes limit cuts slots input before notes e = let (d, a, b, g, w) = program_gives None limit cuts program code none_there none_main no_threads [] text four_each no_fork slots 8 tt refl (call_only limit cuts program (λ n sub e. absurd (none-some sub e)) 1000) (λ f fa depth all. record { forked = (λ rs e from to g env x s h st k en w l. absurd w); parallel = (λ t from to g env x s k u w l. absurd w) }) (λ n unit q. absurd (none-some unit q)) 0 29 stands fitted input before notes tt e in (d, a, b, g)
 
 -- its spots, as they are emitted beside, fit
 abbrev AllFrom : {A : Type 0} → (ℕ → A → Type 0) → ℕ → List A → Type 0

@@ -13,7 +13,7 @@ use Rattle.stack_code.specs.declared.code.CodeSite.{CodeSite}
 use Rattle.stack_code.specs.declared.code.CodeSub.{CodeSub}
 use Rattle.stack_code.specs.declared.instr.Instr.{Instr}
 use Rattle.stack_code.specs.declared.instr.Instr.TheVariants as i
-use Rattle.stack_code.specs.Valid.{Has, HasFrame, Lands, IsEarlier, SiteFits, SubFits, IsValid}
+use Rattle.stack_code.specs.Valid.{FoldFits, Has, HasFrame, Lands, IsEarlier, SiteFits, SubFits, IsValid}
 use Rattle.stack_code.proofs.Standing.{has_one, has_fact}
 use Rattle.stack_code.proofs.Lists.{has_map}
 use Rattle.lower_emission.specs.declared.types.Named.{Named}
@@ -306,6 +306,7 @@ module _ (program : Program) (text : List ℕ → ℕ) (c : Code) (is : IsCodeOf
       record {
         entry = subst (λ n. Lands c (body.Site k) 0 0 n) (sym f.0) (lands_at (body.Site k) 0 0 (q + 1 + 1) ((fit q p at_q).threads k (ap forks fork)));
         cells = f.1;
+        fold = subst FoldFits (sym f.3) (tables.folds q k p at_q fork);
         around = earlier k s e s.around refl (subst (λ b. HasFrame c b (λ cells. Unit {0})) (sym f.2) (is_there p.body p.cells (tables.cells q p at_q)));
         leases = tables.leases k s e;
       }

@@ -18,14 +18,14 @@ use Rattle.typed_tree.specs.declared.expressions.Sign.TheVariants as sign
 use Rattle.typed_tree.specs.declared.expressions.Root.{Root}
 use Rattle.typed_tree.specs.declared.expressions.Root.TheVariants as root
 use Rattle.typed_tree.specs.Syntax.{Expr, Chunk, NoChunk, Count, Each}
-use Rattle.ada_meaning.specs.Values.{base_of}
+use Rattle.ada_meaning.specs.Values.{base_of, is_modular}
 use Rattle.stack_code.specs.declared.code.Around.{Around as Body}
 use Rattle.stack_code.specs.declared.code.Around.TheVariants.{Sub, Site}
 use Rattle.stack_code.specs.declared.code.Code.{Code}
 use Rattle.stack_code.specs.declared.instr.Instr.{Instr}
 use Rattle.stack_code.specs.declared.instr.Instr.TheVariants as i
 use Rattle.stack_code.specs.Operands.{takes, pushes, given_by}
-use Rattle.stack_code.specs.Valid.{Has, outward, around_of}
+use Rattle.stack_code.specs.Valid.{AreDigits, IsRange, Has, outward, around_of}
 use Rattle.stack_code.proofs.Standing.{has_one}
 use Rattle.stack_code.proofs.Lists.{has_map}
 use Rattle.lower_emission.specs.declared.types.Where.{Where}
@@ -33,10 +33,10 @@ use Rattle.lower_emission.specs.declared.types.Named.{Named}
 use Rattle.lower_emission.specs.declared.types.Mark.{Mark}
 use Rattle.lower_emission.specs.declared.types.Level.{Level}
 use Rattle.lower_emission.specs.declared.types.Level.TheVariants.{Own, Around, Main}
-use Rattle.lower_emission.specs.Emits.{Emit}
-use Rattle.lower_emission.specs.Scope.{Scope, own, taking, nested, thread_scope, with_object, with_parameter, with_item, with_target, with_handled, with_exit, with_entry, root_of, constant_root_of, array_root_of, mark, none, one, keep, load_at, address_at, store_at, address_of, outer_level, outer_where, outer_named, moved_where, moved_named, keep_checked}
+use Rattle.lower_emission.specs.Emits.{Emit, One}
+use Rattle.lower_emission.specs.Scope.{Scope, mark_of, own, taking, nested, thread_scope, with_object, with_parameter, with_item, with_target, with_handled, with_exit, with_entry, root_of, constant_root_of, array_root_of, mark, none, one, keep, load_at, address_at, store_at, address_of, outer_level, outer_where, outer_named, moved_where, moved_named, keep_checked}
 use Rattle.lower_emission.specs.Emission.{checked, load_by, load_named, load_where, address, indexed_by, item_by, main_level, main_named, component_address, component_value, unary_instr, binary_instr, static_instr, operated_by, compare_instr, within, negated_code, leaving_by, counting, bounds_code, ascending, stepping, chunk_scope, raise_above, raise_beyond}
-use Rattle.lower_emission.proofs.Fused.{of_operated, of_component_address, of_component_value}
+use Rattle.lower_emission.proofs.Fused.{of_either, of_check, of_set, of_not, base_is_range, of_operated, of_component_address, of_component_value}
 use Rattle.ada_lower.proofs.Heights.{Place, Here, up, Also, In, Kept, Step, Firm}
 
 abbrev pub at : Scope → ℕ → Place
@@ -54,19 +54,19 @@ IsPlain i.Load = Unit {0}
 IsPlain i.Store = Unit {0}
 IsPlain (i.Copy n) = Unit {0}
 IsPlain (i.Fill n v) = Unit {0}
-IsPlain (i.Add b) = Unit {0}
-IsPlain (i.Sub b) = Unit {0}
-IsPlain (i.Mul b) = Unit {0}
-IsPlain (i.Div b) = Unit {0}
-IsPlain (i.AddI v b) = Unit {0}
-IsPlain (i.SubI v b) = Unit {0}
-IsPlain (i.MulI v b) = Unit {0}
-IsPlain (i.ModI v b) = Unit {0}
-IsPlain (i.Mod b) = Unit {0}
-IsPlain (i.Rem b) = Unit {0}
-IsPlain (i.Pow b) = Unit {0}
-IsPlain (i.Neg b) = Unit {0}
-IsPlain (i.Abs b) = Unit {0}
+IsPlain (i.Add b) = IsRange b
+IsPlain (i.Sub b) = IsRange b
+IsPlain (i.Mul b) = IsRange b
+IsPlain (i.Div b) = IsRange b
+IsPlain (i.AddI v b) = IsRange b
+IsPlain (i.SubI v b) = IsRange b
+IsPlain (i.MulI v b) = IsRange b
+IsPlain (i.ModI v b) = IsRange b
+IsPlain (i.Mod b) = IsRange b
+IsPlain (i.Rem b) = IsRange b
+IsPlain (i.Pow b) = IsRange b
+IsPlain (i.Neg b) = IsRange b
+IsPlain (i.Abs b) = IsRange b
 IsPlain i.Max = Unit {0}
 IsPlain i.Min = Unit {0}
 IsPlain i.Eq = Unit {0}
@@ -79,6 +79,18 @@ IsPlain (i.Far n) = Unit {0}
 IsPlain i.Flip = Unit {0}
 IsPlain i.Differ = Unit {0}
 IsPlain (i.Range low high) = Unit {0}
+IsPlain i.And = Unit {0}
+IsPlain i.Or = Unit {0}
+IsPlain i.Xor = Unit {0}
+IsPlain (i.BNot n) = AreDigits n
+IsPlain i.ULt = Unit {0}
+IsPlain i.ULe = Unit {0}
+IsPlain i.UGt = Unit {0}
+IsPlain i.UGe = Unit {0}
+IsPlain i.UMax = Unit {0}
+IsPlain i.UMin = Unit {0}
+IsPlain (i.URange low high) = Unit {0}
+IsPlain i.UImg = Unit {0}
 IsPlain i.Turn = Unit {0}
 IsPlain i.Part = Unit {0}
 IsPlain i.Img = Unit {0}
@@ -241,19 +253,19 @@ module _ (c : Code) where
     plain_step m mk base i.Store w = record { here = refl; marked = mk; base = base; operands = refl; begun = omega arith; ways = refl; belongs = λ q. tt }
     plain_step m mk base (i.Copy n) w = record { here = refl; marked = mk; base = base; operands = refl; begun = omega arith; ways = refl; belongs = λ q. tt }
     plain_step m mk base (i.Fill n v) w = record { here = refl; marked = mk; base = base; operands = refl; begun = omega arith; ways = refl; belongs = λ q. tt }
-    plain_step m mk base (i.Add b) w = record { here = refl; marked = mk; base = base; operands = refl; begun = omega arith; ways = refl; belongs = λ q. tt }
-    plain_step m mk base (i.Sub b) w = record { here = refl; marked = mk; base = base; operands = refl; begun = omega arith; ways = refl; belongs = λ q. tt }
-    plain_step m mk base (i.Mul b) w = record { here = refl; marked = mk; base = base; operands = refl; begun = omega arith; ways = refl; belongs = λ q. tt }
-    plain_step m mk base (i.AddI v b) w = record { here = refl; marked = mk; base = base; operands = refl; begun = omega arith; ways = refl; belongs = λ q. tt }
-    plain_step m mk base (i.SubI v b) w = record { here = refl; marked = mk; base = base; operands = refl; begun = omega arith; ways = refl; belongs = λ q. tt }
-    plain_step m mk base (i.MulI v b) w = record { here = refl; marked = mk; base = base; operands = refl; begun = omega arith; ways = refl; belongs = λ q. tt }
-    plain_step m mk base (i.ModI v b) w = record { here = refl; marked = mk; base = base; operands = refl; begun = omega arith; ways = refl; belongs = λ q. tt }
-    plain_step m mk base (i.Div b) w = record { here = refl; marked = mk; base = base; operands = refl; begun = omega arith; ways = refl; belongs = λ q. tt }
-    plain_step m mk base (i.Mod b) w = record { here = refl; marked = mk; base = base; operands = refl; begun = omega arith; ways = refl; belongs = λ q. tt }
-    plain_step m mk base (i.Rem b) w = record { here = refl; marked = mk; base = base; operands = refl; begun = omega arith; ways = refl; belongs = λ q. tt }
-    plain_step m mk base (i.Pow b) w = record { here = refl; marked = mk; base = base; operands = refl; begun = omega arith; ways = refl; belongs = λ q. tt }
-    plain_step m mk base (i.Neg b) w = record { here = refl; marked = mk; base = base; operands = refl; begun = omega arith; ways = refl; belongs = λ q. tt }
-    plain_step m mk base (i.Abs b) w = record { here = refl; marked = mk; base = base; operands = refl; begun = omega arith; ways = refl; belongs = λ q. tt }
+    plain_step m mk base (i.Add b) w = record { here = refl; marked = mk; base = base; operands = refl; begun = omega arith; ways = refl; belongs = λ q. w }
+    plain_step m mk base (i.Sub b) w = record { here = refl; marked = mk; base = base; operands = refl; begun = omega arith; ways = refl; belongs = λ q. w }
+    plain_step m mk base (i.Mul b) w = record { here = refl; marked = mk; base = base; operands = refl; begun = omega arith; ways = refl; belongs = λ q. w }
+    plain_step m mk base (i.AddI v b) w = record { here = refl; marked = mk; base = base; operands = refl; begun = omega arith; ways = refl; belongs = λ q. w }
+    plain_step m mk base (i.SubI v b) w = record { here = refl; marked = mk; base = base; operands = refl; begun = omega arith; ways = refl; belongs = λ q. w }
+    plain_step m mk base (i.MulI v b) w = record { here = refl; marked = mk; base = base; operands = refl; begun = omega arith; ways = refl; belongs = λ q. w }
+    plain_step m mk base (i.ModI v b) w = record { here = refl; marked = mk; base = base; operands = refl; begun = omega arith; ways = refl; belongs = λ q. w }
+    plain_step m mk base (i.Div b) w = record { here = refl; marked = mk; base = base; operands = refl; begun = omega arith; ways = refl; belongs = λ q. w }
+    plain_step m mk base (i.Mod b) w = record { here = refl; marked = mk; base = base; operands = refl; begun = omega arith; ways = refl; belongs = λ q. w }
+    plain_step m mk base (i.Rem b) w = record { here = refl; marked = mk; base = base; operands = refl; begun = omega arith; ways = refl; belongs = λ q. w }
+    plain_step m mk base (i.Pow b) w = record { here = refl; marked = mk; base = base; operands = refl; begun = omega arith; ways = refl; belongs = λ q. w }
+    plain_step m mk base (i.Neg b) w = record { here = refl; marked = mk; base = base; operands = refl; begun = omega arith; ways = refl; belongs = λ q. w }
+    plain_step m mk base (i.Abs b) w = record { here = refl; marked = mk; base = base; operands = refl; begun = omega arith; ways = refl; belongs = λ q. w }
     plain_step m mk base i.Max w = record { here = refl; marked = mk; base = base; operands = refl; begun = omega arith; ways = refl; belongs = λ q. tt }
     plain_step m mk base i.Min w = record { here = refl; marked = mk; base = base; operands = refl; begun = omega arith; ways = refl; belongs = λ q. tt }
     plain_step m mk base i.Eq w = record { here = refl; marked = mk; base = base; operands = refl; begun = omega arith; ways = refl; belongs = λ q. tt }
@@ -266,6 +278,18 @@ module _ (c : Code) where
     plain_step m mk base i.Flip w = record { here = refl; marked = mk; base = base; operands = refl; begun = omega arith; ways = refl; belongs = λ q. tt }
     plain_step m mk base i.Differ w = record { here = refl; marked = mk; base = base; operands = refl; begun = omega arith; ways = refl; belongs = λ q. tt }
     plain_step m mk base (i.Range low high) w = record { here = refl; marked = mk; base = base; operands = refl; begun = omega arith; ways = refl; belongs = λ q. tt }
+    plain_step m mk base i.And w = record { here = refl; marked = mk; base = base; operands = refl; begun = omega arith; ways = refl; belongs = λ q. tt }
+    plain_step m mk base i.Or w = record { here = refl; marked = mk; base = base; operands = refl; begun = omega arith; ways = refl; belongs = λ q. tt }
+    plain_step m mk base i.Xor w = record { here = refl; marked = mk; base = base; operands = refl; begun = omega arith; ways = refl; belongs = λ q. tt }
+    plain_step m mk base (i.BNot n) w = record { here = refl; marked = mk; base = base; operands = refl; begun = omega arith; ways = refl; belongs = λ q. w }
+    plain_step m mk base i.ULt w = record { here = refl; marked = mk; base = base; operands = refl; begun = omega arith; ways = refl; belongs = λ q. tt }
+    plain_step m mk base i.ULe w = record { here = refl; marked = mk; base = base; operands = refl; begun = omega arith; ways = refl; belongs = λ q. tt }
+    plain_step m mk base i.UGt w = record { here = refl; marked = mk; base = base; operands = refl; begun = omega arith; ways = refl; belongs = λ q. tt }
+    plain_step m mk base i.UGe w = record { here = refl; marked = mk; base = base; operands = refl; begun = omega arith; ways = refl; belongs = λ q. tt }
+    plain_step m mk base i.UMax w = record { here = refl; marked = mk; base = base; operands = refl; begun = omega arith; ways = refl; belongs = λ q. tt }
+    plain_step m mk base i.UMin w = record { here = refl; marked = mk; base = base; operands = refl; begun = omega arith; ways = refl; belongs = λ q. tt }
+    plain_step m mk base (i.URange low high) w = record { here = refl; marked = mk; base = base; operands = refl; begun = omega arith; ways = refl; belongs = λ q. tt }
+    plain_step m mk base i.UImg w = record { here = refl; marked = mk; base = base; operands = refl; begun = omega arith; ways = refl; belongs = λ q. tt }
     plain_step m mk base i.Turn w = record { here = refl; marked = mk; base = base; operands = refl; begun = omega arith; ways = refl; belongs = λ q. tt }
     plain_step m mk base i.Part w = record { here = refl; marked = mk; base = base; operands = refl; begun = omega arith; ways = refl; belongs = λ q. tt }
     plain_step m mk base i.Img w = record { here = refl; marked = mk; base = base; operands = refl; begun = omega arith; ways = refl; belongs = λ q. tt }
@@ -301,7 +325,9 @@ module _ (c : Code) where
     firm_keep h n r = record { here = refl; marked = k.entry; base = h; operands = refl; begun = omega arith; ways = refl; belongs = λ q. kept_cell n r.0 }
 
     pub firm_keep_checked : (h n : ℕ) (x : Scalar) → Kept c (keep_checked s (h + 1) x n) → Firm c l (keep_checked s (h + 1) x n) (at s (h + 1)) (at s h)
-    firm_keep_checked h n x r = record { here = refl; marked = k.entry; base = h; operands = refl; begun = omega arith; ways = refl; belongs = λ q. kept_cell n r.0 }
+    firm_keep_checked h n x r = of_set (λ j. Firm c l (One (mark_of (max s.free (n + 1)) s) (h + 1) j) (at s (h + 1)) (at s h)) x n
+        (record { here = refl; marked = k.entry; base = h; operands = refl; begun = omega arith; ways = refl; belongs = λ q. kept_cell n r.0 })
+        (record { here = refl; marked = k.entry; base = h; operands = refl; begun = omega arith; ways = refl; belongs = λ q. kept_cell n r.0 })
 
     pub firm_load_at : (h : ℕ) (level : Level) (n : ℕ) → LevelFits s.body s.free level n → In c s.body s.free → Firm c l (one s h (load_at level n)) (at s h) (at s (h + 1))
     firm_load_at h Own n f r = firm_own h n (in_le s.body n s.free f r)
@@ -409,49 +435,49 @@ module _ (c : Code) where
     -- ---- operators
 
     pub firm_unary : (h : ℕ) (g : Sign) (class : Class) → Firm c l (one s (h + 1) (unary_instr g class)) (at s (h + 1)) (at s (h + 1))
-    firm_unary h sign.Minus class = plain h (unary_instr sign.Minus class) tt
-    firm_unary h sign.Abs class = plain h (unary_instr sign.Abs class) tt
-    firm_unary h sign.Not class = plain h (unary_instr sign.Not class) tt
+    firm_unary h sign.Minus class = plain h (unary_instr sign.Minus class) (base_is_range class)
+    firm_unary h sign.Abs class = plain h (unary_instr sign.Abs class) (base_is_range class)
+    firm_unary h sign.Not class = of_not (λ j. Firm c l (one s (h + 1) j) (at s (h + 1)) (at s (h + 1))) class (plain h i.Flip tt) (λ n d. plain h (i.BNot n) d)
 
     pub firm_binary : (h : ℕ) (o : Op) (class : Class) → Firm c l (one s (h + 1 + 1) (binary_instr o class)) (at s (h + 1 + 1)) (at s (h + 1))
-    firm_binary h op.Add class = plain h (binary_instr op.Add class) tt
-    firm_binary h op.Sub class = plain h (binary_instr op.Sub class) tt
-    firm_binary h op.Mul class = plain h (binary_instr op.Mul class) tt
-    firm_binary h op.Div class = plain h (binary_instr op.Div class) tt
-    firm_binary h op.Mod class = plain h (binary_instr op.Mod class) tt
-    firm_binary h op.Rem class = plain h (binary_instr op.Rem class) tt
-    firm_binary h op.Pow class = plain h (binary_instr op.Pow class) tt
-    firm_binary h op.And class = plain h (binary_instr op.And class) tt
-    firm_binary h op.Or class = plain h (binary_instr op.Or class) tt
-    firm_binary h op.Xor class = plain h (binary_instr op.Xor class) tt
-    firm_binary h op.Max class = plain h (binary_instr op.Max class) tt
-    firm_binary h op.Min class = plain h (binary_instr op.Min class) tt
+    firm_binary h op.Add class = plain h (binary_instr op.Add class) (base_is_range class)
+    firm_binary h op.Sub class = plain h (binary_instr op.Sub class) (base_is_range class)
+    firm_binary h op.Mul class = plain h (binary_instr op.Mul class) (base_is_range class)
+    firm_binary h op.Div class = plain h (binary_instr op.Div class) (base_is_range class)
+    firm_binary h op.Mod class = plain h (binary_instr op.Mod class) (base_is_range class)
+    firm_binary h op.Rem class = plain h (binary_instr op.Rem class) (base_is_range class)
+    firm_binary h op.Pow class = plain h (binary_instr op.Pow class) (base_is_range class)
+    firm_binary h op.And class = of_either (λ j. Firm c l (one s (h + 1 + 1) j) (at s (h + 1 + 1)) (at s (h + 1))) (is_modular class) _ _ (plain h i.And tt) (plain h i.Min tt)
+    firm_binary h op.Or class = of_either (λ j. Firm c l (one s (h + 1 + 1) j) (at s (h + 1 + 1)) (at s (h + 1))) (is_modular class) _ _ (plain h i.Or tt) (plain h i.Max tt)
+    firm_binary h op.Xor class = of_either (λ j. Firm c l (one s (h + 1 + 1) j) (at s (h + 1 + 1)) (at s (h + 1))) (is_modular class) _ _ (plain h i.Xor tt) (plain h i.Differ tt)
+    firm_binary h op.Max class = of_either (λ j. Firm c l (one s (h + 1 + 1) j) (at s (h + 1 + 1)) (at s (h + 1))) (is_modular class) _ _ (plain h i.UMax tt) (plain h i.Max tt)
+    firm_binary h op.Min class = of_either (λ j. Firm c l (one s (h + 1 + 1) j) (at s (h + 1 + 1)) (at s (h + 1))) (is_modular class) _ _ (plain h i.UMin tt) (plain h i.Min tt)
 
     pub firm_operated : (h : ℕ) (o : Op) (class : Class) (f : Expr) (right : Emit) → (Kept c right → Firm c l right (at s (h + 1)) (at s (h + 1 + 1)))
         → Kept c (operated_by s (h + 1) (static_instr o class f) (binary_instr o class) right) → Firm c l (operated_by s (h + 1) (static_instr o class f) (binary_instr o class) right) (at s (h + 1)) (at s (h + 1))
     firm_operated h o class f right g =
         of_operated (λ a. Kept c a → Firm c l a (at s (h + 1)) (at s (h + 1))) s (h + 1) o class f (binary_instr o class) right
-        (λ v r. plain h (i.AddI v (base_of class)) tt) (λ v r. plain h (i.SubI v (base_of class)) tt) (λ v r. plain h (i.MulI v (base_of class)) tt) (λ v r. plain h (i.ModI v (base_of class)) tt)
+        (λ v r. plain h (i.AddI v (base_of class)) (base_is_range class)) (λ v r. plain h (i.SubI v (base_of class)) (base_is_range class)) (λ v r. plain h (i.MulI v (base_of class)) (base_is_range class)) (λ v r. plain h (i.ModI v (base_of class)) (base_is_range class))
         (λ r. (at s (h + 1 + 1), g r.0, firm_binary h o class))
 
-    pub firm_compare : (h : ℕ) (r : Comparison) → Firm c l (one s (h + 1 + 1) (compare_instr r)) (at s (h + 1 + 1)) (at s (h + 1))
-    firm_compare h comparison.Equal = plain h i.Eq tt
-    firm_compare h comparison.Unequal = plain h i.Ne tt
-    firm_compare h comparison.Less = plain h i.Lt tt
-    firm_compare h comparison.AtMost = plain h i.Le tt
-    firm_compare h comparison.Greater = plain h i.Gt tt
-    firm_compare h comparison.AtLeast = plain h i.Ge tt
+    pub firm_compare : (h : ℕ) (r : Comparison) (class : Class) → Firm c l (one s (h + 1 + 1) (compare_instr r class)) (at s (h + 1 + 1)) (at s (h + 1))
+    firm_compare h comparison.Equal class = plain h i.Eq tt
+    firm_compare h comparison.Unequal class = plain h i.Ne tt
+    firm_compare h comparison.Less class = of_either (λ j. Firm c l (one s (h + 1 + 1) j) (at s (h + 1 + 1)) (at s (h + 1))) (is_modular class) _ _ (plain h i.ULt tt) (plain h i.Lt tt)
+    firm_compare h comparison.AtMost class = of_either (λ j. Firm c l (one s (h + 1 + 1) j) (at s (h + 1 + 1)) (at s (h + 1))) (is_modular class) _ _ (plain h i.ULe tt) (plain h i.Le tt)
+    firm_compare h comparison.Greater class = of_either (λ j. Firm c l (one s (h + 1 + 1) j) (at s (h + 1 + 1)) (at s (h + 1))) (is_modular class) _ _ (plain h i.UGt tt) (plain h i.Gt tt)
+    firm_compare h comparison.AtLeast class = of_either (λ j. Firm c l (one s (h + 1 + 1) j) (at s (h + 1 + 1)) (at s (h + 1))) (is_modular class) _ _ (plain h i.UGe tt) (plain h i.Ge tt)
 
-    pub firm_within : (h d : ℕ) → In c s.body d → In c s.body (d + 1) → Firm c l (within s h d) (at s (h + 1)) (at s (h + 1))
-    firm_within h d r r' =
-        (at s (h + 1 + 1), firm_own (h + 1) d r, (at s (h + 1), plain h i.Ge tt, (at s (h + 1 + 1), firm_own (h + 1) (d + 1) r', (at s (h + 1 + 1 + 1), firm_own (h + 1 + 1) d r, (at s (h + 1 + 1), plain (h + 1) i.Le tt, plain h i.Min tt)))))
+    pub firm_within : (h : ℕ) (class : Class) (d : ℕ) → In c s.body d → In c s.body (d + 1) → Firm c l (within s h class d) (at s (h + 1)) (at s (h + 1))
+    firm_within h class d r r' =
+        (at s (h + 1 + 1), firm_own (h + 1) d r, (at s (h + 1), firm_compare h comparison.AtLeast class, (at s (h + 1 + 1), firm_own (h + 1) (d + 1) r', (at s (h + 1 + 1 + 1), firm_own (h + 1 + 1) d r, (at s (h + 1 + 1), firm_compare (h + 1) comparison.AtMost class, plain h i.Min tt)))))
 
     pub firm_negated : (h : ℕ) (b : Bool) → Firm c l (negated_code s h b) (at s (h + 1)) (at s (h + 1))
     firm_negated h true = plain h i.Flip tt
     firm_negated h false = refl
 
     pub firm_checked : (h : ℕ) (x : Scalar) → Firm c l (checked s (h + 1) x) (at s (h + 1)) (at s (h + 1))
-    firm_checked h x = plain h (i.Range x.low x.high) tt
+    firm_checked h x = of_check (λ j. Firm c l (one s (h + 1) j) (at s (h + 1)) (at s (h + 1))) x (plain h (i.URange x.low x.high) tt) (plain h (i.Range x.low x.high) tt)
 
     -- ---- turns
 

@@ -9,6 +9,8 @@ use Rattle.ada_meaning.specs.Values.{components, layout_of, layout_within, field
 use Rattle.ada_meaning.specs.Meaning.{object_layout, arms_of}
 use Rattle.typed_tree.specs.declared.scalars.Class.{Class}
 use Rattle.typed_tree.specs.declared.scalars.Class.TheVariants as class
+use Rattle.ada_base.specs.declared.operation.Base.TheVariants.{Narrow, Wide, Modulo}
+use Rattle.lower_emission.proofs.Fused.{of_set}
 use Rattle.typed_tree.specs.declared.scalars.Scalar.{Scalar}
 use Rattle.typed_tree.specs.declared.statements.Span.{Span}
 use Rattle.typed_tree.specs.declared.program.Field.{Field}
@@ -139,7 +141,9 @@ module _ (c : Code) where
 
     firm_image : (class : Class) → Firm c l (one s 1 (image_instr class)) (at s 1) (at s 0)
     firm_image class.Boolean = plain c l s k.names 0 i.Bool tt
-    firm_image (class.Integer base) = plain c l s k.names 0 i.Img tt
+    firm_image (class.Integer Narrow) = plain c l s k.names 0 i.Img tt
+    firm_image (class.Integer Wide) = plain c l s k.names 0 i.Img tt
+    firm_image (class.Integer (Modulo d)) = plain c l s k.names 0 i.UImg tt
     firm_image class.Universal = plain c l s k.names 0 i.Img tt
 
     firm_send : (feed : Bool) → Firm c l (one s 0 (send_instr feed)) (at s 0) (at s 0)
@@ -221,7 +225,7 @@ module _ (c : Code) where
     -- ---- assignments
 
     firm_store_checked : (x : Scalar) (level : Level) (n : ℕ) → LevelFits c s.body s.free level n → Kept c (store_checked s x level n) → Firm c l (store_checked s x level n) (at s 1) (at s 0)
-    firm_store_checked x Own n f r = record { here = refl; marked = k.names.entry; base = 0; operands = refl; begun = omega arith; ways = refl; belongs = λ q. in_le c s.body n s.free f r.0 }
+    firm_store_checked x Own n f r = of_set (λ j. Firm c l (one s 1 j) (at s 1) (at s 0)) x n (record { here = refl; marked = k.names.entry; base = 0; operands = refl; begun = omega arith; ways = refl; belongs = λ q. in_le c s.body n s.free f r.0 }) (record { here = refl; marked = k.names.entry; base = 0; operands = refl; begun = omega arith; ways = refl; belongs = λ q. in_le c s.body n s.free f r.0 })
     firm_store_checked x level n f r = (at s 1, firm_checked c l s k.names 0 x, firm_store_at c l s k.names 0 level n f r.1.0)
 
     firm_assigned : (o : Option Named) (whole : Bool) (x : Scalar) (part : Emit) (value : Scope → ℕ → Emit) → ((n : Named) → o ≡ Some n → Fits c s n) → (Kept c part → Firm c l part (at s 1) (at s 1)) → ((u : Scope) (h : ℕ) → Known c l u → Kept c (value u h) → Firm c l (value u h) (at u h) (at u (h + 1)))

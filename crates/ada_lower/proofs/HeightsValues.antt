@@ -3,12 +3,14 @@ use Rattle.std.proofs.Common.{◌≡◌, ℕ, zero, suc, ◌+◌, ◌-◌, ◌*�
 use Rattle.std.specs.Prelude.{IsSomeAnd}
 use Rattle.std.proofs.lemmas.Bool.{eqb-false}
 use Rattle.behaviours.specs.Paths.{Entity, VariableOf, ConstantOf, entity_eq}
+use Rattle.ada_base.specs.declared.operation.Comparison.TheVariants as comparison
 use Rattle.typed_tree.specs.declared.scalars.Scalar.{Scalar}
 use Rattle.typed_tree.specs.declared.expressions.Run.{Run}
 use Rattle.typed_tree.specs.declared.expressions.Root.{Root}
 use Rattle.typed_tree.specs.declared.expressions.Reducer.{Reducer}
 use Rattle.typed_tree.specs.declared.expressions.Reducer.TheVariants.{Operator, Function}
 use Rattle.typed_tree.specs.Syntax.{Expr, Static, Variable, Constant, Parameter, Target, Group, Unary, Binary, AndThen, OrElse, Relation, Membership, If, Call, Convert, Reduction, Iteration, Range, Components, Chunk, NoChunk, Count, Each, Optional, Absent, Present, Selections, Whole, Field, Index, Actuals, NoActual, In as InMode, InOut, Out, CompositeInOut, CompositeOut, Value, Number, Cells, Composite, WholeVariable, WholeConstant, WholeTarget, CompositeIf, Aggregate, Associations, NoAssociation, Association, Program}
+use Rattle.ada_base.specs.declared.operation.Base.TheVariants.{Wide}
 use Rattle.stack_code.specs.declared.code.Around.{Around as Body}
 use Rattle.stack_code.specs.declared.code.Around.TheVariants.{Site}
 use Rattle.stack_code.specs.declared.code.Code.{Code}
@@ -285,7 +287,7 @@ module _ (c : Code) where
   firm_repeating l s k room h t n size part rs inside runs f r = firm_cond c l s k (nat_eq (components_of rs) 0) none _ (at s h) (at s h) (λ r. refl) repeats r
     where
       round : ℕ → Emit
-      round head = locating_in s h t 0 rs ⨟ part ⨟ one s h (i.LoadL s.free) ⨟ one s (h + 1) (i.Field 1) ⨟ keep s (h + 1) s.free ⨟ one s h (i.Again head)
+      round head = locating_in s h t 0 rs ⨟ part ⨟ one s h (i.LoadL s.free) ⨟ one s (h + 1) (i.AddI (pos 1) Wide) ⨟ keep s (h + 1) s.free ⨟ one s h (i.Again head)
 
       whole : Emit
       whole = one s h (i.Push (pos 0)) ⨟ keep s (h + 1) s.free ⨟ one s h (i.Repeat (components_of rs)) ⨟ from (λ head. round head)
@@ -299,7 +301,7 @@ module _ (c : Code) where
               let k' : Known c l' s = known_more c l s x (at s h) k in (
                 at s h,
                 firm_locating_in l' s k' room h t n size 0 rs inside runs a1,
-                (at s h, f x (kept_next c l s k s.free r2.0) a2, (at s (h + 1), firm_own c l' s k' h s.free room, (at s (h + 1), plain c l' s k' h (i.Field 1) tt, (at s h, firm_keep c l' s k' h s.free a5, record { here = refl; marked = k'.entry; base = h; operands = refl; begun = omega arith; ways = (inr (refl, refl), refl); belongs = λ q. tt })))),
+                (at s h, f x (kept_next c l s k s.free r2.0) a2, (at s (h + 1), firm_own c l' s k' h s.free room, (at s (h + 1), plain c l' s k' h (i.AddI (pos 1) Wide) tt, (at s h, firm_keep c l' s k' h s.free a5, record { here = refl; marked = k'.entry; base = h; operands = refl; begun = omega arith; ways = (inr (refl, refl), refl); belongs = λ q. tt })))),
               )
 
 -- what is done in turns, in a scope that differs in names
@@ -319,7 +321,7 @@ module _ (c : Code) (program : Program) (subs : (sub : ℕ) (gives : Bool) → C
 
   firm_ranged : (l : ℕ → Place → Type 0) (s : Scope) → Known c l s → (h n : ℕ) (subtype : Scalar) → In c s.body n → Firm c l (ranged s h n subtype) (at s h) (at s (h + 1))
   firm_ranged l s k h n subtype r =
-      (at s (h + 1), firm_own c l s k h n r, (at s (h + 1 + 1), plain c l s k (h + 1) (i.Push subtype.low) tt, (at s (h + 1), plain c l s k h i.Ge tt, (at s (h + 1 + 1), firm_own c l s k (h + 1) n r, (at s (h + 1 + 1 + 1), plain c l s k (h + 1 + 1) (i.Push subtype.high) tt, (at s (h + 1 + 1), plain c l s k (h + 1) i.Le tt, plain c l s k h i.Min tt))))))
+      (at s (h + 1), firm_own c l s k h n r, (at s (h + 1 + 1), plain c l s k (h + 1) (i.Push subtype.low) tt, (at s (h + 1), firm_compare c l s k h comparison.AtLeast subtype.class, (at s (h + 1 + 1), firm_own c l s k (h + 1) n r, (at s (h + 1 + 1 + 1), plain c l s k (h + 1 + 1) (i.Push subtype.high) tt, (at s (h + 1 + 1), firm_compare c l s k (h + 1) comparison.AtMost subtype.class, plain c l s k h i.Min tt))))))
 
   firm_combined : (l : ℕ → Place → Type 0) (s : Scope) (h : ℕ) (by : Reducer) → ReadyReducer program by → Known c l s → Firm c l (combined s h by) (at s (h + 1)) (at s (h + 1))
   firm_combined l s h (Operator a o class) w k = refl
@@ -414,10 +416,10 @@ module _ (c : Code) (program : Program) (subs : (sub : ℕ) (gives : Bool) → C
     firm_emit l s h (Binary a o class e f) w k (r1, r2) = (at s (h + 1), firm_emit l s h e w.0 k r1, firm_operated c l s k h o class f (emit program s (h + 1) f) (λ r. firm_emit l s (h + 1) f w.1 k r) r2)
     firm_emit l s h (AndThen e f) w k (r1, (r2, r3, r4)) = (at s (h + 1), firm_emit l s h e w.0 k r1, (refl, k.entry, refl, firm_emit l s h f w.1 k r3, plain c l s k h (i.Push (pos 0)) tt))
     firm_emit l s h (OrElse e f) w k (r1, (r2, r3, r4)) = (at s (h + 1), firm_emit l s h e w.0 k r1, (refl, k.entry, refl, plain c l s k h (i.Push (pos 1)) tt, firm_emit l s h f w.1 k r4))
-    firm_emit l s h (Relation class o e f) w k (r1, (r2, r3)) = (at s (h + 1), firm_emit l s h e w.0 k r1, (at s (h + 1 + 1), firm_emit l s (h + 1) f w.1 k r2, firm_compare c l s k h o))
+    firm_emit l s h (Relation class o e f) w k (r1, (r2, r3)) = (at s (h + 1), firm_emit l s h e w.0 k r1, (at s (h + 1 + 1), firm_emit l s (h + 1) f w.1 k r2, firm_compare c l s k h o class))
     firm_emit l s h (Membership class negated e low high) w k (r1, (r2, (r3, (r4, (r5, (r6, r7)))))) =
         let all : In c s.body (s.free + 1 + 1) = kept_next c l s k (s.free + 1) r4.0 in
-        (at s (h + 1), firm_emit l s h e w.0 k r1, (at s h, firm_keep c l s k h s.free r2, (at s (h + 1), firm_emit l (taking 1 s) h low w.1 (known_taking c l s 1 k) r3, (at s h, firm_keep c l s k h (s.free + 1) r4, (at s (h + 1), firm_emit l (taking 2 s) h high w.2 (known_taking c l s 2 k) r5, (at s (h + 1), firm_within c l s k h s.free (in_le c s.body s.free (s.free + 1 + 1) (omega arith) all) (in_le c s.body (s.free + 1) (s.free + 1 + 1) (omega arith) all), firm_negated c l s k h negated))))))
+        (at s (h + 1), firm_emit l s h e w.0 k r1, (at s h, firm_keep c l s k h s.free r2, (at s (h + 1), firm_emit l (taking 1 s) h low w.1 (known_taking c l s 1 k) r3, (at s h, firm_keep c l s k h (s.free + 1) r4, (at s (h + 1), firm_emit l (taking 2 s) h high w.2 (known_taking c l s 2 k) r5, (at s (h + 1), firm_within c l s k h class s.free (in_le c s.body s.free (s.free + 1 + 1) (omega arith) all) (in_le c s.body (s.free + 1) (s.free + 1 + 1) (omega arith) all), firm_negated c l s k h negated))))))
     firm_emit l s h (If condition value otherwise) w k (r1, (r2, r3, r4)) = (at s (h + 1), firm_emit l s h condition w.0 k r1, (refl, k.entry, refl, firm_emit l s h value w.1 k r3, firm_emit l s h otherwise w.2 k r4))
     firm_emit l s h (Call a callee sub actuals) w k (r1, r2) =
         (at s h, firm_passed l (passing program sub s) h sub s.free actuals w.1 (known_taking c l s (shapes_cells (shapes program (formals_in program sub))) k) (omega arith) r1, firm_call c l s k h sub s.free true (subs sub true w.0))

@@ -1,10 +1,10 @@
 -- An index moves an address: it is pushed first, or the instruction reads it where it lies in a cell of the own frame.
-use Rattle.std.proofs.Common.{◌≡◌, ℕ, ◌+◌, ◌*◌, ◌-ℤ◌, ◌<◌, ℤ, pos, List, [], ◌∷◌, ◌++◌, slice_get, Option, Some, None, Bool, true, false, cond, refl, sym, ap, ◌∙◌, subst, arith}
+use Rattle.std.proofs.Common.{◌≡◌, ℕ, ◌+◌, ◌*◌, ◌-ℤ◌, ◌<◌, ◌≤◌, ℤ, pos, List, [], ◌∷◌, ◌++◌, slice_get, Option, Some, None, Bool, true, false, cond, refl, sym, ap, ◌∙◌, subst, arith, mul-le-mul_right}
 use Rattle.std.proofs.lemmas.Option.{none-some}
 use Rattle.behaviours.specs.Paths.{Entity, VariableOf, ConstantOf}
 use Rattle.typed_tree.specs.Syntax.{Expr, Variable, Constant, Parameter, Whole, Program}
 use Rattle.ada_base.specs.Cells.{value_in}
-use Rattle.ada_meaning.specs.Values.{between, to_nat}
+use Rattle.ada_meaning.specs.Values.{between, to_nat, count}
 use Rattle.ada_meaning.specs.Operations.{IndexCheck}
 use Rattle.ada_meaning.specs.Stored as stored
 use Rattle.ada_meaning.specs.Stored.{Stored}
@@ -13,7 +13,7 @@ use Rattle.ada_meaning.specs.Meaning.{Env, Passed, Returned, variable_root, cons
 use Rattle.ada_meaning.proofs.Cells.{some_same}
 use Rattle.stack_code.specs.declared.code.Code.{Code}
 use Rattle.stack_code.specs.declared.instr.Instr.TheVariants as i
-use Rattle.stack_code.specs.Deeds.{GoesOn, indexed, item_at, load_from, pushed}
+use Rattle.stack_code.specs.Deeds.{GoesOn, indexed, item_at, load_from, pointed}
 use Rattle.lower_emission.specs.Emission.{address, own_level, own_where, own_named, own_cell, indexed_by, item_by, main_level, main_named, component_address, component_value}
 use Rattle.ada_lower.specs.Driven.{Dyn, Fixed, Step, on, state_of, driven, At}
 use Rattle.ada_lower.specs.Sights.{Around, Level, Main, Named, Own, Sight, Stands, Where, one, ◌⨟◌}
@@ -23,10 +23,17 @@ use Rattle.ada_lower.specs.Fitted.{Fitted}
 use Rattle.stack_code.specs.Machine.{done, with_value}
 use Rattle.ada_lower.proofs.Framework.{any, To, comes_as, comes_instr, does_before, does_bind, does_ret, does_returned}
 use Rattle.ada_lower.proofs.Memory.{does_read, number_seen}
-use Rattle.ada_lower.proofs.Names.{comes_address, comes_same, comes_to, constant_root_refers, does_by, does_index, does_indexed, does_item, root_refers}
+use Rattle.ada_lower.proofs.Names.{comes_address, comes_same, comes_to, constant_root_refers, does_by, does_index, does_indexed, does_item, index_below, root_refers}
 use Rattle.ada_lower.proofs.Parts.{Runs}
 use Rattle.ada_lower.proofs.Standing.{stands_seq}
 use Rattle.ada_lower.proofs.Courses.{at_entry}
+
+-- a component of an array in memory is there
+component_near : (low high v : ℤ) (stride a top : ℕ) → a + count low high * stride ≤ top → between low v high ≡ true → a + to_nat (v -ℤ low) * stride ≤ top
+component_near low high v stride a top near e =
+    let lt = (index_below low v high e).0 in
+    let b : to_nat (v -ℤ low) * stride ≤ count low high * stride = mul-le-mul_right stride (let l : to_nat (v -ℤ low) ≤ count low high = omega (arith, lt) in l) in
+    omega (arith, near, b)
 
 module _ (limit : ℕ) (c : Code) (f : Fixed) where
   at_own : (l : Level) (m a n : ℕ) → own_level l m ≡ Some n → IsAt f l m a → a ≡ f.base + n
@@ -50,9 +57,9 @@ module _ (limit : ℕ) (c : Code) (f : Fixed) where
 
   -- the instruction that reads the index
   comes_index : {q : ℕ} {e : Option ℕ} (n : ℕ) (low high v : ℤ) (stride a : ℕ) (st : List ℤ) (d : Dyn) → At c q (i.IndexL n low high stride) e → value_in (slice_get d.cells (f.base + n)) ≡ Some v
-      → To limit c (on f q (pos a ∷ st) d) (comes_to limit c f q (pos a ∷ st) d (pushed q (indexed low high stride (pos a) v) (st ++ f.below)))
+      → To limit c (on f q (pos a ∷ st) d) (comes_to limit c f q (pos a ∷ st) d (pointed q (indexed low high stride (pos a) v) (st ++ f.below)))
   comes_index {q} n low high v stride a st d at z =
-      comes_as limit c f (pos a ∷ st) d at (ap (λ o. driven limit c (with_value o (state_of f q (pos a ∷ st) [] None d) (λ v. done limit (pushed q (indexed low high stride (pos a) v) (st ++ f.below)) (state_of f q (pos a ∷ st) [] None d))) d.world) z)
+      comes_as limit c f (pos a ∷ st) d at (ap (λ o. driven limit c (with_value o (state_of f q (pos a ∷ st) [] None d) (λ v. done limit (pointed q (indexed low high stride (pos a) v) (st ++ f.below)) (state_of f q (pos a ∷ st) [] None d))) d.world) z)
 
   comes_item : {q : ℕ} {e : Option ℕ} (n : ℕ) (low high v : ℤ) (stride a : ℕ) (st : List ℤ) (d : Dyn) → At c q (i.ItemL n low high stride) e → value_in (slice_get d.cells (f.base + n)) ≡ Some v
       → To limit c (on f q (pos a ∷ st) d) (comes_to limit c f q (pos a ∷ st) d (item_at q (indexed low high stride (pos a) v) (st ++ f.below)))
@@ -61,10 +68,10 @@ module _ (limit : ℕ) (c : Code) (f : Fixed) where
 
   -- the instruction that knows the address as well
   comes_found : {q : ℕ} {e : Option ℕ} (m n : ℕ) (low high v : ℤ) (stride a : ℕ) (st : List ℤ) (d : Dyn) → a ≡ m → At c q (i.IndexG m low high stride n) e → value_in (slice_get d.cells (f.base + n)) ≡ Some v
-      → To limit c (on f q st d) (comes_to limit c f q st d (pushed q (indexed low high stride (pos a) v) (st ++ f.below)))
+      → To limit c (on f q st d) (comes_to limit c f q st d (pointed q (indexed low high stride (pos a) v) (st ++ f.below)))
   comes_found {q} m n low high v stride a st d same at z =
-      subst (λ p. To limit c (on f q st d) (comes_to limit c f q st d (pushed q (indexed low high stride (pos p) v) (st ++ f.below)))) (sym same)
-      (comes_as limit c f st d at (ap (λ o. driven limit c (with_value o (state_of f q st [] None d) (λ v. done limit (pushed q (indexed low high stride (pos m) v) (st ++ f.below)) (state_of f q st [] None d))) d.world) z))
+      subst (λ p. To limit c (on f q st d) (comes_to limit c f q st d (pointed q (indexed low high stride (pos p) v) (st ++ f.below)))) (sym same)
+      (comes_as limit c f st d at (ap (λ o. driven limit c (with_value o (state_of f q st [] None d) (λ v. done limit (pointed q (indexed low high stride (pos m) v) (st ++ f.below)) (state_of f q st [] None d))) d.world) z))
 
   comes_found_item : {q : ℕ} {e : Option ℕ} (m n : ℕ) (low high v : ℤ) (stride a : ℕ) (st : List ℤ) (d : Dyn) → a ≡ m → At c q (i.ItemG m low high stride n) e → value_in (slice_get d.cells (f.base + n)) ≡ Some v
       → To limit c (on f q st d) (comes_to limit c f q st d (item_at q (indexed low high stride (pos a) v) (st ++ f.below)))
@@ -116,23 +123,26 @@ module _ (limit : ℕ) (cuts : ℕ → ℕ → List ℕ) (program : Program) (c 
 
   -- An index moves the address on the stack; its check leads there, whatever the step before it.
   pub index_does : {B : Type 0} {g : Ghost} {env : Env} {q : B → Type 0} {goal : B → Dyn → Step} (e : Expr) (from to : ℕ) (s : Sight) (h at : ℕ) (low high : ℤ) (stride a : ℕ) (st : List ℤ) (then : ℤ → Stored B)
-      → Knows limit cuts g f s env → s.scope.entry ≡ x.entry → Fitted program globals mains epar s e
+      → a + count low high * stride ≤ g.top → Knows limit cuts g f s env → s.scope.entry ≡ x.entry → Fitted program globals mains epar s e
       → ((m : ℕ) → Stands c (emit program s.scope h e) from m → Runs limit c f x g any (evals e env) (λ d. on f from (pos a ∷ st) d) (λ v d. on f m (v ∷ pos a ∷ st) d))
       → Stands c (indexed_by s.scope h (own_cell s.scope e) low high stride (emit program s.scope h e)) from to
       → ((v : ℤ) (mid : Dyn → Step) → Runs limit c f x g (λ _. between low v high ≡ true) (stored.checks IndexCheck at (between low v high)) mid (λ _ d. on f to (pos (a + to_nat (v -ℤ low) * stride) ∷ st) d) → Runs limit c f x g q (then v) mid goal)
       → Runs limit c f x g q (stored.bind (evals e env) then) (λ d. on f from (pos a ∷ st) d) goal
-  index_does {B} {g} {env} {q} {goal} e from to s h at low high stride a st then k en w pushes l go = by (own_cell s.scope e) refl l
+  index_does {B} {g} {env} {q} {goal} e from to s h at low high stride a st then near k en w pushes l go = by (own_cell s.scope e) refl l
     where
+      inside : (v : ℤ) → between low v high ≡ true → a + to_nat (v -ℤ low) * stride ≤ g.top
+      inside v e = component_near low high v stride a g.top near e
+
       moves : (v : ℤ) (mid : Dyn → Step) (m : ℕ) → to ≡ m + 1 → Runs limit c f x g (λ _. between low v high ≡ true) (stored.checks IndexCheck at (between low v high)) mid (λ _ d. on f (m + 1) (pos (a + to_nat (v -ℤ low) * stride) ∷ st) d) → Runs limit c f x g q (then v) mid goal
       moves v mid m z j = go v mid (subst (λ p. Runs limit c f x g (λ _. between low v high ≡ true) (stored.checks IndexCheck at (between low v high)) mid (λ _ d. on f p (pos (a + to_nat (v -ℤ low) * stride) ∷ st) d)) (sym z) j)
 
       by : (o : Option ℕ) → own_cell s.scope e ≡ o → Stands c (indexed_by s.scope h o low high stride (emit program s.scope h e)) from to → Runs limit c f x g q (stored.bind (evals e env) then) (λ d. on f from (pos a ∷ st) d) goal
       by None is l =
           let (m, l1, (j, z)) = stands_seq c from to (emit program s.scope h e) (one s.scope (h + 1) (i.Index low high stride)) l in
-          does_bind limit c f x (pushes m l1) (λ v _. moves v (λ d. on f m (v ∷ pos a ∷ st) d) m z (does_index limit c f x IndexCheck at low high v stride a st (at_entry en j)))
+          does_bind limit c f x (pushes m l1) (λ v _. moves v (λ d. on f m (v ∷ pos a ∷ st) d) m z (does_index limit c f x IndexCheck at low high v stride a st (inside v) (at_entry en j)))
       by (Some n) is (j, z) =
           does_bind limit c f x (own_does e s n is k w (λ v d seen. comes_index limit c f n low high v stride a st d j seen)) (λ v _.
-          moves v (λ d. comes_to limit c f from (pos a ∷ st) d (pushed from (indexed low high stride (pos a) v) (st ++ f.below))) from z (does_indexed limit c f x IndexCheck at low high v stride a (pos a ∷ st) st (at_entry en j)))
+          moves v (λ d. comes_to limit c f from (pos a ∷ st) d (pointed from (indexed low high stride (pos a) v) (st ++ f.below))) from z (does_indexed limit c f x IndexCheck at low high v stride a (pos a ∷ st) st (inside v) (at_entry en j)))
 
   -- An index to a component that is read: its check leads to a step that reads there.
   pub item_does : {B : Type 0} {g : Ghost} {env : Env} {q : B → Type 0} {goal : B → Dyn → Step} (e : Expr) (from to : ℕ) (s : Sight) (h at : ℕ) (low high : ℤ) (stride a : ℕ) (st : List ℤ) (then : ℤ → Stored B)
@@ -172,25 +182,25 @@ module _ (limit : ℕ) (cuts : ℕ → ℕ → List ℕ) (program : Program) (c 
 
   -- An index moves the address of what is named.
   pub named_index_does : {B : Type 0} {g : Ghost} {env : Env} {q : B → Type 0} {goal : B → Dyn → Step} (e : Expr) (o : Option Named) (m : Named) (from to : ℕ) (s : Sight) (h at : ℕ) (low high : ℤ) (stride : ℕ) (y : Entity) (first : ℕ) (u : Refers g f m y first) (st : List ℤ) (then : ℤ → Stored B)
-      → o ≡ Some m → Knows limit cuts g f s env → s.scope.entry ≡ x.entry → Fitted program globals mains epar s e
+      → u.address + count low high * stride ≤ g.top → o ≡ Some m → Knows limit cuts g f s env → s.scope.entry ≡ x.entry → Fitted program globals mains epar s e
       → ((p r : ℕ) → Stands c (emit program s.scope (h + 1) e) p r → Runs limit c f x g any (evals e env) (λ d. on f p (pos u.address ∷ st) d) (λ v d. on f r (v ∷ pos u.address ∷ st) d))
       → Stands c (component_address s.scope h o (main_named o) (own_cell s.scope e) low high stride (emit program s.scope (h + 1) e)) from to
       → ((v : ℤ) (mid : Dyn → Step) → Runs limit c f x g (λ _. between low v high ≡ true) (stored.checks IndexCheck at (between low v high)) mid (λ _ d. on f to (pos (u.address + to_nat (v -ℤ low) * stride) ∷ st) d) → Runs limit c f x g q (then v) mid goal)
       → Runs limit c f x g q (stored.bind (evals e env) then) (λ d. on f from st d) goal
-  named_index_does {B} {g} {env} {q} {goal} e o m from to s h at low high stride y first u st then some k en w pushes l go = by (main_named o) refl l
+  named_index_does {B} {g} {env} {q} {goal} e o m from to s h at low high stride y first u st then near some k en w pushes l go = by (main_named o) refl l
     where
       rest : Stands c (address s.scope h o ⨟ indexed_by s.scope (h + 1) (own_cell s.scope e) low high stride (emit program s.scope (h + 1) e)) from to → Runs limit c f x g q (stored.bind (evals e env) then) (λ d. on f from st d) goal
       rest l =
           let (p, l1, l2) = stands_seq c from to (address s.scope h o) (indexed_by s.scope (h + 1) (own_cell s.scope e) low high stride (emit program s.scope (h + 1) e)) l in
-          named_then o m from p s h y first u st some l1 (index_does e p to s (h + 1) at low high stride u.address st then k en w (λ r l. pushes p r l) l2 go)
+          named_then o m from p s h y first u st some l1 (index_does e p to s (h + 1) at low high stride u.address st then near k en w (λ r l. pushes p r l) l2 go)
 
       both : (n : ℕ) → main_named o ≡ Some n → (own : Option ℕ) → own_cell s.scope e ≡ own → Stands c (component_address s.scope h o (Some n) own low high stride (emit program s.scope (h + 1) e)) from to → Runs limit c f x g q (stored.bind (evals e env) then) (λ d. on f from st d) goal
       both n is None is' l = rest (subst (λ v. Stands c (address s.scope h o ⨟ indexed_by s.scope (h + 1) v low high stride (emit program s.scope (h + 1) e)) from to) (sym is') l)
       both n is (Some i') is' (j, z) =
           does_bind limit c f x (own_does e s i' is' k w (λ v d seen. comes_found limit c f n i' low high v stride u.address st d (begins_at o m n y first u some is) j seen)) (λ v _.
-          go v (λ d. comes_to limit c f from st d (pushed from (indexed low high stride (pos u.address) v) (st ++ f.below)))
-          (subst (λ p. Runs limit c f x g (λ _. between low v high ≡ true) (stored.checks IndexCheck at (between low v high)) (λ d. comes_to limit c f from st d (pushed from (indexed low high stride (pos u.address) v) (st ++ f.below))) (λ _ d. on f p (pos (u.address + to_nat (v -ℤ low) * stride) ∷ st) d)) (sym z)
-          (does_indexed limit c f x IndexCheck at low high v stride u.address st st (at_entry en j))))
+          go v (λ d. comes_to limit c f from st d (pointed from (indexed low high stride (pos u.address) v) (st ++ f.below)))
+          (subst (λ p. Runs limit c f x g (λ _. between low v high ≡ true) (stored.checks IndexCheck at (between low v high)) (λ d. comes_to limit c f from st d (pointed from (indexed low high stride (pos u.address) v) (st ++ f.below))) (λ _ d. on f p (pos (u.address + to_nat (v -ℤ low) * stride) ∷ st) d)) (sym z)
+          (does_indexed limit c f x IndexCheck at low high v stride u.address st st (component_near low high v stride u.address g.top near) (at_entry en j))))
 
       by : (n : Option ℕ) → main_named o ≡ n → Stands c (component_address s.scope h o n (own_cell s.scope e) low high stride (emit program s.scope (h + 1) e)) from to → Runs limit c f x g q (stored.bind (evals e env) then) (λ d. on f from st d) goal
       by None is l = rest l

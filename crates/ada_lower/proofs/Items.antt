@@ -31,7 +31,7 @@ use Rattle.ada_lower.specs.Fits.{Refers}
 use Rattle.ada_lower.proofs.Framework.{comes_as}
 use Rattle.ada_lower.proofs.Memory.{what_same, what_other, at_or_not, fit_set, fit_alike, own_keeps, Extends, free_extends}
 use Rattle.ada_lower.proofs.Parts.{does_first}
-use Rattle.ada_lower.proofs.Names.{root_refers, constant_root_refers}
+use Rattle.ada_lower.proofs.Names.{comes_field, root_refers, constant_root_refers}
 use Rattle.ada_lower.proofs.Loops.{count_last, count_more}
 use Rattle.ada_lower.proofs.Courses.{unlooped, comes_kept}
 use Rattle.std.proofs.Common.{mul-le-mul_right}
@@ -172,7 +172,7 @@ module _ (limit : ℕ) (cuts : ℕ → ℕ → List ℕ) (c : Code) (f : Fixed) 
         let e1 = free_extends g (f.base + s.scope.free) (Keeps (pos a)) free_one in
         let e2 = free_extends one_kept (f.base + (s.scope.free + 1)) (Keeps u) free_two in
         let e3 = free_extends two_kept (f.base + (s.scope.free + 1 + 1)) (Keeps v) free_three in
-        record { place = λ y i p e. e; solid = λ b w ok e. e3.solid b w ok (e2.solid b w ok (e1.solid b w ok e)) }
+        record { top = le_refl g.top; place = λ y i p e. e; solid = λ b w ok e. e3.solid b w ok (e2.solid b w ok (e1.solid b w ok e)) }
 
     pub fewer_items : Fewer limit c f (unlooped limit cuts c f) (items_at s.scope.free a u v g) g
     fewer_items b y p e = inl (extends_items.solid b (StandsFor y p) tt e)
@@ -181,39 +181,39 @@ module _ (limit : ℕ) (cuts : ℕ → ℕ → List ℕ) (c : Code) (f : Fixed) 
     fit_items t d w = fit_unset (f.base + s.scope.free) (pos a) free_one (fit_unset (f.base + (s.scope.free + 1)) u free_two (fit_unset (f.base + (s.scope.free + 1 + 1)) v free_three w))
 
   -- the end of a turn, up to its count
-  item_steps : {t : stored.State} {d : Dyn} {e1 e2 e3 : Option ℕ} (st : List ℤ) (g : Ghost) (n stride a at_ : ℕ) (u v : ℤ) → At c at_ (i.LoadL n) e1 → At c (at_ + 1) (i.Field stride) e2 → At c (at_ + 1 + 1) (i.StoreL n) e3 → Fit (items_at n a u v g) t d
+  item_steps : {t : stored.State} {d : Dyn} {e1 e2 e3 : Option ℕ} (st : List ℤ) (g : Ghost) (n stride a at_ : ℕ) (u v : ℤ) → At c at_ (i.LoadL n) e1 → At c (at_ + 1) (i.Field stride) e2 → At c (at_ + 1 + 1) (i.StoreL n) e3 → a ≤ g.top → Fit (items_at n a u v g) t d
       → Fit (items_at n (a + stride) u v g) t (record d { cells = set d.cells (f.base + n) (Mine (pos (a + stride))) }) × To limit c (on f at_ st d) (on f (at_ + 1 + 1 + 1) st (record d { cells = set d.cells (f.base + n) (Mine (pos (a + stride))) }))
-  item_steps {t} {d} st g n stride a at_ u v j1 j2 j3 w =
+  item_steps {t} {d} st g n stride a at_ u v j1 j2 j3 near w =
       let is : slice_get d.cells (f.base + n) ≡ Some (Mine (pos a)) = subst (λ z. Rattle.ada_lower.specs.Fits.Right z t (slice_get d.cells (f.base + n))) (item_at n a u v g) (w.cells (f.base + n)) in (
         fit_alike (items_at n (a + stride) u v g).what (item_swap n a (a + stride) u v g) (fit_set (f.base + n) (pos (a + stride)) (own_keeps ((items_at n a u v g).what (f.base + n)) (pos a) (item_at n a u v g)) w),
         comes_on limit c (comes_kept limit cuts c f n (pos a) st d w (item_at n a u v g) j1)
-            (comes_on limit c (comes_goes limit c f (pos a ∷ st) (at_ + 1 + 1) (pos (a + stride) ∷ st) d j2 refl)
+            (comes_on limit c (comes_field limit c f stride a st d w near j2)
             (comes_stores limit c f (f.base + n) (pos (a + stride)) (pos a) (pos (a + stride) ∷ st) st d j3 refl is)),
       )
 
   pub items_does : {A : Type 0} {g : Ghost} {env : Env} {e1 e2 e3 e4 : Option ℕ} (stack : A → List ℤ) (z : Ends) (s : Sight) → Knows limit cuts g f s env → s.scope.free + 1 + 1 < s.cells → (stride a0 head mid : ℕ) (h : ℤ) (turn : ℕ → A → Stored A)
       → At c mid (i.LoadL s.scope.free) e1 → At c (mid + 1) (i.Field stride) e2 → At c (mid + 1 + 1) (i.StoreL s.scope.free) e3 → At c (mid + 1 + 1 + 1) (i.Next (s.scope.free + 1) (s.scope.free + 1 + 1) head) e4
-      → (m k : ℕ) (b0 : A) → h ≡ (pos 1 +ℤ pos k) +ℤ pos m → ((i : ℕ) (b : A) → i ≤ k + m → Runs limit c f z (items_at s.scope.free (a0 + i * stride) (pos 1 +ℤ pos i) h g) any (turn i b) (λ d. on f head (stack b) d) (λ b d. on f mid (stack b) d))
+      → (m k : ℕ) (b0 : A) → h ≡ (pos 1 +ℤ pos k) +ℤ pos m → ((i : ℕ) → i ≤ k + m → a0 + i * stride ≤ g.top) → ((i : ℕ) (b : A) → i ≤ k + m → Runs limit c f z (items_at s.scope.free (a0 + i * stride) (pos 1 +ℤ pos i) h g) any (turn i b) (λ d. on f head (stack b) d) (λ b d. on f mid (stack b) d))
       → Doing limit c f z (items_at s.scope.free (a0 + k * stride) (pos 1 +ℤ pos k) h g) g any (through stored.doings k (suc m) b0 turn) (λ d. on f head (stack b0) d) (λ b d. on f (mid + 1 + 1 + 1 + 1) (stack b) d)
-  items_does {A} {g} stack z s kn room stride a0 head mid h turn j1 j2 j3 j4 zero k b0 is b =
+  items_does {A} {g} stack z s kn room stride a0 head mid h turn j1 j2 j3 j4 zero k b0 is near b =
       let a : ℕ = a0 + k * stride in
       does_seq limit c f z (λ t d w. fit_items s kn room a (pos 1 +ℤ pos k) h t d w) (λ ts al. al) (b k b0 (omega arith)) (λ b' _.
       does_first limit c f z (fewer_items s kn room a (pos 1 +ℤ pos k) h) (λ t d w.
-      let (w', goes) = item_steps (stack b') g s.scope.free stride a mid (pos 1 +ℤ pos k) h j1 j2 j3 w in (
+      let (w', goes) = item_steps (stack b') g s.scope.free stride a mid (pos 1 +ℤ pos k) h j1 j2 j3 (near k (omega arith)) w in (
         _,
         fit_items s kn room (a + stride) (pos 1 +ℤ pos k) h t _ w',
         comes_on limit c goes (count_last limit cuts c f z (set_what (f.base + s.scope.free) (Keeps (pos (a + stride))) g) (stack b') false (s.scope.free + 1) head k (pos 1) h j4 (omega (arith, ints, is)) w'),
       ))
       (does_ret limit c f z {to = λ b d. on f (mid + 1 + 1 + 1 + 1) (stack b) d} b' tt))
-  items_does {A} {g} stack z s kn room stride a0 head mid h turn j1 j2 j3 j4 (suc m) k b0 is b =
+  items_does {A} {g} stack z s kn room stride a0 head mid h turn j1 j2 j3 j4 (suc m) k b0 is near b =
       let a : ℕ = a0 + k * stride in
       let next : a0 + k * stride + stride ≡ a0 + suc k * stride = omega (arith, suc-mul k stride) in
       does_seq limit c f z (λ t d w. fit_items s kn room a (pos 1 +ℤ pos k) h t d w) (λ ts al. al) (b k b0 (omega arith)) (λ b' _.
       does_first limit c f z (fewer_item s.scope.free a (a0 + suc k * stride) (pos 1 +ℤ pos k) (pos 1 +ℤ pos (suc k)) h h g) (λ t d w.
-      let (w', goes) = item_steps (stack b') g s.scope.free stride a mid (pos 1 +ℤ pos k) h j1 j2 j3 w in
+      let (w', goes) = item_steps (stack b') g s.scope.free stride a mid (pos 1 +ℤ pos k) h j1 j2 j3 (near k (omega arith)) w in
       let (d', w'', goes') = count_more limit cuts c f z (set_what (f.base + s.scope.free) (Keeps (pos (a + stride))) g) (stack b') false (s.scope.free + 1) head k m (pos 1) h j4 is w' in
       (d', subst (λ q. Fit (items_at s.scope.free q (pos 1 +ℤ pos (suc k)) h g) t d') next w'', comes_on limit c goes goes'))
-      (items_does stack z s kn room stride a0 head mid h turn j1 j2 j3 j4 m (suc k) b' (omega (arith, ints, is)) (λ i e le. b i e (omega (arith, le)))))
+      (items_does stack z s kn room stride a0 head mid h turn j1 j2 j3 j4 m (suc k) b' (omega (arith, ints, is)) (λ i le. near i (omega (arith, le))) (λ i e le. b i e (omega (arith, le)))))
 
   -- turns over items that carry a number on
   pub items_folds : {g : Ghost} {env : Env} (x : Ends) (s : Sight) (height p : ℕ) (constant : Bool) (stride count : ℕ) (y : Entity) (first total address off at_ to : ℕ) (st : List ℤ) (code : Emit) (q : ObjectPart) (turns : ℕ → ℤ → Stored ℤ)
@@ -238,10 +238,17 @@ module _ (limit : ℕ) (cuts : ℕ → ℕ → List ℕ) (c : Code) (f : Fixed) 
       (subst (λ q'. Doing limit c f x (items_at s.scope.free a0 (pos 1) h g) g any (through stored.doings 0 (suc count) b0 turns) (λ d. on f (start + 1 + 1) (b0 ∷ st) d) (λ b d. on f q' (b ∷ st) d)) (sym be)
       (subst (λ a. Doing limit c f x (items_at s.scope.free a (pos 1) h g) g any (through stored.doings 0 (suc count) b0 turns) (λ d. on f (start + 1 + 1) (b0 ∷ st) d) (λ b d. on f (o.mid + 1 + 1 + 1 + 1) (b ∷ st) d)) (let w : a0 + 0 * stride ≡ a0 = omega (arith, zero-mul stride) in w)
       (items_does (λ b. b ∷ st) x s k room stride a0 (start + 1 + 1) o.mid h turns b1 b2 b3 b4 count 0 b0 (omega (arith, ints))
+      (λ i le. (let r = near_turn i (omega (arith, le)) in omega (arith, r)))
       (λ j b le. body j (start + 1 + 1) o.mid b _ (knows_turn j (omega (arith, le))) o.turn)))))))))
     where
       in_range : (i j : ℕ) → i ≤ count → j < stride → off + i * stride + j < total
       in_range i j le lt = let b : suc i * stride ≤ suc count * stride = mul-le-mul_right stride (let l : suc i ≤ suc count = omega (arith, le) in l) in omega (arith, b, suc-mul i stride, lt, fits)
+
+      near_turn : (i : ℕ) → i ≤ count → address + off + i * stride + stride ≤ g.top
+      near_turn i le =
+          let r = spread.near in
+          let b : suc i * stride ≤ suc count * stride = mul-le-mul_right stride (let l : suc i ≤ suc count = omega (arith, le) in l) in
+          omega (arith, r, b, suc-mul i stride, fits)
 
       knows_turn : (i : ℕ) → i ≤ count → Knows limit cuts (items_at s.scope.free (address + off + i * stride) (pos 1 +ℤ pos i) (pos (suc count)) g) f (with_item constant p (record { through = true; place = own s.scope.free; cells = stride }) (taking 3 s)) (Meaning.with_item constant p (Meaning.moved q (i * stride)) env)
       knows_turn i le =
@@ -251,6 +258,7 @@ module _ (limit : ℕ) (cuts : ℕ → ℕ → List ℕ) (c : Code) (f : Fixed) 
             address = address + off + i * stride;
             leads = (f.base + s.scope.free, refl, inl (item_at s.scope.free (address + off + i * stride) (pos 1 +ℤ pos i) (pos (suc count)) g));
             spread = record {
+              near = near_turn i le;
               cell = λ j lt.
                   let (pl, access, here, stands) = spread.cell (off + i * stride + j) (in_range i j le lt) in
                   let w : first + (off + i * stride + j) ≡ q.offset + i * stride + j = omega (arith, qo) in

@@ -6,7 +6,7 @@ use Rattle.ada_meaning.specs.Stored as stored
 use Rattle.ada_meaning.specs.Stored.{Touch, Address}
 use Rattle.ada_lower.specs.Driven.{Dyn}
 use Rattle.ada_lower.specs.Fits.{Access, Ghost, Fit, Right, Stands as StandsFor}
-use Rattle.ada_lower.specs.ForkViews.{TouchesFit, There, Owned, TouchedAs, AllCovered}
+use Rattle.ada_lower.proofs.ForkViews.{TouchesFit, There, Owned, TouchedAs, AllCovered}
 
 module _ (g : Ghost) (owner : ℕ → Option ℕ) (Lies : Entity → ℕ → Address → Type 0) (Has : (thread object offset : ℕ) → Type 0) (Under : (thread : ℕ) → (writes : Bool) → (object offset : ℕ) → Type 0) (by : Owned g owner Lies Has Under) where
   variable_is : (x y : ℕ) → ◌≡◌ {A = Entity} (VariableOf x) (VariableOf y) → x ≡ y

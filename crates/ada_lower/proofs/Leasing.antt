@@ -26,7 +26,7 @@ use Rattle.ada_lower.specs.Fits.{What, Keeps, Shows, Access as Right, Ghost, Fit
 use Rattle.ada_lower.specs.Lending.{Among, StepsTo, frame_at, chunk_at, LiesIn, IsLent, Owns}
 use Rattle.ada_lower.specs.Leased.{IsLease, AreLeased, LiesUnderPath, MayBe}
 use Rattle.ada_lower.specs.Teams.{IsSound, OnePlace}
-use Rattle.ada_lower.specs.ForkViews.{TouchFits, TouchesFit, Apart}
+use Rattle.ada_lower.proofs.ForkViews.{TouchFits, TouchesFit, Apart}
 use Rattle.ada_lower.proofs.ForkFine.{Lends}
 use Rattle.ada_lower.proofs.ItemGeometry.{small_by}
 use Rattle.ada_lower.proofs.LeaseGeometry.{lies_within}
@@ -148,7 +148,7 @@ module _ {limit : ℕ} {cuts : ℕ → ℕ → List ℕ} {f : Fixed} {g : Ghost}
           at_main : (pl : Address) (y : Right) → g.what (address + n) ≡ StandsFor y pl → (b : Bool) → s.main (VariableOf x) ≡ b → (slot_at g.everywhere (key (VariableOf x))).frame ≡ 1 → within Kept (slot_at g.everywhere (key (VariableOf x))) n ≡ Some pl
           at_main pl y w false e f1 = absurd (kn.outside (VariableOf x) e f1)
           at_main pl y w true e f1 =
-              let (m, as_main, there, cells) = kn.global (VariableOf x) z.named (subst (λ x. s.main (VariableOf x) ≡ true → s.global (VariableOf x) ≡ Some z.named) of z.everywhere e) in
+              let (m, as_main, there, cells, near) = kn.global (VariableOf x) z.named (subst (λ x. s.main (VariableOf x) ≡ true → s.global (VariableOf x) ≡ Some z.named) of z.everywhere e) in
               let (pl', y', p', w') = cells n small in
               let at_m : address ≡ m = subst (λ (v : Named). IsAt f v.place.level v.place.cell address) as_main is in
               let same : StandsFor y' pl' ≡ StandsFor y pl = sym w' ∙ ap (λ z. g.what (z + n)) (sym at_m) ∙ w in

@@ -114,3 +114,6 @@ mod Computed
 mod Times
 pub mod Housed
 pub mod Local
+pub mod ForkViews
+pub mod Forks
+pub mod Sited

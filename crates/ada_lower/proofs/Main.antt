@@ -16,6 +16,7 @@ use Rattle.ada_meaning.specs.Stored.{Stored, Cause, Left, OutOfTurns, NoRoom, Cu
 use Rattle.ada_meaning.specs.Meaning
 use Rattle.ada_meaning.specs.Values
 use Rattle.stack_code.specs.declared.code.Code.{Code}
+use Rattle.stack_code.specs.Valid.{IsCountable}
 use Rattle.stack_code.specs.declared.instr.Instr.TheVariants as i
 use Rattle.ada_base.specs.Cells.{Mine}
 use Rattle.stack_code.specs.Machine.{Done, begun}
@@ -124,7 +125,7 @@ module _ (asked : Option Program) (limit : ℕ) (cuts : ℕ → ℕ → List ℕ
   halts : {q : ℕ} {e : Option ℕ} (st : List ℤ) (d : Dyn) → At c q i.Halt e → To limit c (on (outermost asked) q st d) (off (Done None) d)
   halts st d at = comes_as limit c (outermost asked) st d at refl
 
-  module _ (same_texts : texts ≡ c.texts) (only : (n s : ℕ) (before : Stored (Unit {0})) (passed : List Meaning.Passed) → Closed Raised before → Closed Raised (Meaning.call ops limit program 1000 n s before passed))
+  module _ (countable : IsCountable c.instrs) (same_texts : texts ≡ c.texts) (only : (n s : ℕ) (before : Stored (Unit {0})) (passed : List Meaning.Passed) → Closed Raised before → Closed Raised (Meaning.call ops limit program 1000 n s before passed))
       (pars : (f : Fixed) → f.asked ≡ asked → (depth : ℕ) (all : (f' : Fixed) → Alike f' f → CallsDo limit cuts program globals mains c f' (Meaning.call ops limit program depth)) → ForksDo limit cuts program globals mains epar par c f (Meaning.call ops limit program depth) (λ rs. all (with_rounds rs f) (alike f)))
       (stood : AllStand program globals mains texts text frames epar par c) (entry to : ℕ) (stands : Stands c (main_code program globals mains texts text frames (main_scope program globals mains texts text frames frame).scope) entry to)
       (fitted : MainFitted program globals mains texts text frames epar par (main_scope program globals mains texts text frames frame)) where
@@ -135,7 +136,7 @@ module _ (asked : Option Program) (limit : ℕ) (cuts : ℕ → ℕ → List ℕ
     calls = Meaning.call ops limit program 1000
 
     calls_all : (f' : Fixed) → Alike f' (outermost asked) → CallsDo limit cuts program globals mains c f' (Meaning.call ops limit program 1000)
-    calls_all f' e = call_do limit cuts program c globals mains epar texts text frames par same_texts stood asked pars 1000 f' e.1 (ap (λ n. n + 1000) e.0)
+    calls_all f' e = call_do limit cuts program c globals mains epar texts text frames par countable same_texts stood asked pars 1000 f' e.1 (ap (λ n. n + 1000) e.0)
 
     calls_do : InnerDo limit cuts program globals mains epar c (outermost asked) calls
     calls_do = record { called = λ rs. calls_all (with_rounds rs (outermost asked)) (alike (outermost asked)); forked = (pars (outermost asked) refl 1000 calls_all).forked }

@@ -110,6 +110,7 @@ knows_holding {limit} {g} {f} {s} {env} y len vs base room none_here slots new f
 
     more : Extends g h
     more = record {
+      top = le_refl g.top;
       place = λ z i p e. ⊎_elim (λ same. absurd (none-some p (sym (k.hidden y i new) ∙ ap (λ n. cond (nat_eq (slot_at g.here n).frame g.frame) (within Stacked (slot_at g.here n) i) (cond (nat_eq (slot_at g.everywhere n).frame 1) (within Kept (slot_at g.everywhere n) i) None)) same ∙ e)))
           (λ ne. place_other z i ne ∙ e) (at_or_not (key y) (key z));
       solid = λ b w ok e. laid_out a len everywhere_what vs g.what b (outside b w ok e) ∙ e;
@@ -170,6 +171,7 @@ knows_holding {limit} {g} {f} {s} {env} y len vs base room none_here slots new f
       address = a;
       leads = (let q : f.base + s.scope.free ≡ s.scope.free = omega (arith, base) in q);
       spread = record {
+        near = (let t = k.top in omega (arith, t, room));
         cell = λ i lt.
             let (v, is) = get_of vs i lt in
             let z0 : 0 + i ≡ i = omega arith in
@@ -183,8 +185,9 @@ knows_holding {limit} {g} {f} {s} {env} y len vs base room none_here slots new f
       s.scope.free,
       refl,
       ap (λ z. z.frame) slot_is,
-      λ i lt. let (v, is) = get_of vs i lt in let q : f.base + s.scope.free + i ≡ s.scope.free + i = omega (arith, base) in
-          (Kept (len + i), Full, kept_place i lt, ap h.what (sym q) ∙ laid_in a len everywhere_what vs g.what i v is),
+      (λ i lt. let (v, is) = get_of vs i lt in let q : f.base + s.scope.free + i ≡ s.scope.free + i = omega (arith, base) in
+          (Kept (len + i), Full, kept_place i lt, ap h.what (sym q) ∙ laid_in a len everywhere_what vs g.what i v is)),
+      (let t = k.top in omega (arith, t, room, base)),
     ))
     outer z n false e o = main_more z (slot_other g.everywhere (key y) (key z) (slot_of len vs) (key_other y z e)) more (k.global z n o)
 

@@ -165,6 +165,7 @@ IsSolid (Shows v) = Unit {0}
 IsSolid (Stands x p) = Unit {0}
 
 pub record Extends (g h : Ghost) : Type 0 where
+  pub top : g.top ≤ h.top
   pub place : (x : Entity) (i : ℕ) (p : Address) → place_in g x i ≡ Some p → place_in h x i ≡ Some p
   pub solid : (a : ℕ) (w : What) → IsSolid w → g.what a ≡ w → h.what a ≡ w
 
@@ -180,17 +181,18 @@ pub refers_more : {g h : Ghost} {f : Fixed} {n : Named} {x : Entity} {first : �
 refers_more {g} {h} {f} {n} {x} {first} e r = record {
   address = r.address;
   leads = leads_more n.through f n.place r.address e r.leads;
-  spread = record { cell = λ i lt. let (p, acc, here, is) = r.spread.cell i lt in (p, acc, e.place x (first + i) p here, e.solid (r.address + i) (Stands acc p) tt is) };
+  spread = record { near = (let n = r.spread.near in let t = e.top in omega (arith, n, t)); cell = λ i lt. let (p, acc, here, is) = r.spread.cell i lt in (p, acc, e.place x (first + i) p here, e.solid (r.address + i) (Stands acc p) tt is) };
 }
 
 pub holds_more : {g h : Ghost} (f : Fixed) (w : Where) (v : ℤ) → Extends g h → Holds g f w v → Holds h f w v
 holds_more f w v e (a, at, n) = (a, at, number_more e n)
 
 pub main_more : {g h : Ghost} {n : Named} (y : Entity) → ((slot_at h.everywhere (key y)) ≡ (slot_at g.everywhere (key y))) → Extends g h → AtMain g n y → AtMain h n y
-main_more {g} {h} {n} y same e (m, is, frame, cells) = (m, is, ap (λ z. z.frame) same ∙ frame, λ i lt. let (p, acc, here, w) = cells i lt in (p, acc, ap (λ z. within Kept z i) same ∙ here, e.solid (m + i) (Stands acc p) tt w))
+main_more {g} {h} {n} y same e (m, is, frame, cells, near) = (m, is, ap (λ z. z.frame) same ∙ frame, (λ i lt. let (p, acc, here, w) = cells i lt in (p, acc, ap (λ z. within Kept z i) same ∙ here, e.solid (m + i) (Stands acc p) tt w)), (let t = e.top in omega (arith, near, t)))
 
 pub free_extends : (g : Ghost) (a : ℕ) (w : What) → g.what a ≡ Free → Extends g (set_what a w g)
 free_extends g a w free = record {
+  top = le_refl g.top;
   place = λ x i p e. e;
   solid = λ b u ok is. ⊎_elim (λ e. absurd (loose u ok (sym free ∙ ap g.what e ∙ is))) (λ ne. what_other g a b w ne ∙ is) (at_or_not a b);
 }

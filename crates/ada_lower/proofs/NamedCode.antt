@@ -1,5 +1,5 @@
 -- What the listed instructions of a program name: its bodies, its constructs and its texts.
-use Rattle.std.proofs.Common.{◌≡◌, ℕ, zero, suc, ◌+◌, ◌-◌, ◌<◌, min, ℤ, ◌&&◌, not, List, [], ◌∷◌, ◌++◌, length, slice_get, nat_eq, nat_lt, Option, Some, None, Bool, true, false, cond, refl, sym, subst, arith}
+use Rattle.std.proofs.Common.{◌≡◌, ℕ, zero, suc, ◌+◌, ◌-◌, ◌<◌, min, max, ℤ, ◌&&◌, not, List, [], ◌∷◌, ◌++◌, length, slice_get, nat_eq, nat_lt, Option, Some, None, Bool, true, false, cond, refl, sym, subst, arith}
 use Rattle.std.proofs.lemmas.Option.{none-some}
 use Rattle.ada_meaning.proofs.Cells.{some_same}
 use Rattle.ada_base.specs.declared.operation.Op.{Op}
@@ -14,6 +14,8 @@ use Rattle.typed_tree.specs.declared.scalars.Scalar.{Scalar}
 use Rattle.ada_base.specs.declared.operation.Comparison.{Comparison}
 use Rattle.ada_base.specs.declared.operation.Comparison.TheVariants as comparison
 use Rattle.typed_tree.specs.declared.scalars.Check.{Check}
+use Rattle.ada_base.specs.declared.operation.Base.TheVariants.{Narrow, Wide, Modulo}
+use Rattle.ada_meaning.specs.Values.{is_modular}
 use Rattle.typed_tree.specs.declared.expressions.Run.{Run}
 use Rattle.typed_tree.specs.declared.expressions.Sign.{Sign}
 use Rattle.typed_tree.specs.declared.expressions.Sign.TheVariants as sign
@@ -25,6 +27,9 @@ use Rattle.typed_tree.specs.declared.program.Site.{Site}
 use Rattle.typed_tree.specs.Syntax.{Expr, Static, Variable, Constant, Parameter, Target, Group, Unary, Binary, AndThen, OrElse, Relation, Membership, If, Call, Convert, Reduction, Iteration, Range, Components, Chunk, NoChunk, Count, Each, Optional, Absent, Present, Selections, Whole, Field, Index, Actuals, NoActual, In, InOut, Out, CompositeInOut, CompositeOut, Value, Number, Cells, Composite, WholeVariable, WholeConstant, WholeTarget, CompositeIf, Aggregate, Associations, NoAssociation, Association, Pieces, NoPiece, Text, Image, Padded, Decls, NoDecl, DeclareDefault, DeclareVariable, DeclareConstant, Mentions, Stmt, Null, Assign, CallProcedure, Exit, Return, ReturnValue, Raise, Reraise, IfThen, Case, Loop, For, ParallelFor, Parallel, Block, Put, Get, Stmts, End, Then, Alternatives, NoAlternative, Alternative, Handled, Others, Reasons, Handlers, NoHandler, Handler, Arms, NoArm, Arm, Sub, Subtype, OfScalar, Array, Record, Program}
 use Rattle.stack_code.specs.declared.code.Around.{Around as Body}
 use Rattle.stack_code.specs.declared.code.Around.TheVariants as body
+use Rattle.stack_code.specs.declared.code.SiteKind.{SiteKind}
+use Rattle.stack_code.specs.declared.code.SiteKind.TheVariants as kind
+use Rattle.stack_code.specs.Valid.{FoldFits}
 use Rattle.stack_code.specs.declared.instr.Instr.{Instr}
 use Rattle.stack_code.specs.declared.instr.Instr.TheVariants as i
 use Rattle.lower_emission.specs.declared.types.Placed.{Placed}
@@ -35,9 +40,9 @@ use Rattle.lower_emission.specs.declared.types.Level.TheVariants.{Own, Around, M
 use Rattle.lower_emission.specs.declared.types.Leaving.{Leaving}
 use Rattle.lower_emission.specs.declared.types.Leaving.TheVariants.{ByReturn, ByValue, ByEnd, ByLeave}
 use Rattle.lower_emission.specs.Emits.{Emit, Nothing, One, Seq, Choose, When, Looped, Guarded, Aside, From, listed}
-use Rattle.lower_emission.specs.Scope.{Scope, own, taking, nested, thread_scope, with_parameter, with_item, with_target, with_handled, with_exit, with_entry, root_of, constant_root_of, array_root_of, none, one, ◌⨟◌, load_at, address_at, store_at, address_of}
-use Rattle.lower_emission.specs.Emission.{is_plain, is_repeated, Shape, shapes, load_by, load_named, load_where, address, is_whole, unary_instr, binary_instr, static_instr, operated_by, compare_instr, within, negated_code, leaving_by, first_parameter, range_scope, item_scope, counting, bounds_code, ascending, stepping, folding, ranged, combined, doubled, filling, fillings, iterated_scope, turnings, entering, entering_next, run_steps, run_turnings, turn_height, components_of, locating, locating_in, repeating, chunk_scope, raise_above, raise_beyond, ends_code, turn_range, turn_component, cells_of, passing, composite_width, width, own_cell, indexed_by, item_by, main_named, component_address, component_value}
-use Rattle.lower_emission.proofs.Fused.{of_operated, of_component_address, of_component_value}
+use Rattle.lower_emission.specs.Scope.{Scope, mark_of, keep_checked, own, taking, nested, thread_scope, with_parameter, with_item, with_target, with_handled, with_exit, with_entry, root_of, constant_root_of, array_root_of, none, one, ◌⨟◌, load_at, address_at, store_at, address_of}
+use Rattle.lower_emission.specs.Emission.{loop_kind, reduction_kind, checked, is_plain, is_repeated, Shape, shapes, load_by, load_named, load_where, address, is_whole, unary_instr, binary_instr, static_instr, operated_by, compare_instr, within, negated_code, leaving_by, first_parameter, range_scope, item_scope, counting, bounds_code, ascending, stepping, folding, ranged, combined, doubled, filling, fillings, iterated_scope, turnings, entering, entering_next, run_steps, run_turnings, turn_height, components_of, locating, locating_in, repeating, chunk_scope, raise_above, raise_beyond, ends_code, turn_range, turn_component, cells_of, passing, composite_width, width, own_cell, indexed_by, item_by, main_named, component_address, component_value}
+use Rattle.lower_emission.proofs.Fused.{loop_fits, reduction_fits, of_either, of_check, of_set, of_not, of_operated, of_component_address, of_component_value}
 unfoldable use Rattle.lower_emission.specs.Emission.{emit, named_value, selected, read, passed, put_into, composed, associated, component, filtered, iterated, chunk_code, course_code, threaded}
 use Rattle.lower_emission.specs.Statements.{no_handler, is_end, assigned, in_span, chosen, has_reason, handled_by, returning, returning_value, away, exiting, handled_target, image_instr, send_instr, piece_texts, object_here, exits_of, arm_exits, left_by, exits_code, is_own, left_code, field_defaults, default_of, defaults_within, subtype_or_none, defaulted, declared, parallel_for, arms_code, chunk_by, arm_scope, parallel_block, store_checked}
 unfoldable use Rattle.lower_emission.specs.Statements.{back_code, piece_values, stmt, all, cases, handling, arm_codes}
@@ -45,7 +50,7 @@ use Rattle.lower_emission.specs.Bodies as code
 use Rattle.lower_emission.specs.Programs.{text_in, has_fork, idle_fork, idle_forks, whole_code, placed_code}
 use Rattle.lower_emission.specs.Texts.{texts_of}
 use Rattle.ada_lower.specs.HasTables.{IsBody}
-use Rattle.ada_lower.specs.Sited.{Inner, SitedExpr, SitedOptional, SitedSelections, SitedActuals, SitedValue, SitedComposite, SitedAssociations, SitedIteration, SitedChunk, SitedPieces, SitedDecls, SitedStmt, SitedAll, SitedAlternatives, SitedArms, SitedHandlers, SitedSubs, IsSited}
+use Rattle.ada_lower.proofs.Sited.{Inner, SitedExpr, SitedOptional, SitedSelections, SitedActuals, SitedValue, SitedComposite, SitedAssociations, SitedIteration, SitedChunk, SitedPieces, SitedDecls, SitedStmt, SitedAll, SitedAlternatives, SitedArms, SitedHandlers, SitedSubs, IsSited}
 
 module _ (program : Program) where
   -- a construct that is begun in a body stands behind that of the body's threads
@@ -53,14 +58,14 @@ module _ (program : Program) where
   IsBehind (body.Sub k) site = Unit {0}
   IsBehind (body.Site outer) site = outer < site
 
-  abbrev pub Names : Body → Instr → Type 0
-  Names b (i.Fork site) = (site < length program.sites) × IsBehind b site
-  Names b (i.Words k) = k < length (texts_of program)
-  Names b j = Unit {0}
+  abbrev pub Names : Body → SiteKind → Instr → Type 0
+  Names b what (i.Fork site) = (site < length program.sites) × IsBehind b site × FoldFits what
+  Names b what (i.Words k) = k < length (texts_of program)
+  Names b what j = Unit {0}
 
   abbrev pub Made : Emit → Type 0
   Made Nothing = Unit {0}
-  Made (One m h j) = IsBody program m.body × Names m.body j
+  Made (One m h j) = IsBody program m.body × Names m.body m.kind j
   Made (Seq a b) = Made a × Made b
   Made (Choose m h k a b) = IsBody program m.body × Made a × Made b
   Made (When m h a) = IsBody program m.body × Made a
@@ -71,7 +76,7 @@ module _ (program : Program) where
 
   abbrev pub AllMade : List Placed → Type 0
   AllMade [] = Unit {0}
-  AllMade (p ∷ ps) = (IsBody program p.body × Names p.body p.instr) × AllMade ps
+  AllMade (p ∷ ps) = (IsBody program p.body × Names p.body p.kind p.instr) × AllMade ps
 
   made_join : (xs ys : List Placed) → AllMade xs → AllMade ys → AllMade (xs ++ ys)
   made_join [] ys a b = b
@@ -88,9 +93,9 @@ module _ (program : Program) where
   all_made (Aside m h a) q (ok, w) = ((ok, tt), all_made a (q + 1) w)
   all_made (From a) q f = all_made (a q) q (f q)
 
-  pub made_at : (ps : List Placed) (k : ℕ) (p : Placed) → AllMade ps → slice_get ps k ≡ Some p → IsBody program p.body × Names p.body p.instr
+  pub made_at : (ps : List Placed) (k : ℕ) (p : Placed) → AllMade ps → slice_get ps k ≡ Some p → IsBody program p.body × Names p.body p.kind p.instr
   made_at [] k p w e = absurd (none-some p e)
-  made_at (x ∷ ps) zero p (w, ws) e = subst (λ p. IsBody program p.body × Names p.body p.instr) (some_same x p e) w
+  made_at (x ∷ ps) zero p (w, ws) e = subst (λ p. IsBody program p.body × Names p.body p.kind p.instr) (some_same x p e) w
   made_at (x ∷ ps) (suc k) p (w, ws) e = made_at ps k p ws e
 
   -- the threads in which a body's code runs are those of that construct
@@ -181,7 +186,7 @@ module _ (program : Program) where
     made_unary : (h : ℕ) (g : Sign) (class : Class) → Made (one s h (unary_instr g class))
     made_unary h sign.Minus class = (k.0, tt)
     made_unary h sign.Abs class = (k.0, tt)
-    made_unary h sign.Not class = (k.0, tt)
+    made_unary h sign.Not class = of_not (λ j. Made (one s h j)) class (k.0, tt) (λ n d. (k.0, tt))
 
     made_binary : (h : ℕ) (x : Op) (class : Class) → Made (one s h (binary_instr x class))
     made_binary h op.Add class = (k.0, tt)
@@ -191,26 +196,32 @@ module _ (program : Program) where
     made_binary h op.Mod class = (k.0, tt)
     made_binary h op.Rem class = (k.0, tt)
     made_binary h op.Pow class = (k.0, tt)
-    made_binary h op.And class = (k.0, tt)
-    made_binary h op.Or class = (k.0, tt)
-    made_binary h op.Xor class = (k.0, tt)
-    made_binary h op.Max class = (k.0, tt)
-    made_binary h op.Min class = (k.0, tt)
+    made_binary h op.And class = of_either (λ j. Made (one s h j)) (is_modular class) _ _ (k.0, tt) (k.0, tt)
+    made_binary h op.Or class = of_either (λ j. Made (one s h j)) (is_modular class) _ _ (k.0, tt) (k.0, tt)
+    made_binary h op.Xor class = of_either (λ j. Made (one s h j)) (is_modular class) _ _ (k.0, tt) (k.0, tt)
+    made_binary h op.Max class = of_either (λ j. Made (one s h j)) (is_modular class) _ _ (k.0, tt) (k.0, tt)
+    made_binary h op.Min class = of_either (λ j. Made (one s h j)) (is_modular class) _ _ (k.0, tt) (k.0, tt)
 
     made_operated : (h : ℕ) (x : Op) (class : Class) (f : Expr) (right : Emit) → Made right → Made (operated_by s h (static_instr x class f) (binary_instr x class) right)
     made_operated h x class f right m =
         of_operated Made s h x class f (binary_instr x class) right (λ v. (k.0, tt)) (λ v. (k.0, tt)) (λ v. (k.0, tt)) (λ v. (k.0, tt)) (m, made_binary (h + 1) x class)
 
-    made_compare : (h : ℕ) (r : Comparison) → Made (one s h (compare_instr r))
-    made_compare h comparison.Equal = (k.0, tt)
-    made_compare h comparison.Unequal = (k.0, tt)
-    made_compare h comparison.Less = (k.0, tt)
-    made_compare h comparison.AtMost = (k.0, tt)
-    made_compare h comparison.Greater = (k.0, tt)
-    made_compare h comparison.AtLeast = (k.0, tt)
+    made_compare : (h : ℕ) (r : Comparison) (class : Class) → Made (one s h (compare_instr r class))
+    made_compare h comparison.Equal class = (k.0, tt)
+    made_compare h comparison.Unequal class = (k.0, tt)
+    made_compare h comparison.Less class = of_either (λ j. Made (one s h j)) (is_modular class) _ _ (k.0, tt) (k.0, tt)
+    made_compare h comparison.AtMost class = of_either (λ j. Made (one s h j)) (is_modular class) _ _ (k.0, tt) (k.0, tt)
+    made_compare h comparison.Greater class = of_either (λ j. Made (one s h j)) (is_modular class) _ _ (k.0, tt) (k.0, tt)
+    made_compare h comparison.AtLeast class = of_either (λ j. Made (one s h j)) (is_modular class) _ _ (k.0, tt) (k.0, tt)
 
-    made_within : (h d : ℕ) → Made (within s h d)
-    made_within h d = ((k.0, tt), ((k.0, tt), ((k.0, tt), ((k.0, tt), ((k.0, tt), (k.0, tt))))))
+    made_checked : (h : ℕ) (x : Scalar) → Made (checked s h x)
+    made_checked h x = of_check (λ j. Made (one s h j)) x (k.0, tt) (k.0, tt)
+
+    made_keep_checked : (h n : ℕ) (x : Scalar) → Made (keep_checked s h x n)
+    made_keep_checked h n x = of_set (λ j. Made (One (mark_of (max s.free (n + 1)) s) h j)) x n (k.0, tt) (k.0, tt)
+
+    made_within : (h : ℕ) (class : Class) (d : ℕ) → Made (within s h class d)
+    made_within h class d = ((k.0, tt), (made_compare (h + 1 + 1) comparison.AtLeast class, ((k.0, tt), ((k.0, tt), (made_compare (h + 1 + 1 + 1) comparison.AtMost class, (k.0, tt))))))
 
     made_negated : (h : ℕ) (b : Bool) → Made (negated_code s h b)
     made_negated h true = (k.0, tt)
@@ -218,17 +229,17 @@ module _ (program : Program) where
 
     made_bounds : (h d : ℕ) (check : Option Check) → Made (bounds_code s h d check)
     made_bounds h d None = tt
-    made_bounds h d (Some x) = ((k.0, tt), ((k.0, tt), ((k.0, tt), ((k.0, tt), ((k.0, tt), (k.0, tt))))))
+    made_bounds h d (Some x) = ((k.0, tt), (made_checked (h + 1) x.scalar, ((k.0, tt), ((k.0, tt), (made_checked (h + 1) x.scalar, (k.0, tt))))))
 
     made_ascending : (h d : ℕ) → Made (ascending s h d)
     made_ascending h d = ((k.0, tt), ((k.0, tt), (k.0, tt)))
 
     made_folding : (h : ℕ) (by : Reducer) → Made (folding s h by)
     made_folding h (Operator a x class) = made_binary (h + 1 + 1) x class
-    made_folding h (Function a sub accumulator value) = ((k.0, tt), ((k.0, tt), ((k.0, tt), ((k.0, tt), ((k.0, tt), (k.0, tt))))))
+    made_folding h (Function a sub accumulator value) = ((k.0, tt), (made_keep_checked (h + 1) s.free accumulator, ((k.0, tt), (made_checked (h + 1) value, ((k.0, tt), (k.0, tt))))))
 
     made_ranged : (h n : ℕ) (subtype : Scalar) → Made (ranged s h n subtype)
-    made_ranged h n subtype = ((k.0, tt), ((k.0, tt), ((k.0, tt), ((k.0, tt), ((k.0, tt), ((k.0, tt), (k.0, tt)))))))
+    made_ranged h n subtype = ((k.0, tt), ((k.0, tt), (made_compare (h + 1 + 1) comparison.AtLeast subtype.class, ((k.0, tt), ((k.0, tt), (made_compare (h + 1 + 1 + 1) comparison.AtMost subtype.class, (k.0, tt)))))))
 
     made_combined : (h : ℕ) (by : Reducer) → Made (combined s h by)
     made_combined h (Operator a x class) = tt
@@ -252,8 +263,8 @@ module _ (program : Program) where
     made_stepping : (h place stride first head : ℕ) → Made (stepping s h place stride first head)
     made_stepping h place stride first head = ((k.0, tt), ((k.0, tt), ((k.0, tt), (k.0, tt))))
 
-    names_fork : (site : ℕ) → Inner program o site → Names s.body (i.Fork site)
-    names_fork site w = (below o site w, behind_outer o s.body site k.1 w)
+    names_fork : (site : ℕ) (what : SiteKind) → Inner program o site → FoldFits what → Names s.body what (i.Fork site)
+    names_fork site what w fits = (below o site w, behind_outer o s.body site k.1 w, fits)
 
     made_doubled : (h first size steps done count : ℕ) → Made (doubled s h first size steps done count)
     made_doubled h first size zero done count = tt
@@ -319,12 +330,12 @@ module _ (program : Program) where
     made_emit o s h (Binary a x class e f) w k = (made_emit o s h e w.0 k, made_operated o s k (h + 1) x class f (emit program s (h + 1) f) (made_emit o s (h + 1) f w.1 k))
     made_emit o s h (AndThen e f) w k = (made_emit o s h e w.0 k, (k.0, made_emit o s h f w.1 k, (k.0, tt)))
     made_emit o s h (OrElse e f) w k = (made_emit o s h e w.0 k, (k.0, (k.0, tt), made_emit o s h f w.1 k))
-    made_emit o s h (Relation class r e f) w k = (made_emit o s h e w.0 k, (made_emit o s (h + 1) f w.1 k, made_compare o s k (h + 1 + 1) r))
+    made_emit o s h (Relation class r e f) w k = (made_emit o s h e w.0 k, (made_emit o s (h + 1) f w.1 k, made_compare o s k (h + 1 + 1) r class))
     made_emit o s h (Membership class negated e low high) w k =
-        (made_emit o s h e w.0 k, ((k.0, tt), (made_emit o (taking 1 s) h low w.1 k, ((k.0, tt), (made_emit o (taking 2 s) h high w.2 k, (made_within o s k h s.free, made_negated o s k h negated))))))
+        (made_emit o s h e w.0 k, ((k.0, tt), (made_emit o (taking 1 s) h low w.1 k, ((k.0, tt), (made_emit o (taking 2 s) h high w.2 k, (made_within o s k h class s.free, made_negated o s k h negated))))))
     made_emit o s h (If condition value otherwise) w k = (made_emit o s h condition w.0 k, (k.0, made_emit o s h value w.1 k, made_emit o s h otherwise w.2 k))
     made_emit o s h (Call a callee sub actuals) w k = (made_passed o (passing program sub s) h sub s.free actuals w k, (k.0, tt))
-    made_emit o s h (Convert check e) w k = (made_emit o s h e w k, (k.0, tt))
+    made_emit o s h (Convert check e) w k = (made_emit o s h e w k, made_checked o s k (h + 1) check.scalar)
     made_emit o s h (Reduction a attribute by initial None chunk it value) w k =
         (made_emit o s h initial w.0 k, made_iterated o s (h + 1) None it (λ u. emit program u (h + 1) value ⨟ folding u h by) w.1 k (λ u k'. (made_emit o u (h + 1) value w.2 k', made_folding o u k' h by)))
     made_emit o s h (Reduction a attribute by initial (Some site) chunk it value) w k =
@@ -349,7 +360,7 @@ module _ (program : Program) where
                           (
                             (k.0, tt),
                             (
-                              (k.0, names_fork o s k site w.0),
+                              (k.0, names_fork o s k site (reduction_kind by chunk) w.0 (reduction_fits by chunk)),
                               (
                                 k.0,
                                 ((kc.0, tt), (made_threaded o site (thread_scope site s) 1 chunk (s.free + 1 + 1 + 1) it (λ u. emit program u 1 value ⨟ folding u 0 by) w.3 kt (λ u k'. (made_emit (Some site) u 1 value w.4 k', made_folding (Some site) u k' 0 by)), (kc.0, tt))),
@@ -390,7 +401,7 @@ module _ (program : Program) where
     made_passed o s h sub n NoActual w k = tt
     made_passed o s h sub n (In formal value rest) w k = (made_into o s h _ value w.0 k, made_passed o s h sub n rest w.1 k)
     made_passed o s h sub n (InOut formal a r selections inner outer rest) w k =
-        ((made_address o s k h (root_of s r), (made_selected o s (h + 1) selections w.0 k, ((k.0, tt), ((k.0, tt), ((k.0, tt), (k.0, tt)))))), made_passed o s h sub n rest w.1 k)
+        ((made_address o s k h (root_of s r), (made_selected o s (h + 1) selections w.0 k, ((k.0, tt), ((k.0, tt), ((k.0, tt), made_keep_checked o s k (h + 1) _ inner))))), made_passed o s h sub n rest w.1 k)
     made_passed o s h sub n (Out formal a r selections inner outer rest) w k = ((made_address o s k h (root_of s r), (made_selected o s (h + 1) selections w.0 k, ((k.0, tt), ((k.0, tt), (k.0, tt))))), made_passed o s h sub n rest w.1 k)
     made_passed o s h sub n (CompositeInOut formal a r selections subtype rest) w k =
         (((k.0, tt), (made_address o s k (h + 1) (root_of s r), (made_selected o s (h + 1 + 1) selections w.0 k, ((k.0, tt), ((k.0, tt), (k.0, tt)))))), made_passed o s h sub n rest w.1 k)
@@ -398,7 +409,7 @@ module _ (program : Program) where
         (((k.0, tt), (made_address o s k (h + 1) (root_of s r), (made_selected o s (h + 1 + 1) selections w.0 k, ((k.0, tt), ((k.0, tt), (k.0, tt)))))), made_passed o s h sub n rest w.1 k)
 
     made_into : (o : Option ℕ) (s : Scope) (h n : ℕ) (x : Value) → SitedValue program o x → Inside o s → Made (put_into program s h n x)
-    made_into o s h n (Number check e) w k = (made_emit o s h e w k, (k.0, tt))
+    made_into o s h n (Number check e) w k = (made_emit o s h e w k, made_keep_checked o s k (h + 1) n check.scalar)
     made_into o s h n (Cells x) w k = made_composed o s h n x w k
 
     made_composed : (o : Option ℕ) (s : Scope) (h n : ℕ) (x : Composite) → SitedComposite program o x → Inside o s → Made (composed program s h n x)
@@ -415,7 +426,7 @@ module _ (program : Program) where
     made_associated o s h n (Association runs (Some x) mentions value rest) w k = (made_turnings o s k h n x.first _ runs (made_component o (iterated_scope s x.parameter) (turn_height runs h) (s.free + 1 + 1) value w.0 k), made_associated o s h n rest w.1 k)
 
     made_component : (o : Option ℕ) (s : Scope) (h a : ℕ) (x : Value) → SitedValue program o x → Inside o s → Made (component program s h a x)
-    made_component o s h a (Number check e) w k = ((k.0, tt), (made_emit o s (h + 1) e w k, ((k.0, tt), (k.0, tt))))
+    made_component o s h a (Number check e) w k = ((k.0, tt), (made_emit o s (h + 1) e w k, (made_checked o s k (h + 1 + 1) check.scalar, (k.0, tt))))
     made_component o s h a (Cells x) w k = (made_composed o (taking (composite_width program x) s) h s.free x w k, ((k.0, tt), ((k.0, tt), (k.0, tt))))
 
     made_filtered : (o : Option ℕ) (s : Scope) (h : ℕ) (filter : Optional) (x : Emit) → SitedOptional program o filter → Inside o s → Made x → Made (filtered program s h filter x)
@@ -525,7 +536,9 @@ module _ (program : Program) where
 
     made_image : (class : Class) → Made (one s 1 (image_instr class))
     made_image class.Boolean = (k.0, tt)
-    made_image (class.Integer base) = (k.0, tt)
+    made_image (class.Integer Narrow) = (k.0, tt)
+    made_image (class.Integer Wide) = (k.0, tt)
+    made_image (class.Integer (Modulo d)) = (k.0, tt)
     made_image class.Universal = (k.0, tt)
 
     made_send : (feed : Bool) → Made (one s 0 (send_instr feed))
@@ -565,14 +578,14 @@ module _ (program : Program) where
         ((k.0, tt), ((k.0, tt), ((k.0, tt), (k.0, ((made_left_by s.free 1, ((k.0, made_returning 0 s.leaving), (made_left_by s.free 2, (k.0, ((k.0, tt), made_returning_value s.leaving))))), made_exits s.free number loops)))))
 
     made_store_checked : (x : Scalar) (level : Level) (n : ℕ) → Made (store_checked s x level n)
-    made_store_checked x Own n = (k.0, tt)
-    made_store_checked x level n = ((k.0, tt), made_store_at o s k 1 level n)
+    made_store_checked x Own n = of_set (λ j. Made (one s 1 j)) x n (k.0, tt) (k.0, tt)
+    made_store_checked x level n = (made_checked o s k 1 x, made_store_at o s k 1 level n)
 
     made_assigned : (n : Option Named) (whole : Bool) (x : Scalar) (part : Emit) (value : Scope → ℕ → Emit) → Made part → ((u : Scope) (h : ℕ) → Inside o u → Made (value u h)) → Made (assigned s n whole x part value)
     made_assigned None whole x part value f g = (k.0, tt)
     made_assigned (Some n) whole x part value f g =
         made_cond o s k (whole && not n.through) _ _ (g (with_target n s) 0 k, made_store_checked x n.place.level n.place.cell)
-        (made_address_of o s k 0 n, (f, ((k.0, tt), ((k.0, tt), (g (with_target (record { through = true; place = own s.free; cells = 1 }) (taking 1 s)) 1 k, ((k.0, tt), (k.0, tt)))))))
+        (made_address_of o s k 0 n, (f, ((k.0, tt), ((k.0, tt), (g (with_target (record { through = true; place = own s.free; cells = 1 }) (taking 1 s)) 1 k, (made_checked o s k (1 + 1) x, (k.0, tt)))))))
 
   made_fields : (at : ℕ → ℕ → Emit) (n : ℕ) (fs : List Part) → ((n m : ℕ) → Made (at n m)) → Made (field_defaults program at n fs)
   made_fields at n [] g = tt
@@ -595,8 +608,8 @@ module _ (program : Program) where
   unfolding back_code
   made_back o s sub n NoActual k = tt
   made_back o s sub n (In formal value rest) k = made_back o s sub n rest k
-  made_back o s sub n (InOut formal a r selections inner outer rest) k = (((k.0, tt), ((k.0, tt), ((k.0, tt), (k.0, tt)))), made_back o s sub n rest k)
-  made_back o s sub n (Out formal a r selections inner outer rest) k = (((k.0, tt), ((k.0, tt), ((k.0, tt), (k.0, tt)))), made_back o s sub n rest k)
+  made_back o s sub n (InOut formal a r selections inner outer rest) k = (((k.0, tt), ((k.0, tt), (made_checked o s k 2 outer, (k.0, tt)))), made_back o s sub n rest k)
+  made_back o s sub n (Out formal a r selections inner outer rest) k = (((k.0, tt), ((k.0, tt), (made_checked o s k 2 outer, (k.0, tt)))), made_back o s sub n rest k)
   made_back o s sub n (CompositeInOut formal a r selections subtype rest) k = (((k.0, tt), ((k.0, tt), (k.0, tt))), made_back o s sub n rest k)
   made_back o s sub n (CompositeOut formal a r selections subtype rest) k = (((k.0, tt), ((k.0, tt), (k.0, tt))), made_back o s sub n rest k)
 
@@ -623,12 +636,12 @@ module _ (program : Program) where
   made_parallel_for o s number site chunk it loops f w w1 w2 k g =
       let kt : Inside (Some site) (thread_scope site s) = inside_thread o s site w k in
       let kc : Inside (Some site) (chunk_scope chunk (taking 2 (thread_scope site s))) = inside_chunk (Some site) chunk (taking 2 (thread_scope site s)) kt in
-      ((k.0, tt), (made_chunk o (nested s) 0 chunk w1 k, (made_course o (Some site) (taking 2 (nested s)) 0 it w2 k, (made_ends o (taking 2 (nested s)) k 0 it, (((k.0, tt), ((k.0, tt), ((k.0, tt), ((k.0, names_fork o s k site w), (k.0, (made_threaded o site (thread_scope site s) 0 chunk (s.free + 1 + 1) it f w2 kt g, (kc.0, tt))))))), ((k.0, tt), made_left o (taking 2 (taking 2 s)) k (Some number) loops))))))
+      ((k.0, tt), (made_chunk o (nested s) 0 chunk w1 k, (made_course o (Some site) (taking 2 (nested s)) 0 it w2 k, (made_ends o (taking 2 (nested s)) k 0 it, (((k.0, tt), ((k.0, tt), ((k.0, tt), ((k.0, names_fork o s k site (loop_kind chunk) w (loop_fits chunk)), (k.0, (made_threaded o site (thread_scope site s) 0 chunk (s.free + 1 + 1) it f w2 kt g, (kc.0, tt))))))), ((k.0, tt), made_left o (taking 2 (taking 2 s)) k (Some number) loops))))))
 
   made_parallel_block : (o : Option ℕ) (s : Scope) (site : ℕ) (threads : Optional) (count : ℕ) (loops : List ℕ) (arms : Emit) → Inner program o site → SitedOptional program o threads → Inside o s → Made arms → Made (parallel_block program s site threads count loops arms)
   made_parallel_block o s site threads count loops arms w w1 k f =
       let kt : Inside (Some site) (thread_scope site s) = inside_thread o s site w k in
-      ((k.0, tt), (made_chunk o (nested s) 0 (chunk_by program threads) (sited_chunk o threads w1) k, ((k.0, tt), ((k.0, tt), (((k.0, tt), ((k.0, tt), ((k.0, tt), ((k.0, names_fork o s k site w), (k.0, (f, (kt.0, tt))))))), ((k.0, tt), made_left o (taking 2 s) k None loops))))))
+      ((k.0, tt), (made_chunk o (nested s) 0 (chunk_by program threads) (sited_chunk o threads w1) k, ((k.0, tt), ((k.0, tt), (((k.0, tt), ((k.0, tt), ((k.0, tt), ((k.0, names_fork o s k site (kind.Block count) w tt), (k.0, (f, (kt.0, tt))))))), ((k.0, tt), made_left o (taking 2 s) k None loops))))))
 
   mutual
     unfolding stmt
@@ -642,7 +655,7 @@ module _ (program : Program) where
     made_stmt o s (Exit loop Absent) w k = made_exiting o s k loop (s.exits loop)
     made_stmt o s (Exit loop (Present e)) w k = (made_emit o s 0 e w k, (k.0, made_exiting o s k loop (s.exits loop)))
     made_stmt o s Return w k = made_returning o s k 0 s.leaving
-    made_stmt o s (ReturnValue (Number check e)) w k = (made_emit o s 0 e w k, ((k.0, tt), made_returning_value o s k s.leaving))
+    made_stmt o s (ReturnValue (Number check e)) w k = (made_emit o s 0 e w k, (made_checked o s k 1 check.scalar, made_returning_value o s k s.leaving))
     made_stmt o s (ReturnValue (Cells x)) w k = (k.0, tt)
     made_stmt o s (Raise x) w k = (k.0, tt)
     made_stmt o s Reraise w k = made_handled o s k s.handled
@@ -656,7 +669,7 @@ module _ (program : Program) where
     made_stmt o s (Block decls stmts handlers) w k = made_declared o s decls _ w.0 k (λ u k'.
         made_cond o u k' (no_handler handlers) _ _ (made_all o u stmts w.1 k') (k'.0, ((k'.0, tt), made_handling o (with_handled (own u.free) (taking 1 u)) u.free handlers w.2 k'), (λ x. made_all o (with_entry x u) stmts w.1 k')))
     made_stmt o s (Put a callee pieces line) w k = (made_pieces o s pieces w k, (made_texts o s k s.free pieces w, made_send o s k line))
-    made_stmt o s (Get a callee first r selections scalar) w k = (made_address o s k 0 (root_of s r), (made_selected o s 1 selections w k, ((k.0, tt), ((k.0, tt), (k.0, tt)))))
+    made_stmt o s (Get a callee first r selections scalar) w k = (made_address o s k 0 (root_of s r), (made_selected o s 1 selections w k, ((k.0, tt), (made_checked o s k 2 scalar, (k.0, tt)))))
 
     made_all : (o : Option ℕ) (s : Scope) (x : Stmts) → SitedAll program o x → Inside o s → Made (all program s x)
     made_all o s End w k = tt
@@ -714,9 +727,9 @@ module _ (program : Program) where
 
       go : (b : Bool) → Made (cond b none (idle_fork (code.main_scope text) n))
       go true = tt
-      go false = ((tt, (is, tt)), ((tt, (is, tt)), (tt, tt)))
+      go false = ((tt, (is, tt, tt)), ((tt, (is, tt)), (tt, tt)))
 
   -- what each listed instruction of a program names
-  pub listed_names : IsSited program → (q : ℕ) (p : Placed) → slice_get (placed_code program) q ≡ Some p → IsBody program p.body × Names p.body p.instr
+  pub listed_names : IsSited program → (q : ℕ) (p : Placed) → slice_get (placed_code program) q ≡ Some p → IsBody program p.body × Names p.body p.kind p.instr
   listed_names w q p e =
       made_at (placed_code program) q p (all_made (whole_code program (text_in program)) 0 (made_main (code.main_scope (text_in program)) program.body.decls w.0.0 w (tt, tt, (λ bytes. refl)), made_idle (text_in program) (listed (code.program_code program (text_in program)) 0) 0 program.sites (omega arith))) e

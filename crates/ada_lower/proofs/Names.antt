@@ -1,5 +1,5 @@
 -- Names: cells and addresses that code pushes.
-use Rattle.std.proofs.Common.{◌-◌, ◌≡◌, ℕ, ◌+◌, ◌*◌, ◌<◌, ℤ, pos, negsuc, ◌+ℤ◌, ◌-ℤ◌, ◌*ℤ◌, List, [], ◌∷◌, ◌++◌, slice_get, int_le, Option, Some, None, Ok, Err, Bool, true, false, cond, ◌&&◌, refl, sym, ap, ◌∙◌, subst, arith, inl}
+use Rattle.std.proofs.Common.{◌-◌, ◌≡◌, ℕ, ◌+◌, ◌*◌, ◌<◌, ◌≤◌, ℤ, pos, negsuc, ◌+ℤ◌, ◌-ℤ◌, ◌*ℤ◌, List, [], ◌∷◌, ◌++◌, length, slice_get, int_le, Option, Some, None, Ok, Err, Bool, true, false, cond, ◌&&◌, refl, sym, ap, ◌∙◌, subst, arith, le-leb, inl}
 use Rattle.std.proofs.lemmas.Int.{ints}
 use Rattle.ada_base.specs.declared.reason.Reason.TheVariants as reason
 use Rattle.behaviours.specs.Paths.{Raises, Entity, VariableOf, ConstantOf}
@@ -14,8 +14,8 @@ use Rattle.stack_code.specs.declared.code.Code.{Code}
 use Rattle.stack_code.specs.declared.instr.Instr.{Instr}
 use Rattle.stack_code.specs.declared.instr.Instr.TheVariants as i
 use Rattle.ada_base.specs.Cells.{value_in}
-use Rattle.stack_code.specs.Deeds.{Deed, GoesOn, deed_of, indexed, item_at, pushed, load_of_frame, load_from, cell_of_frame}
-use Rattle.stack_code.specs.Machine.{Frame, outward_of, done, with_value}
+use Rattle.stack_code.specs.Deeds.{Deed, GoesOn, Points, deed_of, indexed, item_at, pointed, load_of_frame, load_from, cell_of_frame}
+use Rattle.stack_code.specs.Machine.{Frame, outward_of, done, with_value, if_pointing}
 use Rattle.ada_lower.specs.Driven.{Dyn, Fixed, Step, on, at, state_of, driven, At}
 use Rattle.ada_lower.specs.Sights.{Around, Level, Main, Named, Own, Sight, Stands, Where, address_at, address_of, constant_root_of, load_at, root_of}
 use Rattle.ada_lower.specs.Emission.{load, load_by}
@@ -64,6 +64,31 @@ module _ (limit : ℕ) (c : Code) (f : Fixed) where
   pub comes_same : {y z : Step} → y ≡ z → To limit c y z
   comes_same {y} e = subst (λ z. To limit c y z) e (comes_here limit c y)
 
+  -- memory is as long as is known of it
+  pub within_top : {g : Ghost} {s : stored.State} {d : Dyn} {a : ℕ} → Fit g s d → a ≤ g.top → a ≤ length d.cells
+  within_top fit le = let t = fit.top in omega (arith, t, le)
+
+  -- an address in memory may be moved
+  pub comes_pointing : (q : ℕ) (su : List ℤ) (a : ℕ) (w : Deed) (d : Dyn) → a ≤ length d.cells → comes_to q su d (Points (pos a) w) ≡ comes_to q su d w
+  comes_pointing q su a w d le = ap (λ b. driven limit c (if_pointing b (state_of f q su [] None d) (done limit w (state_of f q su [] None d))) d.world) (le-leb a (length d.cells) le)
+
+  -- to a field
+  pub comes_field : {g : Ghost} {s : stored.State} {q : ℕ} {e : Option ℕ} (n a : ℕ) (st : List ℤ) (d : Dyn) → Fit g s d → a ≤ g.top → At c q (i.Field n) e → To limit c (on f q (pos a ∷ st) d) (on f (q + 1) (pos (a + n) ∷ st) d)
+  comes_field {q = q} n a st d fit le at = comes_as limit c f (pos a ∷ st) d at (comes_pointing q (pos a ∷ st) a (GoesOn (q + 1) (pos (a + n) ∷ (st ++ f.below))) d (within_top fit le))
+
+  -- an index in its range moves an address within memory
+  pub pointed_is : (q : ℕ) (su : List ℤ) (low high v : ℤ) (stride a : ℕ) (st : List ℤ) (d : Dyn) → between low v high ≡ true → a + to_nat (v -ℤ low) * stride ≤ length d.cells
+      → comes_to q su d (pointed q (indexed low high stride (pos a) v) (st ++ f.below)) ≡ on f (q + 1) (pos (a + to_nat (v -ℤ low) * stride) ∷ st) d
+  pointed_is q su low high v stride a st d e le =
+      ap (λ w. comes_to q su d w)
+      (ap (λ b. pointed q (cond b (Some (pos a +ℤ ((v -ℤ low) *ℤ pos stride))) None) (st ++ f.below)) e
+      ∙ ap (λ z. pointed q (Some (pos a +ℤ (z *ℤ pos stride))) (st ++ f.below)) (index_below low v high e).1)
+      ∙ comes_pointing q su (a + to_nat (v -ℤ low) * stride) (GoesOn (q + 1) (pos (a + to_nat (v -ℤ low) * stride) ∷ (st ++ f.below))) d le
+
+  pub comes_component : {g : Ghost} {s : stored.State} {q : ℕ} {e : Option ℕ} (low high v : ℤ) (stride a : ℕ) (st : List ℤ) (d : Dyn) → Fit g s d → between low v high ≡ true → a + to_nat (v -ℤ low) * stride ≤ g.top
+      → At c q (i.Index low high stride) e → To limit c (on f q (v ∷ pos a ∷ st) d) (on f (q + 1) (pos (a + to_nat (v -ℤ low) * stride) ∷ st) d)
+  comes_component {q = q} low high v stride a st d fit e le at = comes_as limit c f (v ∷ pos a ∷ st) d at (pointed_is q (v ∷ pos a ∷ st) low high v stride a st d e (within_top fit le))
+
   -- a deed that reads a cell
   pub comes_loads : {q : ℕ} {j : Instr} {e : Option ℕ} (a : ℕ) (v : ℤ) (st : List ℤ) (rest : List ℤ) (d : Dyn) → At c q j e → deed_of c q (st ++ f.below) f.base f.outward j ≡ load_from q (rest ++ f.below) (pos a) → value_in (slice_get d.cells a) ≡ Some v
       → To limit c (on f q st d) (on f (q + 1) (v ∷ rest) d)
@@ -106,20 +131,17 @@ module _ (limit : ℕ) (c : Code) (f : Fixed) where
     does_by {g = g} k j = does_first limit c f x (fewer_same g) (λ s d fit. (d, fit, k s d fit)) j
 
     -- an index is in its range, and the address is moved by it: by an instruction of whatever operands, which comes to this
-    pub does_indexed : {g : Ghost} {q : ℕ} {j : Instr} (kind : CheckKind) (token : ℕ) (low high v : ℤ) (stride a : ℕ) (su st : List ℤ) → At c q j x.entry
-        → Runs limit c f x g (λ _. between low v high ≡ true) (stored.checks kind token (between low v high)) (λ d. comes_to q su d (pushed q (indexed low high stride (pos a) v) (st ++ f.below))) (λ _ d. on f (q + 1) (pos (a + to_nat (v -ℤ low) * stride) ∷ st) d)
-    does_indexed {g} {q} kind token low high v stride a su st at = go (between low v high) refl
+    pub does_indexed : {g : Ghost} {q : ℕ} {j : Instr} (kind : CheckKind) (token : ℕ) (low high v : ℤ) (stride a : ℕ) (su st : List ℤ) → (between low v high ≡ true → a + to_nat (v -ℤ low) * stride ≤ g.top) → At c q j x.entry
+        → Runs limit c f x g (λ _. between low v high ≡ true) (stored.checks kind token (between low v high)) (λ d. comes_to q su d (pointed q (indexed low high stride (pos a) v) (st ++ f.below))) (λ _ d. on f (q + 1) (pos (a + to_nat (v -ℤ low) * stride) ∷ st) d)
+    does_indexed {g} {q} kind token low high v stride a su st near at = go (between low v high) refl
       where
-        go : (b : Bool) → between low v high ≡ b → Runs limit c f x g (λ _. b ≡ true) (stored.checks kind token b) (λ d. comes_to q su d (pushed q (indexed low high stride (pos a) v) (st ++ f.below))) (λ _ d. on f (q + 1) (pos (a + to_nat (v -ℤ low) * stride) ∷ st) d)
-        go true e = does_is limit c f x (Ok tt) (check_is kind token true) (
-          refl,
-          λ d.
-              comes_same (ap (λ w. comes_to q su d w)
-              (ap (λ b. pushed q (cond b (Some (pos a +ℤ ((v -ℤ low) *ℤ pos stride))) None) (st ++ f.below)) e
-              ∙ ap (λ z. pushed q (Some (pos a +ℤ (z *ℤ pos stride))) (st ++ f.below)) (index_below low v high e).1)),
-        )
+        go : (b : Bool) → between low v high ≡ b → Runs limit c f x g (λ _. b ≡ true) (stored.checks kind token b) (λ d. comes_to q su d (pointed q (indexed low high stride (pos a) v) (st ++ f.below))) (λ _ d. on f (q + 1) (pos (a + to_nat (v -ℤ low) * stride) ∷ st) d)
+        go true e =
+            does_by
+            (λ s d fit. comes_same (pointed_is q su low high v stride a st d e (within_top fit (near e))))
+            (does_is limit c f x (Ok tt) (check_is kind token true) (refl, λ d. comes_here limit c _))
         go false e = does_is limit c f x (Err (Left (Raises reason.ConstraintError))) (check_is kind token false) (λ d.
-            comes_on limit c (comes_same (ap (λ w. comes_to q su d w) (ap (λ b. pushed q (cond b (Some (pos a +ℤ ((v -ℤ low) *ℤ pos stride))) None) (st ++ f.below)) e))) (comes_thrown limit c f st reason.ConstraintError d at))
+            comes_on limit c (comes_same (ap (λ w. comes_to q su d w) (ap (λ b. pointed q (cond b (Some (pos a +ℤ ((v -ℤ low) *ℤ pos stride))) None) (st ++ f.below)) e))) (comes_thrown limit c f st reason.ConstraintError d at))
 
     -- the component at an index is read, where it is in its range
     pub does_item : {g : Ghost} {q : ℕ} {j : Instr} (kind : CheckKind) (token : ℕ) (low high v : ℤ) (stride a : ℕ) (su st : List ℤ) → At c q j x.entry
@@ -139,9 +161,9 @@ module _ (limit : ℕ) (c : Code) (f : Fixed) where
             comes_on limit c (comes_same (ap (λ w. comes_to q su d w) (ap (λ b. item_at q (cond b (Some (pos a +ℤ ((v -ℤ low) *ℤ pos stride))) None) (st ++ f.below)) e))) (comes_thrown limit c f st reason.ConstraintError d at))
 
     -- the index is on the stack
-    pub does_index : {g : Ghost} {q : ℕ} (kind : CheckKind) (token : ℕ) (low high v : ℤ) (stride a : ℕ) (st : List ℤ) → At c q (i.Index low high stride) x.entry
+    pub does_index : {g : Ghost} {q : ℕ} (kind : CheckKind) (token : ℕ) (low high v : ℤ) (stride a : ℕ) (st : List ℤ) → (between low v high ≡ true → a + to_nat (v -ℤ low) * stride ≤ g.top) → At c q (i.Index low high stride) x.entry
         → Runs limit c f x g (λ _. between low v high ≡ true) (stored.checks kind token (between low v high)) (λ d. on f q (v ∷ pos a ∷ st) d) (λ _ d. on f (q + 1) (pos (a + to_nat (v -ℤ low) * stride) ∷ st) d)
-    does_index kind token low high v stride a st at = does_before limit c f x (λ d. comes_instr limit c f (v ∷ pos a ∷ st) d at) (does_indexed kind token low high v stride a (v ∷ pos a ∷ st) st at)
+    does_index kind token low high v stride a st near at = does_before limit c f x (λ d. comes_instr limit c f (v ∷ pos a ∷ st) d at) (does_indexed kind token low high v stride a (v ∷ pos a ∷ st) st near at)
 
     -- one cell of what is named is read
     pub does_load : {g : Ghost} {from to : ℕ} (s : Sight) (h : ℕ) (n : Named) (y : Entity) (first : ℕ) (st : List ℤ) → s.scope.entry ≡ x.entry → 0 < n.cells → Refers g f n y first → Stands c (load s.scope h n) from to

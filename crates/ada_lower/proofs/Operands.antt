@@ -1,17 +1,22 @@
 -- Numbers on the stack: what instructions make of them, and names of which parts are read.
-use Rattle.std.proofs.Common.{◌≡◌, ℕ, zero, suc, ◌+◌, ◌-◌, ◌*◌, ◌<◌, ◌≤◌, ℤ, pos, ◌-ℤ◌, List, [], ◌∷◌, ◌++◌, length, slice_get, nat_eq, int_le, Option, Some, None, Bool, true, false, not, cond, ◌&&◌, refl, sym, ap, ◌∙◌, subst, le_refl, arith, inl, ⊎_elim, mul-le-mul_right, suc-mul, eqb-true}
+use Rattle.std.proofs.Common.{◌≡◌, ℕ, zero, suc, ◌+◌, ◌-◌, ◌*◌, ◌<◌, ◌≤◌, ℤ, pos, negsuc, ◌-ℤ◌, neg_ℤ, nat_abs, int_lt, is_some, true≢false, List, [], ◌∷◌, ◌++◌, length, slice_get, nat_eq, int_le, Option, Some, None, Bool, true, false, not, cond, ◌&&◌, refl, sym, ap, ◌∙◌, subst, le_refl, arith, inl, ⊎_elim, mul-le-mul_right, suc-mul, eqb-true}
 use Rattle.std.proofs.lemmas.Int.{ints}
+use Rattle.std.proofs.lemmas.Bool.{le-leb}
 use Rattle.std.specs.Int.{int_min}
-use Rattle.ada_base.specs.Operation.{is_in_base, within}
+use Rattle.ada_base.specs.declared.operation.Base.{Base}
+use Rattle.ada_base.specs.declared.operation.Base.TheVariants.{Modulo}
+use Rattle.ada_base.specs.Operation.{is_in_base, turned, within}
+use Rattle.ada_base.proofs.Turning.{turned_twice}
 use Rattle.behaviours.specs.Paths.{Entity}
 use Rattle.typed_tree.specs.declared.scalars.Class.{Class}
+use Rattle.typed_tree.specs.declared.scalars.Class.TheVariants as class
 use Rattle.ada_base.specs.declared.operation.Comparison.{Comparison}
 use Rattle.ada_base.specs.declared.operation.Op.{Op}
 use Rattle.typed_tree.specs.declared.expressions.Sign.{Sign}
 use Rattle.typed_tree.specs.declared.expressions.Sign.TheVariants as sign
 use Rattle.typed_tree.specs.Syntax.{Expr, Static, Program}
 use Rattle.ada_meaning.specs.Values
-use Rattle.ada_meaning.specs.Values.{between, truth, bit, to_nat, count, compares, base_of}
+use Rattle.ada_meaning.specs.Values.{between, truth, bit, to_nat, count, compares, base_of, is_equal, is_member, is_modular, modular_digits, number_by, number_in}
 use Rattle.ada_meaning.specs.Operations.{CheckKind, OverflowCheck, Operations, operate}
 use Rattle.ada_meaning.specs.Stored as stored
 use Rattle.ada_meaning.specs.Stored.{Stored, Cause, Left, Address}
@@ -28,7 +33,7 @@ use Rattle.ada_lower.specs.Fits.{Free, Keeps, Ghost, Ends, place_in, Spread, Ref
 use Rattle.ada_lower.proofs.Framework.{any, To, comes_here, comes_on, comes_goes, does_ret, does_bind, does_before, does_returned}
 use Rattle.ada_lower.proofs.Memory.{does_read, set_what, own_free, fit_unset, knows_keep, Extends, refers_more, holds_more, main_more}
 use Rattle.ada_lower.proofs.Standing.{stands_choose, stands_seq}
-use Rattle.ada_lower.proofs.Parts.{Runs, Fewer, bit_same, outcome, does_to, does_weak, does_keep, does_choice, does_pushed, does_operate, does_fixed}
+use Rattle.ada_lower.proofs.Parts.{Runs, Fewer, bit_same, truth_same, outcome, does_to, does_weak, does_keep, does_choice, does_pushed, does_operate, does_fixed}
 use Rattle.ada_lower.proofs.Declared.{keeping, keep_one_more, laid_out, kept_what, among, length_in, laid_what}
 use Rattle.ada_lower.proofs.Inner.{InnerDo}
 pub use Rattle.ada_lower.proofs.Courses.{at_entry}
@@ -41,6 +46,70 @@ use Rattle.stack_code.specs.Deeds
 -- a check on a result
 abbrev pub fits_or : Bool → ℤ → Option ℤ
 fits_or b v = cond b (Some v) None
+
+-- ---- numbers of modular types
+
+same_number : (u v : ℤ) → is_equal u v ≡ true → u ≡ v
+same_number u v e = omega (arith, ints, and-left (int_le u v) (int_le v u) e, and-right (int_le u v) (int_le v u) e)
+  where
+    and-left : (a b : Bool) → (a && b) ≡ true → a ≡ true
+    and-left true b e = refl
+    and-left false b e = e
+
+    and-right : (a b : Bool) → (a && b) ≡ true → b ≡ true
+    and-right true b e = e
+    and-right false b e = absurd (true≢false (sym e))
+
+equal_self : (u : ℤ) → is_equal u u ≡ true
+equal_self (pos n) = ap (λ b. b && b) (le-leb n n (le_refl n))
+equal_self (negsuc n) = ap (λ b. b && b) (le-leb n n (le_refl n))
+
+both_hold : (a b : Bool) → (a ≡ true → b ≡ true) → (b ≡ true → a ≡ true) → a ≡ b
+both_hold true b h k = sym (h refl)
+both_hold false true h k = k refl
+both_hold false false h k = refl
+
+same_kept : (u v : ℤ) → is_equal u v ≡ is_equal (turned u) (turned v)
+same_kept u v = both_hold (is_equal u v) (is_equal (turned u) (turned v))
+    (λ e. subst (λ w. is_equal (turned u) (turned w) ≡ true) (same_number u v e) (equal_self (turned u)))
+    (λ e. let z : u ≡ v = sym (turned_twice u) ∙ ap turned (same_number (turned u) (turned v) e) ∙ turned_twice v in subst (λ w. is_equal u w ≡ true) z (equal_self u))
+
+abbrev compare_by : Comparison → Bool → Instr
+compare_by comparison.Equal b = i.Eq
+compare_by comparison.Unequal b = i.Ne
+compare_by comparison.Less b = cond b i.ULt i.Lt
+compare_by comparison.AtMost b = cond b i.ULe i.Le
+compare_by comparison.Greater b = cond b i.UGt i.Gt
+compare_by comparison.AtLeast b = cond b i.UGe i.Ge
+
+-- a comparison's instruction
+pub compare_is : (c : Code) (q base : ℕ) (outward : List ℕ) (r : Comparison) (class : Class) (u v : ℤ) (st : List ℤ) → deed_of c q (v ∷ u ∷ st) base outward (compare_instr r class) ≡ GoesOn (q + 1) (Deeds.bit (compares r (number_in class u) (number_in class v)) ∷ st)
+compare_is c q base outward r class u v st = ap (deed_of c q (v ∷ u ∷ st) base outward) (same r) ∙ go r (modular_digits class)
+  where
+    same : (r : Comparison) → compare_instr r class ≡ compare_by r (is_modular class)
+    same comparison.Equal = refl
+    same comparison.Unequal = refl
+    same comparison.Less = refl
+    same comparison.AtMost = refl
+    same comparison.Greater = refl
+    same comparison.AtLeast = refl
+
+    -- numbers are the same where what is kept of them is
+    kept : (d : Option ℕ) → is_equal u v ≡ is_equal (number_by d u) (number_by d v)
+    kept None = refl
+    kept (Some n) = same_kept u v
+
+    go : (r : Comparison) (d : Option ℕ) → deed_of c q (v ∷ u ∷ st) base outward (compare_by r (is_some d)) ≡ GoesOn (q + 1) (Deeds.bit (compares r (number_by d u) (number_by d v)) ∷ st)
+    go comparison.Equal d = ap (λ b. GoesOn (q + 1) (Deeds.bit b ∷ st)) (kept d)
+    go comparison.Unequal d = ap (λ b. GoesOn (q + 1) (Deeds.bit (not b) ∷ st)) (kept d)
+    go comparison.Less None = refl
+    go comparison.Less (Some n) = refl
+    go comparison.AtMost None = refl
+    go comparison.AtMost (Some n) = refl
+    go comparison.Greater None = refl
+    go comparison.Greater (Some n) = refl
+    go comparison.AtLeast None = refl
+    go comparison.AtLeast (Some n) = refl
 
 -- ---- cells laid over others
 
@@ -118,7 +187,7 @@ knows_alike {limit} {g} {f} {s} {env} w e k = record {
 }
   where
     more : Extends g (record g { what = w })
-    more = record { place = λ z i p q. q; solid = λ b u ok q. sym (e b) ∙ q }
+    more = record { top = le_refl g.top; place = λ z i p q. q; solid = λ b u ok q. sym (e b) ∙ q }
 
 module _ (limit : ℕ) (c : Code) (f : Fixed) (x : Ends) where
   -- the first free cell keeps the number on the stack
@@ -160,19 +229,39 @@ module _ (limit : ℕ) (cuts : ℕ → ℕ → List ℕ) (program : Program) (c 
       go true = refl
       go false = refl
 
-  pub unary_does : {g : Ghost} {q : ℕ} (sg : Sign) (token : ℕ) (class : Class) (v : ℤ) (st : List ℤ) → At c q (unary_instr sg class) x.entry
-      → Runs limit c f x g any (stored.bind (Meaning.unary_checked ops sg token class (Values.unary sg v)) (λ _. stored.ret (Values.unary sg v))) (λ d. on f q (v ∷ st) d) (λ z d. on f (q + 1) (z ∷ st) d)
-  unary_does {g} {q} sign.Minus token class v st at =
-      does_pushed limit c f x (fits_or (is_in_base (base_of class) (Values.unary sign.Minus v)) (Values.unary sign.Minus v)) (v ∷ st) st (negate_is OverflowCheck token (is_in_base (base_of class) (Values.unary sign.Minus v)) (Values.unary sign.Minus v)) at
-      (ap (λ o. pushed q o (st ++ f.below)) (ap (λ z. within (base_of class) (Some z)) (minus v) ∙ within_is (base_of class) (Values.unary sign.Minus v)))
+  -- a type that isn't modular: the result is tested
+  minus_does : {g : Ghost} {q : ℕ} (b : Base) (j : Instr) (token : ℕ) (v : ℤ) (st : List ℤ) → At c q j x.entry → deed_of c q (v ∷ st ++ f.below) f.base f.outward j ≡ pushed q (within b (Some (pos 0 -ℤ v))) (st ++ f.below)
+      → Runs limit c f x g any (stored.bind (stored.checks OverflowCheck token (is_in_base b (neg_ℤ v))) (λ _. stored.ret (neg_ℤ v))) (λ d. on f q (v ∷ st) d) (λ z d. on f (q + 1) (z ∷ st) d)
+  minus_does {g} {q} b j token v st at deed =
+      does_pushed limit c f x (fits_or (is_in_base b (neg_ℤ v)) (neg_ℤ v)) (v ∷ st) st (negate_is OverflowCheck token (is_in_base b (neg_ℤ v)) (neg_ℤ v)) at
+      (deed ∙ ap (λ o. pushed q o (st ++ f.below)) (ap (λ z. within b (Some z)) (minus v) ∙ within_is b (neg_ℤ v)))
     where
-      minus : (v : ℤ) → pos 0 -ℤ v ≡ Values.unary sign.Minus v
+      minus : (v : ℤ) → pos 0 -ℤ v ≡ neg_ℤ v
       minus v = omega (arith, ints)
-  unary_does {g} {q} sign.Abs token class v st at =
-      does_pushed limit c f x (fits_or (is_in_base (base_of class) (Values.unary sign.Abs v)) (Values.unary sign.Abs v)) (v ∷ st) st (negate_is OverflowCheck token (is_in_base (base_of class) (Values.unary sign.Abs v)) (Values.unary sign.Abs v)) at
-      (ap (λ o. pushed q o (st ++ f.below)) (within_is (base_of class) (Values.unary sign.Abs v)))
-  unary_does {g} {q} sign.Not token class v st at =
-      does_pushed limit c f x (Some (pos 1 -ℤ v)) (v ∷ st) st (negate_is OverflowCheck token true (pos 1 -ℤ v)) at refl
+
+  abs_does : {g : Ghost} {q : ℕ} (b : Base) (j : Instr) (token : ℕ) (v : ℤ) (st : List ℤ) → At c q j x.entry → deed_of c q (v ∷ st ++ f.below) f.base f.outward j ≡ pushed q (within b (Some (pos (nat_abs v)))) (st ++ f.below)
+      → Runs limit c f x g any (stored.bind (stored.checks OverflowCheck token (is_in_base b (pos (nat_abs v)))) (λ _. stored.ret (pos (nat_abs v)))) (λ d. on f q (v ∷ st) d) (λ z d. on f (q + 1) (z ∷ st) d)
+  abs_does {g} {q} b j token v st at deed =
+      does_pushed limit c f x (fits_or (is_in_base b (pos (nat_abs v))) (pos (nat_abs v))) (v ∷ st) st (negate_is OverflowCheck token (is_in_base b (pos (nat_abs v))) (pos (nat_abs v))) at
+      (deed ∙ ap (λ o. pushed q o (st ++ f.below)) (within_is b (pos (nat_abs v))))
+
+  -- a value that nothing tests
+  value_is : (v : ℤ) (s : stored.State) → (stored.bind (stored.ret (tt {0})) (λ _. stored.ret v)).does s ≡ stored.at s (outcome (Some v))
+  unfolding stored.bind stored.ret
+  value_is v s = refl
+
+  untested_does : {g : Ghost} {q : ℕ} (j : Instr) (v z : ℤ) (st : List ℤ) → At c q j x.entry → deed_of c q (v ∷ st ++ f.below) f.base f.outward j ≡ pushed q (Some z) (st ++ f.below)
+      → Runs limit c f x g any (stored.bind (stored.ret (tt {0})) (λ _. stored.ret z)) (λ d. on f q (v ∷ st) d) (λ z d. on f (q + 1) (z ∷ st) d)
+  untested_does j v z st at deed = does_pushed limit c f x (Some z) (v ∷ st) st (value_is z) at deed
+
+  pub unary_does : {g : Ghost} {q : ℕ} (sg : Sign) (token : ℕ) (class : Class) (v : ℤ) (st : List ℤ) → At c q (unary_instr sg class) x.entry
+      → Runs limit c f x g any (stored.bind (Meaning.unary_checked ops sg token class (Values.unary sg class v)) (λ _. stored.ret (Values.unary sg class v))) (λ d. on f q (v ∷ st) d) (λ z d. on f (q + 1) (z ∷ st) d)
+  unary_does {g} {q} sign.Minus token (class.Integer (Modulo k)) v st at = untested_does _ v _ st at refl
+  unary_does {g} {q} sign.Abs token (class.Integer (Modulo k)) v st at = untested_does _ v _ st at (ap (λ z. pushed q (Some z) (st ++ f.below)) (sym (turned_twice v)))
+  unary_does {g} {q} sign.Not token (class.Integer (Modulo k)) v st at = untested_does _ v _ st at refl
+  unary_does {g} {q} sign.Minus token class v st at = minus_does (base_of class) _ token v st at refl
+  unary_does {g} {q} sign.Abs token class v st at = abs_does (base_of class) _ token v st at refl
+  unary_does {g} {q} sign.Not token class v st at = untested_does _ v _ st at (ap (λ z. pushed q (Some z) (st ++ f.below)) (bit_same (not (Deeds.truth v)) ∙ ap (λ b. bit (not b)) (truth_same v)))
 
   -- an operator's left operand is on the stack, and the right one is pushed
   pushed_does : (e : Expr) (env : Env) {g : Ghost} (o : Op) (token : ℕ) (class : Class) (from to : ℕ) (s : Sight) (h : ℕ) (u : ℤ) (st : List ℤ) → s.scope.entry ≡ x.entry
@@ -199,13 +288,8 @@ module _ (limit : ℕ) (cuts : ℕ → ℕ → List ℕ) (program : Program) (c 
           (does_returned limit c f x (λ v. operate stored.doings stored.checks o token class u v) value (does_fixed limit c f x o token class u value j st is (at_entry en a)))
   operated_does e env o token class from to s h u st en pushes l = pushed_does e env o token class from to s h u st en pushes l
 
-  pub compare_deed : (q : ℕ) (r : Comparison) (u v : ℤ) (st : List ℤ) → deed_of c q (v ∷ u ∷ st) f.base f.outward (compare_instr r) ≡ GoesOn (q + 1) (bit (compares r u v) ∷ st)
-  compare_deed q comparison.Equal u v st = ap (λ b. GoesOn (q + 1) (b ∷ st)) (bit_same (compares comparison.Equal u v))
-  compare_deed q comparison.Unequal u v st = ap (λ b. GoesOn (q + 1) (b ∷ st)) (bit_same (compares comparison.Unequal u v))
-  compare_deed q comparison.Less u v st = ap (λ b. GoesOn (q + 1) (b ∷ st)) (bit_same (compares comparison.Less u v))
-  compare_deed q comparison.AtMost u v st = ap (λ b. GoesOn (q + 1) (b ∷ st)) (bit_same (compares comparison.AtMost u v))
-  compare_deed q comparison.Greater u v st = ap (λ b. GoesOn (q + 1) (b ∷ st)) (bit_same (compares comparison.Greater u v))
-  compare_deed q comparison.AtLeast u v st = ap (λ b. GoesOn (q + 1) (b ∷ st)) (bit_same (compares comparison.AtLeast u v))
+  pub compare_deed : (q : ℕ) (r : Comparison) (class : Class) (u v : ℤ) (st : List ℤ) → deed_of c q (v ∷ u ∷ st) f.base f.outward (compare_instr r class) ≡ GoesOn (q + 1) (bit (compares r (number_in class u) (number_in class v)) ∷ st)
+  compare_deed q r class u v st = compare_is c q f.base f.outward r class u v st ∙ ap (λ z. GoesOn (q + 1) (z ∷ st)) (bit_same (compares r (number_in class u) (number_in class v)))
 
   -- one of two ways, each of which pushes
   pub choice_does : {g : Ghost} {m n : Stored ℤ} (from to : ℕ) (a b : Emit) (s : Sight) (h : ℕ) (v : ℤ) (st : List ℤ) → s.scope.entry ≡ x.entry → Stands c (Rattle.ada_lower.specs.Sights.choose s.scope h (h + 1) a b) from to
@@ -254,18 +338,26 @@ module _ (limit : ℕ) (cuts : ℕ → ℕ → List ℕ) (program : Program) (c 
   min_bits false true = refl
   min_bits false false = refl
 
-  pub comes_within : (s : Sight) (h n from to : ℕ) (u l v : ℤ) (st : List ℤ) (d : Dyn) → value_in (slice_get d.cells (f.base + n)) ≡ Some u → value_in (slice_get d.cells (f.base + (n + 1))) ≡ Some l → Stands c (Emission.within s.scope h n) from to
-      → To limit c (on f from (v ∷ st) d) (on f to (bit (between l u v) ∷ st) d)
-  comes_within s h n from to u l v st d eu el (j1, (j2, (j3, (j4, (j5, (j6, z)))))) =
-      comes_on limit c (Rattle.ada_lower.proofs.Names.comes_loads limit c f (f.base + n) u (v ∷ st) (v ∷ st) d j1 refl eu)
-      (comes_on limit c (comes_goes limit c f (u ∷ v ∷ st) (from + 1 + 1) (Deeds.bit (int_le u v) ∷ st) d j2 refl)
-      (comes_on limit c (Rattle.ada_lower.proofs.Names.comes_loads limit c f (f.base + (n + 1)) l (Deeds.bit (int_le u v) ∷ st) (Deeds.bit (int_le u v) ∷ st) d j3 refl el)
-      (comes_on limit c (Rattle.ada_lower.proofs.Names.comes_loads limit c f (f.base + n) u (l ∷ Deeds.bit (int_le u v) ∷ st) (l ∷ Deeds.bit (int_le u v) ∷ st) d j4 refl eu)
-      (comes_on limit c (comes_goes limit c f (u ∷ l ∷ Deeds.bit (int_le u v) ∷ st) (from + 1 + 1 + 1 + 1 + 1) (Deeds.bit (int_le l u) ∷ Deeds.bit (int_le u v) ∷ st) d j5 refl)
-      (subst (λ q. To limit c (on f (from + 1 + 1 + 1 + 1 + 1) (Deeds.bit (int_le l u) ∷ Deeds.bit (int_le u v) ∷ st) d) (on f q (bit (between l u v) ∷ st) d)) (sym z)
-      (comes_goes limit c f (Deeds.bit (int_le l u) ∷ Deeds.bit (int_le u v) ∷ st) (from + 1 + 1 + 1 + 1 + 1 + 1) (bit (between l u v) ∷ st) d j6 (ap (λ b. GoesOn (from + 1 + 1 + 1 + 1 + 1 + 1) (b ∷ (st ++ f.below))) (min_bits (int_le l u) (int_le u v)))))))))
+  min_of_bits : (a b : Bool) → int_min (bit b) (bit a) ≡ bit (a && b)
+  min_of_bits true true = refl
+  min_of_bits true false = refl
+  min_of_bits false true = refl
+  min_of_bits false false = refl
 
-  pub flip_bit : (b : Bool) → pos 1 -ℤ bit b ≡ bit (not b)
+  pub comes_within : (s : Sight) (h : ℕ) (class : Class) (n from to : ℕ) (u l v : ℤ) (st : List ℤ) (d : Dyn) → value_in (slice_get d.cells (f.base + n)) ≡ Some u → value_in (slice_get d.cells (f.base + (n + 1))) ≡ Some l → Stands c (Emission.within s.scope h class n) from to
+      → To limit c (on f from (v ∷ st) d) (on f to (bit (is_member class l u v) ∷ st) d)
+  comes_within s h class n from to u l v st d eu el (j1, (j2, (j3, (j4, (j5, (j6, z)))))) =
+      let high : Bool = int_le (number_in class u) (number_in class v) in
+      let low : Bool = int_le (number_in class l) (number_in class u) in
+      comes_on limit c (Rattle.ada_lower.proofs.Names.comes_loads limit c f (f.base + n) u (v ∷ st) (v ∷ st) d j1 refl eu)
+      (comes_on limit c (comes_goes limit c f (u ∷ v ∷ st) (from + 1 + 1) (bit high ∷ st) d j2 (compare_deed (from + 1) comparison.AtLeast class v u (st ++ f.below)))
+      (comes_on limit c (Rattle.ada_lower.proofs.Names.comes_loads limit c f (f.base + (n + 1)) l (bit high ∷ st) (bit high ∷ st) d j3 refl el)
+      (comes_on limit c (Rattle.ada_lower.proofs.Names.comes_loads limit c f (f.base + n) u (l ∷ bit high ∷ st) (l ∷ bit high ∷ st) d j4 refl eu)
+      (comes_on limit c (comes_goes limit c f (u ∷ l ∷ bit high ∷ st) (from + 1 + 1 + 1 + 1 + 1) (bit low ∷ bit high ∷ st) d j5 (compare_deed (from + 1 + 1 + 1 + 1) comparison.AtMost class l u (bit high ∷ st ++ f.below)))
+      (subst (λ q. To limit c (on f (from + 1 + 1 + 1 + 1 + 1) (bit low ∷ bit high ∷ st) d) (on f q (bit (low && high) ∷ st) d)) (sym z)
+      (comes_goes limit c f (bit low ∷ bit high ∷ st) (from + 1 + 1 + 1 + 1 + 1 + 1) (bit (low && high) ∷ st) d j6 (ap (λ b. GoesOn (from + 1 + 1 + 1 + 1 + 1 + 1) (b ∷ (st ++ f.below))) (min_of_bits low high))))))))
+
+  pub flip_bit : (b : Bool) → Deeds.bit (not (Deeds.truth (bit b))) ≡ bit (not b)
   flip_bit true = refl
   flip_bit false = refl
 

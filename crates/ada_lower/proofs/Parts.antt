@@ -1,15 +1,21 @@
 -- Code that does parts: instructions that push, tests, jumps, cells that are taken.
-use Rattle.std.proofs.Common.{◌≡◌, ℕ, zero, suc, ◌+◌, ℤ, pos, negsuc, List, [], ◌∷◌, ◌++◌, set, slice_get, Option, Some, None, Result, Ok, Err, Bool, true, false, not, cond, is_some, refl, sym, ap, ap₂, ◌∙◌, subst, le_refl, ◌⊎◌, inl, ⊎_elim}
+use Rattle.std.proofs.Common.{◌≡◌, ℕ, zero, suc, ◌+◌, ◌<◌, ℤ, pos, negsuc, List, [], ◌∷◌, ◌++◌, set, slice_get, Option, Some, None, Result, Ok, Err, Bool, true, false, not, cond, is_some, option_map, unsigned_abs, arith, refl, sym, ap, ap₂, ◌∙◌, subst, le_refl, ◌⊎◌, inl, ⊎_elim}
+use Rattle.ada_base.specs.declared.operation.Base.{Base}
+use Rattle.ada_base.specs.declared.operation.Base.TheVariants.{Narrow, Wide, Modulo}
 use Rattle.ada_base.specs.declared.operation.Op.{Op}
 use Rattle.ada_base.specs.declared.operation.Op.TheVariants as op
 use Rattle.ada_base.specs.declared.reason.Reason.TheVariants as reason
-use Rattle.ada_base.specs.Operation.{result_of}
+use Rattle.ada_base.specs.Operation.{digits, turned, unbounded, unless_zero, within, result_of}
+use Rattle.std.proofs.lemmas.Bool.Decides.{nat_tests}
+use Rattle.ada_base.proofs.Turning.{turned_twice}
 use Rattle.std.proofs.lemmas.Option.{none-some}
 use Rattle.ada_meaning.proofs.Cells.{some_same}
 use Rattle.behaviours.specs.Paths.{Raises}
 use Rattle.typed_tree.specs.declared.scalars.Class.{Class}
+use Rattle.typed_tree.specs.declared.scalars.Class.TheVariants as class
+use Rattle.typed_tree.specs.declared.scalars.Scalar.{Scalar}
 use Rattle.ada_meaning.specs.Values
-use Rattle.ada_meaning.specs.Values.{truth, bit, between, base_of, result, value_or_zero, compares, differ}
+use Rattle.ada_meaning.specs.Values.{truth, bit, between, binary_digits, modular_digits, number_by, base_of, plain_result, result_by, result, value_or_zero, compares, differ}
 use Rattle.ada_meaning.specs.Operations.{CheckKind, ZeroCheck, OverflowCheck, operate}
 use Rattle.ada_meaning.specs.Stored as stored
 use Rattle.ada_meaning.specs.Stored.{Stored, Cause, Left, OutOfTurns, NoRoom, CutOff, Misnoted, Touch}
@@ -21,8 +27,8 @@ use Rattle.stack_code.specs.Deeds
 use Rattle.stack_code.specs.Deeds.{Deed, GoesOn, Fails, Stores, deed_of, pushed}
 use Rattle.stack_code.specs.Machine.{done}
 use Rattle.stack_code.specs.Machine
-use Rattle.ada_lower.specs.Driven.{Dyn, Fixed, Step, on, state_of, driven, At}
-use Rattle.ada_lower.specs.Emission.{binary_instr, fixed_instr}
+use Rattle.ada_lower.specs.Driven.{Dyn, Fixed, Step, on, state_of, driven, At, plain_applied, op_applied}
+use Rattle.ada_lower.specs.Emission.{binary_instr, check_instr, fixed_instr, set_instr}
 use Rattle.ada_lower.specs.Fits.{Keeps, Stands as StandsFor, allows, Ghost, Allows, Fit, Ends, left_by, Lands}
 use Rattle.ada_lower.proofs.Framework.{any, To, Doing, comes_here, comes_as, comes_goes, comes_fails, does_before, does_seq, lands_from, leads_on}
 use Rattle.ada_lower.proofs.Memory.{set_what, IsOwn, fit_set, what_other, what_same, at_or_not}
@@ -77,35 +83,131 @@ not_not : (b : Bool) → not (not b) ≡ b
 not_not true = refl
 not_not false = refl
 
-binary_made : (c : Code) (q base : ℕ) (outward : List ℕ) (st : List ℤ) (o : Op) (class : Class) (x y : ℤ) → deed_of c q (y ∷ x ∷ st) base outward (binary_instr o class) ≡ pushed q (made o class x y) st
-binary_made c q base outward st op.Add class x y = refl
-binary_made c q base outward st op.Sub class x y = refl
-binary_made c q base outward st op.Mul class x y = refl
-binary_made c q base outward st op.Pow class x y = refl
-binary_made c q base outward st op.And class x y = refl
-binary_made c q base outward st op.Or class x y = refl
-binary_made c q base outward st op.Max class x y = refl
-binary_made c q base outward st op.Min class x y = refl
-binary_made c q base outward st op.Xor class x y =
-    ap (λ b. pushed q (Some b) st) (bit_same _ ∙ ap bit (differ_same (Deeds.truth x) (Deeds.truth y) ∙ ap₂ differ (truth_same x) (truth_same y)))
-binary_made c q base outward st op.Div class x y = ap (λ z. pushed q z st) (go y)
+-- the results of a class that is of no modular type, and those on its base range
+result_plain : (class : Class) → modular_digits class ≡ None → (o : Op) (x y : ℤ) → plain_result o class x y ≡ result o class x y
+result_plain class e o x y = ap (λ d. result_by d o class x y) (sym e)
+
+range_plain : (class : Class) → modular_digits class ≡ None → (o : Op) (x y : ℤ) → Deeds.applied o (base_of class) x y ≡ Deeds.on_range o (base_of class) x y
+range_plain class.Boolean e o x y = refl
+range_plain (class.Integer Narrow) e o x y = refl
+range_plain (class.Integer Wide) e o x y = refl
+range_plain (class.Integer (Modulo k)) e o x y = absurd (none-some (binary_digits k) (sym e))
+range_plain class.Universal e o x y = refl
+
+-- what the stages make of a result
+abbrev staging : Op → ℤ → Option ℤ → Option ℤ
+staging o y z = staged (Values.divides o) (Values.overflows o) (not (Values.is_zero y)) z
+
+remainder_staged : (y : ℤ) (z : Option ℤ) → Deeds.unless_divisor_zero (Deeds.truth y) z ≡ staged true false (not (Values.is_zero y)) z
+remainder_staged (pos zero) z = refl
+remainder_staged (pos (suc n)) z = refl
+remainder_staged (negsuc n) z = refl
+
+quotient_staged : (b : Base) (x y : ℤ) → within b (unbounded op.Div x y) ≡ staged true true (not (Values.is_zero y)) (within b (unbounded op.Div x y))
+quotient_staged b x (pos zero) = refl
+quotient_staged b x (pos (suc n)) = refl
+quotient_staged b x (negsuc n) = refl
+
+plain_made : (c : Code) (o : Op) (class : Class) (x y : ℤ) → modular_digits class ≡ None → plain_applied c o (base_of class) x y ≡ made o class x y
+plain_made c o class x y e = here o ∙ ap (λ z. staging o y z) (result_plain class e o x y)
   where
-    go : (y : ℤ) → result_of op.Div (base_of class) x y ≡ made op.Div class x y
-    go (pos zero) = refl
-    go (pos (suc n)) = refl
-    go (negsuc n) = refl
-binary_made c q base outward st op.Mod class x y = ap (λ z. pushed q z st) (go y)
+    here : (o : Op) → plain_applied c o (base_of class) x y ≡ staging o y (plain_result o class x y)
+    here op.Add = refl
+    here op.Sub = refl
+    here op.Mul = refl
+    here op.Pow = refl
+    here op.Div = quotient_staged (base_of class) x y
+    here op.Mod = remainder_staged y (within (base_of class) (unbounded op.Mod x y))
+    here op.Rem = remainder_staged y (within (base_of class) (unbounded op.Rem x y))
+    here op.And = refl
+    here op.Or = refl
+    here op.Max = refl
+    here op.Min = refl
+    here op.Xor = ap (λ b. Some b) (bit_same _ ∙ ap bit (differ_same (Deeds.truth x) (Deeds.truth y) ∙ ap₂ differ (truth_same x) (truth_same y)))
+
+-- a number that isn't zero has a binary digit, so there is a remainder
+zero_of_digits : (y : ℤ) → digits y ≡ 0 → y ≡ pos 0
+zero_of_digits y e = sym (turned_twice y) ∙ ap turned (zero_abs (turned y) e)
   where
-    go : (y : ℤ) → Deeds.applied op.Mod (base_of class) x y ≡ made op.Mod class x y
-    go (pos zero) = refl
-    go (pos (suc n)) = refl
-    go (negsuc n) = refl
-binary_made c q base outward st op.Rem class x y = ap (λ z. pushed q z st) (go y)
+    zero_abs : (z : ℤ) → unsigned_abs z ≡ 0 → z ≡ pos 0
+    zero_abs (pos n) e = ap pos e
+    zero_abs (negsuc n) e = absurd (omega (arith, e))
+
+never_zero : (n : ℕ) (w : ℤ) → unless_zero (pos (suc n)) w ≡ Some w
+never_zero n w = let g : 0 < suc n = omega arith in grind (arith, nat_tests)
+
+found_value : (y : ℤ) → (y ≡ pos 0 → ⊥) → (w : ℤ) → option_map turned (unless_zero (pos (digits y)) w) ≡ Some (value_or_zero (option_map turned (unless_zero (pos (digits y)) w)))
+found_value y ne w = go (digits y) (λ e. ne (zero_of_digits y e))
   where
-    go : (y : ℤ) → Deeds.applied op.Rem (base_of class) x y ≡ made op.Rem class x y
-    go (pos zero) = refl
-    go (pos (suc n)) = refl
-    go (negsuc n) = refl
+    go : (n : ℕ) → (n ≡ 0 → ⊥) → option_map turned (unless_zero (pos n) w) ≡ Some (value_or_zero (option_map turned (unless_zero (pos n) w)))
+    go zero ne = absurd (ne refl)
+    go (suc n) ne = subst (λ u. option_map turned u ≡ Some (value_or_zero (option_map turned u))) (sym (never_zero n w)) refl
+
+modular_made : (o : Op) (k : ℕ) (x y : ℤ) → Deeds.applied o (Modulo (binary_digits k)) x y ≡ made o (class.Integer (Modulo k)) x y
+modular_made op.Add k x y = refl
+modular_made op.Sub k x y = refl
+modular_made op.Mul k x y = refl
+modular_made op.Pow k x y = refl
+modular_made op.And k x y = refl
+modular_made op.Or k x y = refl
+modular_made op.Xor k x y = refl
+modular_made op.Max k x y = refl
+modular_made op.Min k x y = refl
+modular_made op.Div k x (pos zero) = refl
+modular_made op.Div k x (pos (suc n)) = refl
+modular_made op.Div k x (negsuc n) = refl
+modular_made op.Mod k x (pos zero) = refl
+modular_made op.Mod k x (pos (suc n)) = found_value (pos (suc n)) (λ e. absurd (let z = e in cc)) _
+modular_made op.Mod k x (negsuc n) = found_value (negsuc n) (λ e. absurd (let z = e in cc)) _
+modular_made op.Rem k x (pos zero) = refl
+modular_made op.Rem k x (pos (suc n)) = found_value (pos (suc n)) (λ e. absurd (let z = e in cc)) _
+modular_made op.Rem k x (negsuc n) = found_value (negsuc n) (λ e. absurd (let z = e in cc)) _
+
+-- an operation in place of its instruction
+pub applied_made : (c : Code) (o : Op) (class : Class) (x y : ℤ) → op_applied c o (base_of class) x y ≡ made o class x y
+applied_made c o class.Boolean x y = plain_made c o class.Boolean x y refl
+applied_made c o (class.Integer Narrow) x y = plain_made c o (class.Integer Narrow) x y refl
+applied_made c o (class.Integer Wide) x y = plain_made c o (class.Integer Wide) x y refl
+applied_made c o (class.Integer (Modulo k)) x y = modular_made o k x y
+applied_made c o class.Universal x y = plain_made c o class.Universal x y refl
+
+plain_deed : (c : Code) (q base : ℕ) (outward : List ℕ) (st : List ℤ) (o : Op) (class : Class) (x y : ℤ) → modular_digits class ≡ None → deed_of c q (y ∷ x ∷ st) base outward (binary_instr o class) ≡ pushed q (plain_applied c o (base_of class) x y) st
+plain_deed c q base outward st op.Add class x y e = ap (λ z. pushed q z st) (range_plain class e op.Add x y)
+plain_deed c q base outward st op.Sub class x y e = ap (λ z. pushed q z st) (range_plain class e op.Sub x y)
+plain_deed c q base outward st op.Mul class x y e = ap (λ z. pushed q z st) (range_plain class e op.Mul x y)
+plain_deed c q base outward st op.Div class x y e = ap (λ z. pushed q z st) (range_plain class e op.Div x y)
+plain_deed c q base outward st op.Mod class x y e = ap (λ z. pushed q z st) (range_plain class e op.Mod x y)
+plain_deed c q base outward st op.Rem class x y e = ap (λ z. pushed q z st) (range_plain class e op.Rem x y)
+plain_deed c q base outward st op.Pow class x y e = ap (λ z. pushed q z st) (range_plain class e op.Pow x y)
+plain_deed c q base outward st op.And class x y e = ap (λ d. deed_of c q (y ∷ x ∷ st) base outward (cond (is_some d) i.And i.Min)) e
+plain_deed c q base outward st op.Or class x y e = ap (λ d. deed_of c q (y ∷ x ∷ st) base outward (cond (is_some d) i.Or i.Max)) e
+plain_deed c q base outward st op.Xor class x y e = ap (λ d. deed_of c q (y ∷ x ∷ st) base outward (cond (is_some d) i.Xor i.Differ)) e
+plain_deed c q base outward st op.Max class x y e = ap (λ d. deed_of c q (y ∷ x ∷ st) base outward (cond (is_some d) i.UMax i.Max)) e
+plain_deed c q base outward st op.Min class x y e = ap (λ d. deed_of c q (y ∷ x ∷ st) base outward (cond (is_some d) i.UMin i.Min)) e
+
+modular_deed : (c : Code) (q base : ℕ) (outward : List ℕ) (st : List ℤ) (o : Op) (k : ℕ) (x y : ℤ) → deed_of c q (y ∷ x ∷ st) base outward (binary_instr o (class.Integer (Modulo k))) ≡ pushed q (Deeds.applied o (Modulo (binary_digits k)) x y) st
+modular_deed c q base outward st op.Add k x y = refl
+modular_deed c q base outward st op.Sub k x y = refl
+modular_deed c q base outward st op.Mul k x y = refl
+modular_deed c q base outward st op.Div k x y = refl
+modular_deed c q base outward st op.Mod k x y = refl
+modular_deed c q base outward st op.Rem k x y = refl
+modular_deed c q base outward st op.Pow k x y = refl
+modular_deed c q base outward st op.And k x y = refl
+modular_deed c q base outward st op.Or k x y = refl
+modular_deed c q base outward st op.Xor k x y = refl
+modular_deed c q base outward st op.Max k x y = refl
+modular_deed c q base outward st op.Min k x y = refl
+
+binary_made : (c : Code) (q base : ℕ) (outward : List ℕ) (st : List ℤ) (o : Op) (d : Class) (x y : ℤ) → deed_of c q (y ∷ x ∷ st) base outward (binary_instr o d) ≡ pushed q (made o d x y) st
+binary_made c q base outward st o d x y = go d ∙ ap (λ z. pushed q z st) (applied_made c o d x y)
+  where
+    go : (d : Class) → deed_of c q (y ∷ x ∷ st) base outward (binary_instr o d) ≡ pushed q (op_applied c o (base_of d) x y) st
+    go class.Boolean = plain_deed c q base outward st o class.Boolean x y refl
+    go (class.Integer Narrow) = plain_deed c q base outward st o (class.Integer Narrow) x y refl
+    go (class.Integer Wide) = plain_deed c q base outward st o (class.Integer Wide) x y refl
+    go (class.Integer (Modulo k)) = modular_deed c q base outward st o k x y
+    go class.Universal = plain_deed c q base outward st o class.Universal x y refl
 
 -- where the right operand stands in the instruction, it makes the same of the left one
 fixed_made : (c : Code) (q base : ℕ) (outward : List ℕ) (st : List ℤ) (o : Op) (class : Class) (x y : ℤ) (j : Instr) → fixed_instr o class y ≡ Some j → deed_of c q (x ∷ st) base outward j ≡ pushed q (made o class x y) st
@@ -159,23 +261,35 @@ module _ (limit : ℕ) (c : Code) (f : Fixed) (x : Ends) where
       → Runs g any (operate stored.doings stored.checks o token class u v) (λ d. on f q (u ∷ st) d) (λ z d. on f (q + 1) (z ∷ st) d)
   does_fixed {q = q} o token class u v j st is a = does_pushed (made o class u v) (u ∷ st) st (operate_is o token class u v) a (fixed_made c q f.base f.outward (st ++ f.below) o class u v j is)
 
+  -- what the instructions of a check come to
+  pub check_deed : (q : ℕ) (k : Scalar) (v : ℤ) (st : List ℤ) (b : Bool) → Values.is_in k v ≡ b → deed_of c q (v ∷ st) f.base f.outward (check_instr k) ≡ pushed q (cond b (Some v) None) st
+  check_deed q k v st b e = go (modular_digits k.class) e
+    where
+      go : (d : Option ℕ) → between (number_by d k.low) (number_by d v) (number_by d k.high) ≡ b → deed_of c q (v ∷ st) f.base f.outward (cond (is_some d) (i.URange k.low k.high) (i.Range k.low k.high)) ≡ pushed q (cond b (Some v) None) st
+      go None e = ap (λ b. pushed q (cond b (Some v) None) st) e
+      go (Some n) e = ap (λ b. pushed q (cond b (Some v) None) st) e
+
+  pub set_deed : (q n : ℕ) (k : Scalar) (v : ℤ) (st : List ℤ) (b : Bool) → Values.is_in k v ≡ b → deed_of c q (v ∷ st) f.base f.outward (set_instr k n) ≡ Deeds.stored q (pos (f.base + n)) (cond b (Some v) None) st
+  set_deed q n k v st b e = go (modular_digits k.class) e
+    where
+      go : (d : Option ℕ) → between (number_by d k.low) (number_by d v) (number_by d k.high) ≡ b → deed_of c q (v ∷ st) f.base f.outward (cond (is_some d) (i.USetL n k.low k.high) (i.SetL n k.low k.high)) ≡ Deeds.stored q (pos (f.base + n)) (cond b (Some v) None) st
+      go None e = ap (λ b. Deeds.stored q (pos (f.base + n)) (cond b (Some v) None) st) e
+      go (Some m) e = ap (λ b. Deeds.stored q (pos (f.base + n)) (cond b (Some v) None) st) e
+
   -- the number on the stack is checked and stays
-  pub does_check : {g : Ghost} {q : ℕ} (kind : CheckKind) (token : ℕ) (low high v : ℤ) (b : Bool) (st : List ℤ) → between low v high ≡ b → At c q (i.Range low high) x.entry
+  pub does_check : {g : Ghost} {q : ℕ} (kind : CheckKind) (token : ℕ) (k : Scalar) (v : ℤ) (b : Bool) (st : List ℤ) → Values.is_in k v ≡ b → At c q (check_instr k) x.entry
       → Runs g (λ _. b ≡ true) (stored.checks kind token b) (λ d. on f q (v ∷ st) d) (λ _ d. on f (q + 1) (v ∷ st) d)
-  does_check {q = q} kind token low high v true st e a =
-      does_is (Ok tt) (check_is kind token true) (refl, λ d. comes_goes limit c f (v ∷ st) (q + 1) (v ∷ st) d a (ap (λ b. pushed q (cond b (Some v) None) (st ++ f.below)) e))
-  does_check {q = q} kind token low high v false st e a =
-      does_is (Err (Left (Raises reason.ConstraintError))) (check_is kind token false) (λ d. comes_fails limit c f (v ∷ st) st reason.ConstraintError d a (ap (λ b. pushed q (cond b (Some v) None) (st ++ f.below)) e))
+  does_check {q = q} kind token k v true st e a =
+      does_is (Ok tt) (check_is kind token true) (refl, λ d. comes_goes limit c f (v ∷ st) (q + 1) (v ∷ st) d a (check_deed q k v (st ++ f.below) true e))
+  does_check {q = q} kind token k v false st e a =
+      does_is (Err (Left (Raises reason.ConstraintError))) (check_is kind token false) (λ d. comes_fails limit c f (v ∷ st) st reason.ConstraintError d a (check_deed q k v (st ++ f.below) false e))
 
   -- the number on the stack is checked by the instruction that then stores it
-  pub does_within : {g : Ghost} {q n : ℕ} (kind : CheckKind) (token : ℕ) (low high v : ℤ) (b : Bool) (st : List ℤ) → between low v high ≡ b → At c q (i.SetL n low high) x.entry
+  pub does_within : {g : Ghost} {q : ℕ} (kind : CheckKind) (token n : ℕ) (k : Scalar) (v : ℤ) (b : Bool) (st : List ℤ) → Values.is_in k v ≡ b → At c q (set_instr k n) x.entry
       → Runs g (λ _. b ≡ true) (stored.checks kind token b) (λ d. on f q (v ∷ st) d) (λ _ d. on f q (v ∷ st) d)
-  does_within {q = q} kind token low high v true st e a = does_is (Ok tt) (check_is kind token true) (refl, λ d. comes_here limit c (on f q (v ∷ st) d))
-  does_within {q = q} {n = n} kind token low high v false st e a =
-      does_is (Err (Left (Raises reason.ConstraintError))) (check_is kind token false) (λ d. comes_fails limit c f (v ∷ st) st reason.ConstraintError d a (ap (λ b. Deeds.stored q (pos (f.base + n)) (cond b (Some v) None) (st ++ f.below)) e))
-
-  pub set_deed : (q n : ℕ) (low high v : ℤ) (st : List ℤ) → between low v high ≡ true → deed_of c q (v ∷ st ++ f.below) f.base f.outward (i.SetL n low high) ≡ Stores (pos (f.base + n)) v (GoesOn (q + 1) (st ++ f.below))
-  set_deed q n low high v st e = ap (λ b. Deeds.stored q (pos (f.base + n)) (cond b (Some v) None) (st ++ f.below)) e
+  does_within {q = q} kind token n k v true st e a = does_is (Ok tt) (check_is kind token true) (refl, λ d. comes_here limit c (on f q (v ∷ st) d))
+  does_within {q = q} kind token n k v false st e a =
+      does_is (Err (Left (Raises reason.ConstraintError))) (check_is kind token false) (λ d. comes_fails limit c f (v ∷ st) st reason.ConstraintError d a (set_deed q n k v (st ++ f.below) false e))
 
   -- the value goes on to another place
   pub does_to : {A : Type 0} {g h : Ghost} {q : A → Type 0} {m : Stored A} {from : Dyn → Step} {to : A → Dyn → Step} (to' : A → Dyn → Step) → ((a : A) (d : Dyn) → q a → To limit c (to a d) (to' a d)) → Doing limit c f x g h q m from to → Doing limit c f x g h q m from to'
@@ -248,9 +362,9 @@ module _ (limit : ℕ) (c : Code) (f : Fixed) (x : Ends) where
   does_keep at_ n v st own a j = writes_own at_ n v st own a refl j
 
   -- it is checked, and goes to an own cell
-  pub does_set : {A : Type 0} {g h : Ghost} {q : A → Type 0} {to : A → Dyn → Step} (m : Unit {0} → Stored A) (kind : CheckKind) (token at_ n : ℕ) (low high v : ℤ) (st : List ℤ) → ((s : stored.State) (d : Dyn) → Fit g s d → Fit h s d) → IsOwn (g.what (f.base + n)) → At c at_ (i.SetL n low high) x.entry
-      → Doing limit c f x (set_what (f.base + n) (Keeps v) g) h q (m tt) (λ d. on f (at_ + 1) st d) to → Doing limit c f x g h q (stored.bind (stored.checks kind token (between low v high)) m) (λ d. on f at_ (v ∷ st) d) to
-  does_set m kind token at_ n low high v st weak own a j = does_seq limit c f x weak (λ ts al. al) (does_within kind token low high v (between low v high) st refl a) (λ _ is. writes_own at_ n v st own a (set_deed at_ n low high v st is) j)
+  pub does_set : {A : Type 0} {g h : Ghost} {q : A → Type 0} {to : A → Dyn → Step} (m : Unit {0} → Stored A) (kind : CheckKind) (token at_ n : ℕ) (k : Scalar) (v : ℤ) (st : List ℤ) → ((s : stored.State) (d : Dyn) → Fit g s d → Fit h s d) → IsOwn (g.what (f.base + n)) → At c at_ (set_instr k n) x.entry
+      → Doing limit c f x (set_what (f.base + n) (Keeps v) g) h q (m tt) (λ d. on f (at_ + 1) st d) to → Doing limit c f x g h q (stored.bind (stored.checks kind token (Values.is_in k v)) m) (λ d. on f at_ (v ∷ st) d) to
+  does_set m kind token at_ n k v st weak own a j = does_seq limit c f x weak (λ ts al. al) (does_within kind token n k v (Values.is_in k v) st refl a) (λ _ is. writes_own at_ n v st own a (set_deed at_ n k v (st ++ f.below) true is) j)
 
   -- a test by the number on the stack
   pub does_choice : {A : Type 0} {g h : Ghost} {q : A → Type 0} {m n : Stored A} {at_ other : ℕ} {to : A → Dyn → Step} (v : ℤ) (st : List ℤ) → At c at_ (i.JFalse other) x.entry

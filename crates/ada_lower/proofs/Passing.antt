@@ -1,5 +1,5 @@
 -- A call whose actual parameters are on their way to the cells of its formals: those that are left have free cells.
-use Rattle.std.proofs.Common.{◌≡◌, ℕ, ◌+◌, ◌≤◌, ℤ, List, [], ◌∷◌, length, ap, ◌∙◌, subst, arith, inl, inr, ⊎_elim}
+use Rattle.std.proofs.Common.{◌≡◌, ℕ, ◌+◌, ◌≤◌, ℤ, List, [], ◌∷◌, length, ap, ◌∙◌, subst, le_refl, arith, inl, inr, ⊎_elim}
 use Rattle.ada_meaning.specs.Stored as stored
 use Rattle.ada_meaning.specs.Meaning.{Env}
 use Rattle.typed_scopes.specs.Scopes.{Without}
@@ -46,7 +46,7 @@ module _ {limit : ℕ} {cuts : ℕ → ℕ → List ℕ} {f : Fixed} {env : Env}
   pub passing_none : {g : Ghost} (w : ℕ) (hs : List Shape) → w + shapes_cells hs ≤ s.scope.free → s.scope.free ≤ s.cells → AreFree (f.base + w) (shapes_cells hs) g.what → Knows limit cuts g f s env → Passing limit cuts f env s w (shapes_cells hs) g g (spots 0 hs)
   passing_none {g} w hs below room free k = record {
     knows = k;
-    ext = record { place = λ x i p e. e; solid = λ a u ok e. e };
+    ext = record { top = le_refl g.top; place = λ x i p e. e; solid = λ a u ok e. e };
     weak = λ u d fit. fit;
     free = each_map (IsWithin (shapes_cells hs)) (λ k. AreFree (f.base + w + k.at) (lead k.shape.back + k.shape.cells) g.what) (spots 0 hs)
         (λ k in' j lt. (let z : f.base + w + k.at + j ≡ f.base + w + (k.at + j) = omega arith in ap g.what z) ∙ free (k.at + j) (omega (arith, lt, in'))) (spots_within hs);
@@ -76,7 +76,7 @@ module _ {limit : ℕ} {cuts : ℕ → ℕ → List ℕ} {f : Fixed} {env : Env}
       let below = p.below in
       record {
         knows = subst (λ b. Knows limit cuts (keeping b vs G) f s env) z (knows_kept (w + e) vs (omega (arith, below, high, fits)) p.room (λ j lt. (let y : f.base + (w + e) + j ≡ f.base + w + e + j = omega arith in ap G.what y) ∙ free j lt) p.knows);
-        ext = record { place = λ x i q is. p.ext.place x i q is; solid = λ a u ok is. (ext_kept (f.base + w + e) vs G free).solid a u ok (p.ext.solid a u ok is) };
+        ext = record { top = p.ext.top; place = λ x i q is. p.ext.place x i q is; solid = λ a u ok is. (ext_kept (f.base + w + e) vs G free).solid a u ok (p.ext.solid a u ok is) };
         weak = λ u d fit. p.weak u d (fit_unkept (f.base + w + e) vs G free fit);
         free = still_free (f.base + w) e 0 kept_what vs G.what zs (each_map (IsOff k.at (lead k.shape.back + k.shape.cells)) (IsOff e (length vs)) zs (λ y o. ⊎_elim (λ l. inl (omega (arith, l, high))) (λ l. inr (omega (arith, l, low))) o) off) p.free;
         within = p.within;

@@ -13,6 +13,7 @@ use Rattle.ada_meaning.specs.Meaning
 use Rattle.ada_base.specs.Notes.{Schedule}
 use Rattle.ada_meaning.specs.Stored as stored
 use Rattle.ada_meaning.proofs.Cells.{some_same}
+use Rattle.stack_code.specs.Valid.{IsCountable}
 use Rattle.stack_code.specs.declared.code.Code.{Code}
 use Rattle.ada_base.specs.Cells.{Mine}
 use Rattle.stack_code.specs.Machine.{Done, begun}
@@ -72,12 +73,17 @@ fitted = (
   ),
 )
 
+-- no part of it is repeated too often
+countable : IsCountable code.instrs
+unfolding Rattle.ada_lower.specs.Emission.emit Rattle.ada_lower.specs.Emission.named_value Rattle.ada_lower.specs.Emission.selected Rattle.ada_lower.specs.Emission.read Rattle.ada_lower.specs.Emission.passed Rattle.ada_lower.specs.Emission.put_into Rattle.ada_lower.specs.Emission.composed Rattle.ada_lower.specs.Emission.associated Rattle.ada_lower.specs.Emission.component Rattle.ada_lower.specs.Emission.filtered Rattle.ada_lower.specs.Emission.iterated Rattle.ada_lower.specs.Emission.chunk_code Rattle.ada_lower.specs.Emission.course_code Rattle.ada_lower.specs.Emission.threaded Rattle.ada_lower.specs.Emission.back_code Rattle.ada_lower.specs.Emission.piece_values Rattle.ada_lower.specs.Emission.stmt Rattle.ada_lower.specs.Emission.all Rattle.ada_lower.specs.Emission.cases Rattle.ada_lower.specs.Emission.handling Rattle.ada_lower.specs.Emission.arm_codes
+countable = tt
+
 -- where the stored run gives a value, the machine ends with its output, and its first cell has the variable's last value
 pub comes : (limit : ℕ) (cuts : ℕ → ℕ → List ℕ) (slots : ℕ) (input before : List ℕ) (notes : Schedule) → let r = (Meaning.main (stored.noted_operations limit cuts) limit program).does (stored.noted_outset slots input before notes) in r.end ≡ Ok tt
     → (d : Dyn) × Finally limit code (On (record { state = begun 0 0 [] 0 0 0 None (replicate 4 (Mine (pos 0))); world = (first_dyn notes cuts 4 input before).world })) (record { how = Done None; dyn = d }) × (d.world.output ≡ r.state.output)
     × ((v : slot.Variable) → slice_get r.state.declared 0 ≡ Some v → (i : ℕ) → i < v.cells → (u : ℤ) × (slice_get r.state.kept (v.address + i) ≡ Some u) × (slice_get d.cells (0 + i) ≡ Some (Mine u)))
 comes limit cuts slots input before notes e =
-    let (d, a, b, t, w) = program_gives None limit cuts program code none_there none_main no_threads [] text four_each no_fork slots 4 refl (call_only limit cuts program (λ n sub e. absurd (none-some sub e)) 1000) (λ f fa depth all. record { forked = (λ rs e from to g env x s h st k en w l. absurd w); parallel = (λ t from to g env x s k u w l. absurd w) }) (λ n unit q. absurd (none-some unit q)) 0 29 stands fitted input before notes tt e in (
+    let (d, a, b, t, w) = program_gives None limit cuts program code none_there none_main no_threads [] text four_each no_fork slots 4 countable refl (call_only limit cuts program (λ n sub e. absurd (none-some sub e)) 1000) (λ f fa depth all. record { forked = (λ rs e from to g env x s h st k en w l. absurd w); parallel = (λ t from to g env x s k u w l. absurd w) }) (λ n unit q. absurd (none-some unit q)) 0 29 stands fitted input before notes tt e in (
       d,
       a,
       b,

@@ -1,5 +1,5 @@
 -- Numbers that are kept here and there: pieces, each from a cell on.
-use Rattle.std.proofs.Common.{◌≡◌, ℕ, suc, ◌+◌, ◌<◌, ◌≤◌, ℤ, List, [], ◌∷◌, ◌++◌, length, slice_get, nat_eq, refl, sym, ap, ◌∙◌, subst, arith, ◌⊎◌, inl, inr, ⊎_elim, cond}
+use Rattle.std.proofs.Common.{◌≡◌, ℕ, suc, ◌+◌, ◌<◌, ◌≤◌, ℤ, List, [], ◌∷◌, ◌++◌, length, slice_get, nat_eq, refl, sym, ap, ◌∙◌, subst, le_refl, arith, ◌⊎◌, inl, inr, ⊎_elim, cond}
 use Rattle.ada_meaning.specs.Stored as stored
 use Rattle.ada_meaning.specs.Stored.{Address}
 use Rattle.stack_code.specs.declared.code.Code.{Code}
@@ -164,12 +164,14 @@ loose_solid (StandsFor x p) ok e = cc
 
 pub ext_scattered : (a m : ℕ) (ps : List Piece) (g : Ghost) → AreIn m ps → AreFree a m g.what → Extends g (scattering a ps g)
 ext_scattered a m ps g in' free = record {
+  top = le_refl g.top;
   place = λ z i p e. e;
   solid = λ b w ok e. ⊎_elim (λ r. r ∙ e) (λ t. let (v, is, theirs) = t in absurd (loose_solid w ok (sym (theirs_free a m ps g.what b in' free theirs) ∙ e))) (scattered_cases a ps g.what b);
 }
 
 pub ext_kept : (a : ℕ) (vs : List ℤ) (g : Ghost) → AreFree a (length vs) g.what → Extends g (keeping a vs g)
 ext_kept a vs g free = record {
+  top = le_refl g.top;
   place = λ z i p e. e;
   solid = λ b w ok e. ⊎_elim
       (λ r. let (j, v, z, is) = r in absurd (loose_solid w ok (sym (free j (length_in vs j v is)) ∙ ap g.what z ∙ e)))

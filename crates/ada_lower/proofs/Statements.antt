@@ -78,7 +78,7 @@ module _ (limit : ℕ) (cuts : ℕ → ℕ → List ℕ) (program : Program) (c 
         let (m, l1, (j, l2)) = stands_seq c from to (emit program s.scope h e) (Emission.checked t.scope (h + 1) check.scalar ⨟ b) l in (
           m + 1,
           does_bind limit c f x (value_does limit cuts program c f x calls globals mains epar calls_do e from m s h st k en w l1) (λ v _.
-              does_bind limit c f x (does_check limit c f x RangeCheck check.at check.scalar.low check.scalar.high v (Values.is_in check.scalar v) st refl (at_entry en' j)) (λ _ _.
+              does_bind limit c f x (does_check limit c f x RangeCheck check.at check.scalar v (Values.is_in check.scalar v) st refl (at_entry en' j)) (λ _ _.
               does_ret limit c f x {to = λ cs d. on f (m + 1) (first_of cs ∷ st) d} (v ∷ []) refl)),
           l2,
         )
@@ -99,11 +99,11 @@ module _ (limit : ℕ) (cuts : ℕ → ℕ → List ℕ) (program : Program) (c 
         → ((from : Dyn → Step) → ((u : ℤ) (d : Dyn) → slice_get d.cells a ≡ Some (Mine u) → To limit c (from d) (on f to [] (record d { cells = set d.cells a (Mine v) }))) → Runs limit c f x g any (m tt) from (λ _ d. on f to [] d))
         → Runs limit c f x g any (stored.bind (stored.checks RangeCheck check.at (Values.is_in check.scalar v)) m) (λ d. on f q (v ∷ []) d) (λ _ d. on f to [] d)
     stored_does check v Own n a q to s m en lead (j, z) go =
-        does_bind limit c f x (does_within limit c f x RangeCheck check.at check.scalar.low check.scalar.high v (Values.is_in check.scalar v) [] refl (at_entry en j)) (λ _ is.
+        does_bind limit c f x (does_within limit c f x RangeCheck check.at n check.scalar v (Values.is_in check.scalar v) [] refl (at_entry en j)) (λ _ is.
         go (λ d. on f q (v ∷ []) d) (λ u d mine. subst (λ p. To limit c (on f q (v ∷ []) d) (on f p [] (record d { cells = set d.cells a (Mine v) }))) (sym z)
-        (comes_stores limit c f a v u (v ∷ []) [] d j (set_deed limit c f x q n check.scalar.low check.scalar.high v [] is ∙ ap (λ b. Stores (pos b) v (GoesOn (q + 1) f.below)) (sym lead)) mine)))
+        (comes_stores limit c f a v u (v ∷ []) [] d j (set_deed limit c f x q n check.scalar v f.below true is ∙ ap (λ b. Stores (pos b) v (GoesOn (q + 1) f.below)) (sym lead)) mine)))
     stored_does check v l n a q to s m en lead (j, (j', z)) go =
-        does_bind limit c f x (does_check limit c f x RangeCheck check.at check.scalar.low check.scalar.high v (Values.is_in check.scalar v) [] refl (at_entry en j)) (λ _ _.
+        does_bind limit c f x (does_check limit c f x RangeCheck check.at check.scalar v (Values.is_in check.scalar v) [] refl (at_entry en j)) (λ _ _.
         go (λ d. on f (q + 1) (v ∷ []) d) (λ u d mine. subst (λ p. To limit c (on f (q + 1) (v ∷ []) d) (on f p [] (record d { cells = set d.cells a (Mine v) }))) (sym z)
         (comes_stores limit c f a v u (v ∷ []) [] d j' (store_deed limit c f (q + 1) l n a v f.below lead) mine)))
 
@@ -142,7 +142,7 @@ module _ (limit : ℕ) (cuts : ℕ → ℕ → List ℕ) (program : Program) (c 
         let (m2, l3, (dup, (keep, l4))) = stands_seq c (from + 1) to (selected program s.scope 1 selections) (one s.scope 1 i.Dup ⨟ last) l2 in
         does_bind limit c f x
         (named_does limit cuts program c f x calls globals mains epar calls_do from (from + 1) n (VariableOf o.object) o.offset [] u j1 refl
-        (selected_does limit cuts program c f x calls globals mains epar calls_do selections (from + 1) m2 s 1 [] o u.address o.offset n.cells n.cells 1 k en ws reach (le_refl o.offset) (le_refl (o.offset + n.cells)) l3))
+        (selected_does limit cuts program c f x calls globals mains epar calls_do selections (from + 1) m2 s 1 [] o u.address o.offset n.cells n.cells 1 k en ws reach (le_refl o.offset) (le_refl (o.offset + n.cells)) u.spread.near l3))
         (λ p at_.
         let a : ℕ = u.address + (p.offset - o.offset) in
         let g1 : Ghost = set_what (f.base + s.scope.free) (Keeps (pos a)) g in
@@ -155,7 +155,7 @@ module _ (limit : ℕ) (cuts : ℕ → ℕ → List ℕ) (program : Program) (c 
         let refers : Refers g1 f (record { through = true; place = own s.scope.free; cells = 1 }) (VariableOf p.object) p.offset = record {
           address = a;
           leads = (f.base + s.scope.free, refl, inl (what_same g (f.base + s.scope.free) (Keeps (pos a))));
-          spread = record { cell = λ i lt. (pl, access, (let z : p.offset + i ≡ p.offset = omega (arith, lt) in subst (λ i. place_in g (VariableOf p.object) i ≡ Some pl) (sym z) here'), (let z : a + i ≡ a = omega (arith, lt) in subst (λ b. g1.what b ≡ StandsFor access pl) (sym z) (away a access pl stands))) };
+          spread = record { near = (let n = u.spread.near in let b = at_.1 in let b' = at_.2 in omega (arith, n, b, b')); cell = λ i lt. (pl, access, (let z : p.offset + i ≡ p.offset = omega (arith, lt) in subst (λ i. place_in g (VariableOf p.object) i ≡ Some pl) (sym z) here'), (let z : a + i ≡ a = omega (arith, lt) in subst (λ b. g1.what b ≡ StandsFor access pl) (sym z) (away a access pl stands))) };
         } in
         let (m3, num, (store, z3)) = number_does check e (m2 + 1 + 1) to t s 1 stores (pos a ∷ []) (knows_target _ p k1 refers) en en we l4 in
         does_bind limit c f x num (λ cs one'.
@@ -195,14 +195,14 @@ module _ (limit : ℕ) (cuts : ℕ → ℕ → List ℕ) (program : Program) (c 
         let some : s.scope.free < s.cells = omega (arith, room) in
         does_bind limit c f x
         (named_does limit cuts program c f x calls globals mains epar calls_do from m1 m (VariableOf o.object) o.offset [] u j1 z1
-        (selected_does limit cuts program c f x calls globals mains epar calls_do selections m1 m2 s 1 [] o u.address o.offset m.cells m.cells n k en ws reach (le_refl o.offset) (le_refl (o.offset + m.cells)) l3))
+        (selected_does limit cuts program c f x calls globals mains epar calls_do selections m1 m2 s 1 [] o u.address o.offset m.cells m.cells n k en ws reach (le_refl o.offset) (le_refl (o.offset + m.cells)) u.spread.near l3))
         (λ p at_.
         let a : ℕ = u.address + (p.offset - o.offset) in
         let b : ℕ = f.base + (s.scope.free + 1) in
         let g1 : Ghost = set_what (f.base + s.scope.free) (Keeps (pos a)) g in
         let part : Spread g (VariableOf p.object) p.offset n a = spread_of p o u.spread at_.0 at_.1 at_.2 in
         let away : (b : ℕ) (z : Access) (q : Address) → g.what b ≡ StandsFor z q → g1.what b ≡ StandsFor z q = (λ b z q e. (free_extends g (f.base + s.scope.free) (Keeps (pos a)) (k.free s.scope.free (le_refl s.scope.free) some)).solid b (StandsFor z q) tt e) in
-        let part1 : Spread g1 (VariableOf p.object) p.offset n a = record { cell = λ i lt. let (pl, access, here, stands) = part.cell i lt in (pl, access, here, away (a + i) access pl stands) } in
+        let part1 : Spread g1 (VariableOf p.object) p.offset n a = record { near = part.near; cell = λ i lt. let (pl, access, here, stands) = part.cell i lt in (pl, access, here, away (a + i) access pl stands) } in
         let refers : Refers g1 f (record { through = true; place = own s.scope.free; cells = n }) (VariableOf p.object) p.offset = record {
           address = a;
           leads = (f.base + s.scope.free, refl, inl (what_same g (f.base + s.scope.free) (Keeps (pos a))));
@@ -239,13 +239,14 @@ module _ (limit : ℕ) (cuts : ℕ → ℕ → List ℕ) (program : Program) (c 
         (does_before limit c f x (λ d. comes_goes limit c f (pos a ∷ []) (m3 + 1 + 1) (pos b ∷ pos a ∷ []) d local refl)
         (subst (λ q. Runs limit c f x g2 any (Meaning.write_all ops p.object p.offset cs) (λ d. on f (m3 + 1 + 1) (pos b ∷ pos a ∷ []) d) (λ _ d. on f q [] d)) (sym z)
         (does_copy_to limit cuts c f x p.object p.offset a b n (m3 + 1 + 1) cs n [] len (le_refl n)
-        (record { cell = λ i lt. let (pl, access, here, stands) = part1.cell i lt in (pl, access, here, out (a + i) (StandsFor access pl) stands (λ e. cc)) })
+        (record { near = part1.near; cell = λ i lt. let (pl, access, here, stands) = part1.cell i lt in (pl, access, here, out (a + i) (StandsFor access pl) stands (λ e. cc)) })
         (knows_kept {s = taking n (taking 1 s)} {env = env} (s.scope.free + 1) cs (omega (arith, len)) (omega (arith, room)) free' kt).one
         (λ i v e. laid_in b 0 kept_what cs g1.what i v e)
         (at_entry en copy))))))))
       where
         spread_of : {total a : ℕ} (p o : ObjectPart) → Spread g (VariableOf o.object) o.offset total a → p.object ≡ o.object → o.offset ≤ p.offset → p.offset + n ≤ o.offset + total → Spread g (VariableOf p.object) p.offset n (a + (p.offset - o.offset))
         spread_of {total} {a} p o w e le lt = record {
+          near = (let n = w.near in omega (arith, n, le, lt));
           cell = λ i il.
               let (pl, access, here, is) = w.cell (p.offset - o.offset + i) (omega (arith, il, le, lt)) in
               let z : o.offset + (p.offset - o.offset + i) ≡ p.offset + i = omega (arith, le) in
@@ -425,7 +426,7 @@ module _ (limit : ℕ) (cuts : ℕ → ℕ → List ℕ) (program : Program) (c 
       does_assoc limit c f x _ _ then
       (does_bind limit c f x (value_does limit cuts program c f x calls globals mains epar calls_do e from m (taking n s) 0 [] k en w.1 l1) (λ v _.
       does_assoc limit c f x _ _ then
-      (does_set limit c f x _ RangeCheck check.at m s.scope.free check.scalar.low check.scalar.high v [] (λ t d w. w) (own_free (g.what (f.base + s.scope.free)) free0) (at_entry en jk)
+      (does_set limit c f x _ RangeCheck check.at m s.scope.free check.scalar v [] (λ t d w. w) (own_free (g.what (f.base + s.scope.free)) free0) (at_entry en jk)
       (does_returned limit c f x then (v ∷ [])
       (subst (λ p. Doing limit c f x (keeping (f.base + s.scope.free) (v ∷ []) g) g q (then (v ∷ [])) (λ d. on f p [] d) goal) z (j (v ∷ []) m0 (sym one') lc))))))
   into_does {B} {g} {env} {q} {goal} x (Cells value) s n from to code then room k en w free l j =
@@ -567,6 +568,7 @@ module _ (limit : ℕ) (cuts : ℕ → ℕ → List ℕ) (program : Program) (c 
       (subst (λ q'. Doing limit c f z (items_at limit cuts c f s.scope.free a0 (pos 1) h g) g any (through stored.doings 0 (suc count) tt (λ i _. turn i)) (λ d. on f (start + 1 + 1) [] d) (λ _ d. on f q' [] d)) (sym be)
       (subst (λ a. Doing limit c f z (items_at limit cuts c f s.scope.free a (pos 1) h g) g any (through stored.doings 0 (suc count) tt (λ i _. turn i)) (λ d. on f (start + 1 + 1) [] d) (λ _ d. on f (o.mid + 1 + 1 + 1 + 1) [] d)) (let w : a0 + 0 * stride ≡ a0 = omega (arith, zero-mul stride) in w)
       (items_does limit cuts c f (λ _. []) z s k room stride a0 (start + 1 + 1) o.mid h (λ i _. turn i) b1 b2 b3 b4 count 0 tt (omega (arith, ints))
+      (λ i le. (let r = near_turn i (omega (arith, le)) in omega (arith, r)))
       (λ i _ le. iterate_does _ _ z (start + 1 + 1) o.mid k.most (at_entry u.entry o.turn.0)
       (body (start + 1) _ _ (start + 1 + 1 + 1) o.mid (knows_turn (start + 1) i (omega (arith, le))) (suits_turn (start + 1)) o.turn.1)))))))))))
     where
@@ -583,6 +585,12 @@ module _ (limit : ℕ) (cuts : ℕ → ℕ → List ℕ) (program : Program) (c 
       in_range : (i j : ℕ) → i ≤ count → j < stride → off + i * stride + j < total
       in_range i j le lt = let b : suc i * stride ≤ suc count * stride = mul-le-mul_right stride (let l : suc i ≤ suc count = omega (arith, le) in l) in omega (arith, b, suc-mul i stride, lt, fits)
 
+      near_turn : (i : ℕ) → i ≤ count → address + off + i * stride + stride ≤ g.top
+      near_turn i le =
+          let r = spread.near in
+          let b : suc i * stride ≤ suc count * stride = mul-le-mul_right stride (let l : suc i ≤ suc count = omega (arith, le) in l) in
+          omega (arith, r, b, suc-mul i stride, fits)
+
       knows_turn : (exit i : ℕ) → i ≤ count → Knows limit cuts (items_at limit cuts c f s.scope.free (address + off + i * stride) (pos 1 +ℤ pos i) (pos (suc count)) g) f (item_sight s (Some number) constant p stride exit) (Meaning.with_item constant p (Meaning.moved q (i * stride)) env)
       knows_turn exit i le =
           let e = extends_items limit cuts c f s k room (address + off + i * stride) (pos 1 +ℤ pos i) (pos (suc count)) in
@@ -591,6 +599,7 @@ module _ (limit : ℕ) (cuts : ℕ → ℕ → List ℕ) (program : Program) (c 
             address = address + off + i * stride;
             leads = (f.base + s.scope.free, refl, inl (item_at limit cuts c f s.scope.free (address + off + i * stride) (pos 1 +ℤ pos i) (pos (suc count)) g));
             spread = record {
+              near = near_turn i le;
               cell = λ j lt.
                   let (pl, access, here, stands) = spread.cell (off + i * stride + j) (in_range i j le lt) in
                   let w : first + (off + i * stride + j) ≡ q.offset + i * stride + j = omega (arith, qo) in
@@ -713,7 +722,7 @@ module _ (limit : ℕ) (cuts : ℕ → ℕ → List ℕ) (program : Program) (c 
           let (j1, z1) = address_stands limit cuts program c f x calls globals mains epar calls_do s 0 (Emission.array_root_of constant s.scope r) n from m1 e l1 in
           does_assoc limit c f x _ _ _
           (does_bind limit c f x (named_does limit cuts program c f x calls globals mains epar calls_do from m1 n (named_entity constant o.object) o.offset [] v j1 z1
-          (selected_does limit cuts program c f x calls globals mains epar calls_do selections m1 m2 s 1 [] o v.address o.offset n.cells n.cells (0 * stride) k u.entry ws reach (le_refl o.offset) (le_refl (o.offset + n.cells)) l3)) (λ q at_.
+          (selected_does limit cuts program c f x calls globals mains epar calls_do selections m1 m2 s 1 [] o v.address o.offset n.cells n.cells (0 * stride) k u.entry ws reach (le_refl o.offset) (le_refl (o.offset + n.cells)) v.spread.near l3)) (λ q at_.
           does_returned limit c f x _ _
           (does_keep limit c f x m2 s.scope.free (pos (v.address + (q.offset - o.offset))) [] (own_free (g.what (f.base + s.scope.free)) free1) (at_entry u.entry keep)
           (subst (λ q'. Doing limit c f x (set_what (f.base + s.scope.free) (Keeps (pos (v.address + (q.offset - o.offset)))) g) g any (stored.handles (through stored.doings 0 0 tt (λ j _. turn q j)) (Meaning.exits number) (λ _. stored.ret tt)) (λ d. on f q' [] d) (λ _ d. on f to [] d)) z2
@@ -730,7 +739,7 @@ module _ (limit : ℕ) (cuts : ℕ → ℕ → List ℕ) (program : Program) (c 
           let (j1, z1) = address_stands limit cuts program c f x calls globals mains epar calls_do s 0 (Emission.array_root_of constant s.scope r) n from m1 e l1 in
           does_assoc limit c f x _ _ _
           (does_bind limit c f x (named_does limit cuts program c f x calls globals mains epar calls_do from m1 n (named_entity constant o.object) o.offset [] v j1 z1
-          (selected_does limit cuts program c f x calls globals mains epar calls_do selections m1 m2 s 1 [] o v.address o.offset n.cells n.cells (suc count * stride) k u.entry ws reach (le_refl o.offset) (le_refl (o.offset + n.cells)) l3)) (λ q at_.
+          (selected_does limit cuts program c f x calls globals mains epar calls_do selections m1 m2 s 1 [] o v.address o.offset n.cells n.cells (suc count * stride) k u.entry ws reach (le_refl o.offset) (le_refl (o.offset + n.cells)) v.spread.near l3)) (λ q at_.
           does_returned limit c f x _ _
           (items_loop x s number p constant stride count filter (named_entity constant o.object) o.offset n.cells v.address (q.offset - o.offset) m2 to (λ t. all program t stmts) q (λ env. Meaning.holds ops limit program calls filter env) (λ env. executes stmts env) k u room v.spread
           (let b = at_.1 in omega (arith, b)) (let b = at_.1 in let b' = at_.2 in omega (arith, b, b')) (ap (λ z. named_entity constant z) at_.0) (subst (λ b. Stands c (Emission.keep s.scope 1 s.scope.free ⨟ cond b none turns) m2 to) some l4)
@@ -771,14 +780,14 @@ module _ (limit : ℕ) (cuts : ℕ → ℕ → List ℕ) (program : Program) (c 
           let (j1, z1) = address_stands limit cuts program c f x calls globals mains epar calls_do s 0 (root_of s.scope r) n from m1 is l1 in
           does_bind limit c f x
           (named_does limit cuts program c f x calls globals mains epar calls_do from m1 n (VariableOf o.object) o.offset [] v j1 z1
-          (selected_does limit cuts program c f x calls globals mains epar calls_do selections m1 m2 s 1 [] o v.address o.offset n.cells n.cells 1 k u.entry ws reach (le_refl o.offset) (le_refl (o.offset + n.cells)) l3))
+          (selected_does limit cuts program c f x calls globals mains epar calls_do selections m1 m2 s 1 [] o v.address o.offset n.cells n.cells 1 k u.entry ws reach (le_refl o.offset) (le_refl (o.offset + n.cells)) v.spread.near l3))
           (λ p at_.
           let a : ℕ = v.address + (p.offset - o.offset) in
           let (pl, access, here, stands) = v.spread.cell (p.offset - o.offset) (let b = at_.1 in let b' = at_.2 in omega (arith, b, b')) in
           let y : o.offset + (p.offset - o.offset) ≡ p.offset = (let b = at_.1 in omega (arith, b)) in
           let here' : place_in g (VariableOf p.object) p.offset ≡ Some pl = ap (λ z. place_in g (VariableOf z) p.offset) at_.0 ∙ ap (λ z. place_in g (VariableOf o.object) z) (sym y) ∙ here in
           does_bind limit c f x (does_got limit cuts c f x (pos a ∷ []) k.most (at_entry u.entry get)) (λ w _.
-          does_bind limit c f x (does_check limit c f x RangeCheck first scalar.low scalar.high w (Values.is_in scalar w) (pos a ∷ []) refl (at_entry u.entry check)) (λ _ _.
+          does_bind limit c f x (does_check limit c f x RangeCheck first scalar w (Values.is_in scalar w) (pos a ∷ []) refl (at_entry u.entry check)) (λ _ _.
           does_write limit c f x p.object p.offset a w pl access here' stands (λ b z e. k.one a b access z pl stands e)
           (λ t d mine. subst (λ q. To limit c (on f (m2 + 1 + 1) (w ∷ pos a ∷ []) d) (on f q [] (record d { cells = set d.cells a (Mine w) }))) (sym z)
           (comes_stores limit c f a w t (w ∷ pos a ∷ []) [] d store refl mine)))))

@@ -102,11 +102,11 @@ knows_least {g = g} {f = f} m k = record {
   one = k.one;
   old = k.old;
   hidden = k.hidden;
-  object = λ y n e. let r = k.object y n e in record { address = r.address; leads = leads_least n.through n.place r.address r.leads; spread = record { cell = r.spread.cell } };
+  object = λ y n e. let r = k.object y n e in record { address = r.address; leads = leads_least n.through n.place r.address r.leads; spread = record { near = r.spread.near; cell = r.spread.cell } };
   parameter = k.parameter;
-  item = λ y n e. let r = k.item y n e in record { address = r.address; leads = leads_least n.through n.place r.address r.leads; spread = record { cell = r.spread.cell } };
-  constant_item = λ y n e. let r = k.constant_item y n e in record { address = r.address; leads = leads_least n.through n.place r.address r.leads; spread = record { cell = r.spread.cell } };
-  target = λ n e. let r = k.target n e in record { address = r.address; leads = leads_least n.through n.place r.address r.leads; spread = record { cell = r.spread.cell } };
+  item = λ y n e. let r = k.item y n e in record { address = r.address; leads = leads_least n.through n.place r.address r.leads; spread = record { near = r.spread.near; cell = r.spread.cell } };
+  constant_item = λ y n e. let r = k.constant_item y n e in record { address = r.address; leads = leads_least n.through n.place r.address r.leads; spread = record { near = r.spread.near; cell = r.spread.cell } };
+  target = λ n e. let r = k.target n e in record { address = r.address; leads = leads_least n.through n.place r.address r.leads; spread = record { near = r.spread.near; cell = r.spread.cell } };
   handled = k.handled;
   free = k.free;
 }

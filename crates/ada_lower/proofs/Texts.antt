@@ -5,6 +5,7 @@ use Rattle.ada_base.specs.Image.{truth_image, padded}
 use Rattle.typed_tree.specs.declared.scalars.Class.{Class}
 use Rattle.typed_tree.specs.declared.scalars.Class.TheVariants as class
 use Rattle.typed_tree.specs.Syntax.{Expr, Static, Pieces, NoPiece, Text, Image, Padded, Program}
+use Rattle.ada_base.specs.declared.operation.Base.TheVariants.{Narrow, Wide, Modulo}
 use Rattle.ada_meaning.specs.Values
 use Rattle.ada_meaning.specs.Values.{truth}
 use Rattle.ada_meaning.specs.Operations.{Operations}
@@ -76,7 +77,9 @@ module _ (limit : ℕ) (cuts : ℕ → ℕ → List ℕ) (program : Program) (c 
 
   image_deed : (q : ℕ) (class : Class) (v : ℤ) (st : List ℤ) → deed_of c q (v ∷ st) f.base f.outward (Emission.image_instr class) ≡ Writes (Values.image_of class v) st
   image_deed q class.Boolean v st = ap (λ b. Writes (truth_image b) st) (truth_same v)
-  image_deed q (class.Integer base) v st = refl
+  image_deed q (class.Integer Narrow) v st = refl
+  image_deed q (class.Integer Wide) v st = refl
+  image_deed q (class.Integer (Modulo k)) v st = refl
   image_deed q class.Universal v st = refl
 
   pub text_comes : {g : Ghost} (s r : Sight) → ((b : List ℕ) → slice_get r.texts (r.scope.text b) ≡ Some b → slice_get c.texts (s.scope.text b) ≡ Some b) → (ps : Pieces) (us : List ℤ) (n from to : ℕ) (t : stored.State) (d : Dyn) (line : List ℕ) → length us ≡ Emission.piece_cells ps → FittedPieces program globals mains epar r ps

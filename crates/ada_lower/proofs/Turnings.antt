@@ -10,6 +10,7 @@ use Rattle.ada_lower.specs.Driven.{Dyn, Fixed, on, At}
 use Rattle.ada_lower.specs.Sights.{Sight, taking}
 use Rattle.ada_lower.specs.Fits.{Access, Free, Keeps, Ghost, Fit, Ends, Knows, Right, Stands as StandsFor}
 use Rattle.ada_lower.proofs.Framework.{To, comes_on, comes_goes}
+use Rattle.ada_lower.proofs.Names.{comes_field}
 use Rattle.ada_lower.proofs.Memory.{set_what, what_same, what_other, at_or_not, fit_set, fit_unset, fit_alike, own_keeps, knows_keep}
 use Rattle.ada_lower.proofs.Parts.{Fewer}
 use Rattle.ada_lower.proofs.Declared.{keeping, laid_out, laid_in, kept_what, among, length_in}
@@ -123,30 +124,30 @@ module _ (limit : ℕ) (cuts : ℕ → ℕ → List ℕ) (c : Code) (f : Fixed) 
       knows_alike (turns_at n a u v g).what (turn_address_behind n a u v g) (knows_three limit cuts c f s (knows_keep (pos a) room k2))
 
   -- the end of a turn, up to its count
-  pub turn_steps : {t : stored.State} {d : Dyn} {e1 e2 e3 : Option ℕ} (st : List ℤ) (g : Ghost) (n stride a at_ : ℕ) (u v : ℤ) → At c at_ (i.LoadL (n + 1 + 1)) e1 → At c (at_ + 1) (i.Field stride) e2 → At c (at_ + 1 + 1) (i.StoreL (n + 1 + 1)) e3 → Fit (turns_at n a u v g) t d
+  pub turn_steps : {t : stored.State} {d : Dyn} {e1 e2 e3 : Option ℕ} (st : List ℤ) (g : Ghost) (n stride a at_ : ℕ) (u v : ℤ) → At c at_ (i.LoadL (n + 1 + 1)) e1 → At c (at_ + 1) (i.Field stride) e2 → At c (at_ + 1 + 1) (i.StoreL (n + 1 + 1)) e3 → a ≤ g.top → Fit (turns_at n a u v g) t d
       → (d' : Dyn) × Fit (turns_at n (a + stride) u v g) t d' × To limit c (on f at_ st d) (on f (at_ + 1 + 1 + 1) st d')
-  turn_steps {t} {d} st g n stride a at_ u v j1 j2 j3 w =
+  turn_steps {t} {d} st g n stride a at_ u v j1 j2 j3 near w =
       let p : ℕ = f.base + (n + 1 + 1) in
       let is : slice_get d.cells p ≡ Some (Mine (pos a)) = subst (λ z. Right z t (slice_get d.cells p)) (turn_address n a u v g) (w.cells p) in (
         record d { cells = set d.cells p (Mine (pos (a + stride))) },
         fit_alike (turns_at n (a + stride) u v g).what (turn_address_last n a (a + stride) u v g) (fit_set p (pos (a + stride)) (own_keeps ((turns_at n a u v g).what p) (pos a) (turn_address n a u v g)) w),
         comes_on limit c (comes_kept limit cuts c f (n + 1 + 1) (pos a) st d w (turn_address n a u v g) j1)
-            (comes_on limit c (comes_goes limit c f (pos a ∷ st) (at_ + 1 + 1) (pos (a + stride) ∷ st) d j2 refl)
+            (comes_on limit c (comes_field limit c f stride a st d w near j2)
             (comes_stores limit c f p (pos (a + stride)) (pos a) (pos (a + stride) ∷ st) st d j3 refl is)),
       )
 
   -- the last turn
   pub turn_last : {t : stored.State} {d : Dyn} {e1 e2 e3 e4 : Option ℕ} (st : List ℤ) (g : Ghost) (n stride a mid head k : ℕ) (l v : ℤ) → At c mid (i.LoadL (n + 1 + 1)) e1 → At c (mid + 1) (i.Field stride) e2 → At c (mid + 1 + 1) (i.StoreL (n + 1 + 1)) e3 → At c (mid + 1 + 1 + 1) (i.Next n (n + 1) head) e4
-      → v ≡ l +ℤ pos k → Fit (turns_at n a (l +ℤ pos k) v g) t d → (d' : Dyn) × Fit (turns_at n (a + stride) (l +ℤ pos k) v g) t d' × To limit c (on f mid st d) (on f (mid + 1 + 1 + 1 + 1) st d')
-  turn_last {t} {d} st g n stride a mid head k l v j1 j2 j3 j4 is w =
-      let (d', w', goes) = turn_steps st g n stride a mid (l +ℤ pos k) v j1 j2 j3 w in
+      → v ≡ l +ℤ pos k → a ≤ g.top → Fit (turns_at n a (l +ℤ pos k) v g) t d → (d' : Dyn) × Fit (turns_at n (a + stride) (l +ℤ pos k) v g) t d' × To limit c (on f mid st d) (on f (mid + 1 + 1 + 1 + 1) st d')
+  turn_last {t} {d} st g n stride a mid head k l v j1 j2 j3 j4 is near w =
+      let (d', w', goes) = turn_steps st g n stride a mid (l +ℤ pos k) v j1 j2 j3 near w in
       (d', w', comes_on limit c goes (count_last limit cuts c f x (set_what (f.base + (n + 1 + 1)) (Keeps (pos (a + stride))) g) st false n head k l v j4 is w'))
 
   -- others go on
   pub turn_more : {t : stored.State} {d : Dyn} {e1 e2 e3 e4 : Option ℕ} (st : List ℤ) (g : Ghost) (n stride a mid head k m : ℕ) (l v : ℤ) → At c mid (i.LoadL (n + 1 + 1)) e1 → At c (mid + 1) (i.Field stride) e2 → At c (mid + 1 + 1) (i.StoreL (n + 1 + 1)) e3 → At c (mid + 1 + 1 + 1) (i.Next n (n + 1) head) e4
-      → v ≡ (l +ℤ pos k) +ℤ pos (suc m) → Fit (turns_at n a (l +ℤ pos k) v g) t d → (d' : Dyn) × Fit (turns_at n (a + stride) (l +ℤ pos (suc k)) v g) t d' × To limit c (on f mid st d) (on f head st d')
-  turn_more {t} {d} st g n stride a mid head k m l v j1 j2 j3 j4 is w =
-      let (d1, w1, goes) = turn_steps st g n stride a mid (l +ℤ pos k) v j1 j2 j3 w in
+      → v ≡ (l +ℤ pos k) +ℤ pos (suc m) → a ≤ g.top → Fit (turns_at n a (l +ℤ pos k) v g) t d → (d' : Dyn) × Fit (turns_at n (a + stride) (l +ℤ pos (suc k)) v g) t d' × To limit c (on f mid st d) (on f head st d')
+  turn_more {t} {d} st g n stride a mid head k m l v j1 j2 j3 j4 is near w =
+      let (d1, w1, goes) = turn_steps st g n stride a mid (l +ℤ pos k) v j1 j2 j3 near w in
       let (d2, w2, goes') = count_more limit cuts c f x (set_what (f.base + (n + 1 + 1)) (Keeps (pos (a + stride))) g) st false n head k m l v j4 is w1 in
       (d2, w2, comes_on limit c goes goes')
 

@@ -8,6 +8,7 @@ use Rattle.ada_base.specs.Notes.{Schedule}
 use Rattle.ada_meaning.specs.Stored as stored
 use Rattle.ada_meaning.specs.Meaning
 use Rattle.stack_code.specs.declared.code.Code.{Code}
+use Rattle.stack_code.specs.Valid.{IsCountable}
 use Rattle.stack_code.specs.Machine.{Done, begun}
 use Rattle.ada_base.specs.Cells.{Mine}
 use Rattle.ada_lower.specs.Driven.{Dyn, Fixed, Finally, On, on, off, Alike}
@@ -43,7 +44,7 @@ module _ (asked : Option Program) (lent : Bool → Sight → ℕ → CodeSite �
   abbrev pub Par : Sight → Stmt → Type 0
   Par = FittedForks program globals mains lent c depth
 
-  module _ (closed : AllClosed program) (same_texts : texts ≡ c.texts) (code : IsCodeOf program text c) (named : AreNamed program text globals) (fit : AllFit program text globals mains texts frames Folds Par c)
+  module _ (countable : IsCountable c.instrs) (closed : AllClosed program) (same_texts : texts ≡ c.texts) (code : IsCodeOf program text c) (named : AreNamed program text globals) (fit : AllFit program text globals mains texts frames Folds Par c)
       (fitted : MainFitted program globals mains texts text frames Folds Par (main_scope program globals mains texts text frames frame)) where
     pub pars : (f : Fixed) → f.asked ≡ asked → (n : ℕ) (all : (f' : Fixed) → Alike f' f → CallsDo limit cuts program globals mains c f' (Meaning.call ops limit program n)) → ForksDo limit cuts program globals mains Folds Par c f (Meaning.call ops limit program n) (λ rs. all (with_rounds rs f) (alike f))
     pars f fa n all = record {
@@ -57,10 +58,10 @@ module _ (asked : Option Program) (lent : Bool → Sight → ℕ → CodeSite �
     -- the main procedure's variables stand in their cells
     pub whole_does : (input before : List ℕ) (notes : Schedule) → AreSound asked ((Meaning.main ops limit program).visits (stored.noted_outset slots input before notes)) → let r = (Meaning.main ops limit program).does (stored.noted_outset slots input before notes) in
         Ending limit c (outermost asked) main_ends (main_variables program 0 program.body.decls) (on (outermost asked) 0 [] (first_dyn notes cuts frame input before)) 0 (λ d. off (Done None) d) r.state r.end
-    whole_does = program_does asked limit cuts program c globals mains Folds texts text frames Par slots frame same_texts (call_only limit cuts program closed 1000) pars stood 0 (main_to program globals mains texts text frames c code named) (main_there program globals mains texts text frames c code named frame) fitted
+    whole_does = program_does asked limit cuts program c globals mains Folds texts text frames Par slots frame countable same_texts (call_only limit cuts program closed 1000) pars stood 0 (main_to program globals mains texts text frames c code named) (main_there program globals mains texts text frames c code named frame) fitted
 
     -- where the stored run gives a value, the machine ends, with the same output, turns and finals
     pub whole_gives : (input before : List ℕ) (notes : Schedule) → AreSound asked ((Meaning.main ops limit program).visits (stored.noted_outset slots input before notes)) → let r = (Meaning.main ops limit program).does (stored.noted_outset slots input before notes) in r.end ≡ Ok tt
         → (d : Dyn) × Finally limit c (On (record { state = begun 0 0 [] 0 0 0 None (replicate frame (Mine (pos 0))); world = (first_dyn notes cuts frame input before).world })) (record { how = Done None; dyn = d }) × (d.world.output ≡ r.state.output) × (d.turns ≡ r.state.turns)
         × AreFinals (main_variables program 0 program.body.decls) r.state d
-    whole_gives = program_gives asked limit cuts program c globals mains Folds texts text frames Par slots frame same_texts (call_only limit cuts program closed 1000) pars stood 0 (main_to program globals mains texts text frames c code named) (main_there program globals mains texts text frames c code named frame) fitted
+    whole_gives = program_gives asked limit cuts program c globals mains Folds texts text frames Par slots frame countable same_texts (call_only limit cuts program closed 1000) pars stood 0 (main_to program globals mains texts text frames c code named) (main_there program globals mains texts text frames c code named frame) fitted

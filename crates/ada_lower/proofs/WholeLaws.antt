@@ -11,13 +11,13 @@ use Rattle.ada_lower.proofs.Constructs.{sited_law}
 use Rattle.ada_lower.proofs.Counted.{forks_law}
 
 pub whole_law : WholeLaw
-whole_law limit cuts within program c globals mains texts text frames slots frame depth low input before notes =
-    let (h, w, l) = whole_does None unleased limit cuts (not_lending limit cuts unleased) within program c globals mains texts text frames slots frame depth low.closed low.same_texts low.code low.named low.subs low.main input before notes tt in
+whole_law limit cuts within program c globals mains texts text frames slots frame depth low countable input before notes =
+    let (h, w, l) = whole_does None unleased limit cuts (not_lending limit cuts unleased) within program c globals mains texts text frames slots frame depth countable low.closed low.same_texts low.code low.named low.subs low.main input before notes tt in
     (h, l)
 
 pub value_law : ValueLaw
-value_law limit cuts within program c globals mains texts text frames slots frame depth low input before notes e =
-    whole_gives None unleased limit cuts (not_lending limit cuts unleased) within program c globals mains texts text frames slots frame depth low.closed low.same_texts low.code low.named low.subs low.main input before notes tt e
+value_law limit cuts within program c globals mains texts text frames slots frame depth low countable input before notes e =
+    whole_gives None unleased limit cuts (not_lending limit cuts unleased) within program c globals mains texts text frames slots frame depth countable low.closed low.same_texts low.code low.named low.subs low.main input before notes tt e
 
 pub forward_law : ForwardLaw
 forward_law program text c is = program_forward program text c is

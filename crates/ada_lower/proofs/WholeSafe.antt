@@ -15,6 +15,7 @@ use Rattle.check_effects.specs.Touching.{IsTeamCovered}
 use Rattle.check_effects.proofs.Accepting.{accept_law}
 use Rattle.check_effects.proofs.Touching.{touch_law}
 use Rattle.stack_code.specs.declared.code.Code.{Code}
+use Rattle.stack_code.specs.Valid.{IsCountable}
 use Rattle.stack_code.specs.declared.code.CodeSite.{CodeSite}
 use Rattle.stack_code.specs.Machine.{Done}
 use Rattle.ada_lower.specs.Driven.{Step, Safe, on, off}
@@ -44,7 +45,7 @@ accepted_sound program set slots input before notes within accepted alone =
     each (TeamOf t ∷ vs) o k = (((accept_law program accepted).1, o.0, k.0), each vs o.1 k.1)
 
 module _ (lent : Bool → Sight → ℕ → CodeSite → Type 0) (limit : ℕ) (cuts : ℕ → ℕ → List ℕ) (program : Program) (lending : Lending limit cuts (Some program) lent) (within : Within cuts) (c : Code) (globals : ℕ → Entity → Option Named) (mains : Entity → Bool) (texts : List (List ℕ)) (text : List ℕ → ℕ) (frames : ℕ → ℕ) (slots frame depth : ℕ)
-    (low : IsLoweredBy lent program c globals mains texts text frames frame depth) where
+    (low : IsLoweredBy lent program c globals mains texts text frames frame depth) (countable : IsCountable c.instrs) where
   abbrev first : List ℕ → List ℕ → Schedule → Step
   first input before notes = on (outermost (Some program)) 0 [] (first_dyn notes cuts frame input before)
 
@@ -62,18 +63,18 @@ module _ (lent : Bool → Sight → ℕ → CodeSite → Type 0) (limit : ℕ) (
   pub whole_safe : (input before : List ℕ) (notes : Schedule) → let m = Meaning.main (stored.noted_operations limit cuts) limit program in AreSound (Some program) (m.visits (stored.noted_outset slots input before notes))
       → ((m.does (stored.noted_outset slots input before notes)).end ≡ Err NoRoom → ⊥) → Safe limit c true (first input before notes)
   whole_safe input before notes sound room =
-      let (h, w, l) = whole_does (Some program) lent limit cuts lending within program c globals mains texts text frames slots frame depth low.closed low.same_texts low.code low.named low.subs low.main input before notes sound in
+      let (h, w, l) = whole_does (Some program) lent limit cuts lending within program c globals mains texts text frames slots frame depth countable low.closed low.same_texts low.code low.named low.subs low.main input before notes sound in
       lands_safe h (first input before notes) _ _ room l
 
 -- the same of an accepted program, under a setting's plan
 pub accepted_safe : (lent : Bool → Sight → ℕ → CodeSite → Type 0) (program : Program) (set : Setting) → IsAccepted program → Within (cuts_of set.plan) → Lending set.limit (cuts_of set.plan) (Some program) lent
-    → (c : Code) (globals : ℕ → Entity → Option Named) (mains : Entity → Bool) (texts : List (List ℕ)) (text : List ℕ → ℕ) (frames : ℕ → ℕ) (slots frame depth : ℕ) → IsLoweredBy lent program c globals mains texts text frames frame depth
+    → (c : Code) (globals : ℕ → Entity → Option Named) (mains : Entity → Bool) (texts : List (List ℕ)) (text : List ℕ → ℕ) (frames : ℕ → ℕ) (slots frame depth : ℕ) → IsLoweredBy lent program c globals mains texts text frames frame depth → IsCountable c.instrs
     → (input before : List ℕ) (notes : Schedule) → (set.one ≡ true → notes ≡ InOrder) → (((stored.noted program set).does (stored.noted_outset slots input before notes)).end ≡ Err NoRoom → ⊥)
     → Safe set.limit c true (on (outermost (Some program)) 0 [] (first_dyn notes (cuts_of set.plan) frame input before))
-accepted_safe lent program set accepted within lending c globals mains texts text frames slots frame depth low input before notes alone room =
-    whole_safe lent set.limit (cuts_of set.plan) program lending within c globals mains texts text frames slots frame depth low input before notes (accepted_sound program set slots input before notes within accepted alone) room
+accepted_safe lent program set accepted within lending c globals mains texts text frames slots frame depth low countable input before notes alone room =
+    whole_safe lent set.limit (cuts_of set.plan) program lending within c globals mains texts text frames slots frame depth low countable input before notes (accepted_sound program set slots input before notes within accepted alone) room
 
 -- whatever its constructs go through
 pub view_law : ViewLaw
-view_law program set accepted within c globals mains texts text frames slots frame depth low input before notes alone room =
-    accepted_safe (leased program) program set accepted within (lending_leased set.limit (cuts_of set.plan) program) c globals mains texts text frames slots frame depth low input before notes alone room
+view_law program set accepted within c globals mains texts text frames slots frame depth low countable input before notes alone room =
+    accepted_safe (leased program) program set accepted within (lending_leased set.limit (cuts_of set.plan) program) c globals mains texts text frames slots frame depth low countable input before notes alone room

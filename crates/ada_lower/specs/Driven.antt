@@ -3,6 +3,7 @@ use Rattle.std.specs.Prelude.{◌≡◌, ℕ, zero, suc, ◌-◌, max, min, ℤ,
 use Rattle.std.specs.Int.{int_min, int_max}
 use Rattle.ada_base.specs.Cuts.{evens}
 use Rattle.ada_base.specs.declared.operation.Base.{Base}
+use Rattle.ada_base.specs.declared.operation.Base.TheVariants.{Modulo}
 use Rattle.ada_base.specs.declared.operation.Op.{Op}
 use Rattle.ada_base.specs.declared.operation.Op.TheVariants as op
 use Rattle.ada_base.specs.declared.reason.Reason.TheVariants as reason
@@ -17,7 +18,7 @@ use Rattle.stack_code.specs.declared.code.Reducer.{Reducer}
 use Rattle.stack_code.specs.declared.path.Asked.{Asked}
 use Rattle.stack_code.specs.declared.path.Gave.{Gave}
 use Rattle.stack_code.specs.declared.path.Round.{Round}
-use Rattle.stack_code.specs.Deeds.{applied, bit, truth, differ}
+use Rattle.stack_code.specs.Deeds.{on_range, applied, bit, truth, differ}
 use Rattle.ada_base.specs.declared.reason.Reason.{Reason}
 use Rattle.ada_base.specs.Input.{Held}
 use Rattle.ada_meaning.specs.Deeds.{Deed, PutOut}
@@ -281,19 +282,24 @@ module _ (c : Code) where
 
   -- a reduction's accumulators, combined from the left where that is by an operator; without a thread there is the initial
   -- value. A loop or block has no answer
+  abbrev pub plain_applied : Op → Base → ℤ → ℤ → Option ℤ
+  plain_applied op.And b x y = Some (int_min x y)
+  plain_applied op.Or b x y = Some (int_max x y)
+  plain_applied op.Xor b x y = Some (bit (differ (truth x) (truth y)))
+  plain_applied op.Add b x y = on_range op.Add b x y
+  plain_applied op.Sub b x y = on_range op.Sub b x y
+  plain_applied op.Mul b x y = on_range op.Mul b x y
+  plain_applied op.Div b x y = on_range op.Div b x y
+  plain_applied op.Mod b x y = on_range op.Mod b x y
+  plain_applied op.Rem b x y = on_range op.Rem b x y
+  plain_applied op.Pow b x y = on_range op.Pow b x y
+  plain_applied op.Max b x y = Some (int_max x y)
+  plain_applied op.Min b x y = Some (int_min x y)
+
+  -- on numbers of a modular type each operator is that of the type
   abbrev pub op_applied : Op → Base → ℤ → ℤ → Option ℤ
-  op_applied op.And b x y = Some (int_min x y)
-  op_applied op.Or b x y = Some (int_max x y)
-  op_applied op.Xor b x y = Some (bit (differ (truth x) (truth y)))
-  op_applied op.Add b x y = applied op.Add b x y
-  op_applied op.Sub b x y = applied op.Sub b x y
-  op_applied op.Mul b x y = applied op.Mul b x y
-  op_applied op.Div b x y = applied op.Div b x y
-  op_applied op.Mod b x y = applied op.Mod b x y
-  op_applied op.Rem b x y = applied op.Rem b x y
-  op_applied op.Pow b x y = applied op.Pow b x y
-  op_applied op.Max b x y = Some (int_max x y)
-  op_applied op.Min b x y = Some (int_min x y)
+  op_applied o (Modulo k) x y = applied o (Modulo k) x y
+  op_applied o b x y = plain_applied o b x y
 
   abbrev pub combine_by : Reducer → ℤ → ℤ → Option ℤ
   combine_by r x y = op_applied r.op r.base x y

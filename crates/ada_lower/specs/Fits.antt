@@ -153,8 +153,9 @@ abbrev pub Leads : Bool → Ghost → Fixed → Where → ℕ → Type 0
 Leads true g f w b = (a : ℕ) × IsAt f w.level w.cell a × IsNumber (g.what a) (pos b)
 Leads false g f w b = IsAt f w.level w.cell b
 
--- so many cells of an object, from one on, stand at an address
+-- so many cells of an object, from one on, stand at an address, in memory
 pub record Spread (g : Ghost) (x : Entity) (first count address : ℕ) : Type 0 where
+  pub near : address + count ≤ g.top
   pub cell : (i : ℕ) → i < count → (pl : Address) × (access : Access) × (place_in g x (first + i) ≡ Some pl) × (g.what (address + i) ≡ Stands access pl)
 
 pub record Refers (g : Ghost) (f : Fixed) (n : Named) (x : Entity) (first : ℕ) : Type 0 where
@@ -169,6 +170,7 @@ Holds g f w v = (a : ℕ) × IsAt f w.level w.cell a × IsNumber (g.what a) v
 abbrev pub AtMain : Ghost → Named → Entity → Type 0
 AtMain g n y = (m : ℕ) × (n ≡ record { through = false; place = record { level = Main; cell = m }; cells = n.cells }) × ((slot_at g.everywhere (key y)).frame ≡ 1)
     × ((i : ℕ) → i < n.cells → (pl : Address) × (access : Access) × (within Kept (slot_at g.everywhere (key y)) i ≡ Some pl) × (g.what (m + i) ≡ Stands access pl))
+    × (m + n.cells ≤ g.top)
 
 -- what the scope says of names
 pub record Knows (limit : ℕ) (cuts : ℕ → ℕ → List ℕ) (g : Ghost) (f : Fixed) (s : Sight) (env : Env) : Type 0 where

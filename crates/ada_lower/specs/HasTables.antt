@@ -9,7 +9,7 @@ use Rattle.stack_code.specs.declared.code.CodeSite.{CodeSite}
 use Rattle.stack_code.specs.declared.code.CodeSub.{CodeSub}
 use Rattle.stack_code.specs.declared.code.Lease.{Lease}
 use Rattle.stack_code.specs.declared.instr.Instr.TheVariants.{Fork, Words}
-use Rattle.stack_code.specs.Valid.{Each, Has, HasFrame, HasStack, LeaseFits}
+use Rattle.stack_code.specs.Valid.{Each, FoldFits, Has, HasFrame, HasStack, LeaseFits}
 use Rattle.lower_emission.specs.declared.types.Placed.{Placed}
 use Rattle.lower_emission.specs.Emits.{listed}
 use Rattle.lower_emission.specs.Programs.{has_result, whole_code, placed_code, code_of}
@@ -32,6 +32,7 @@ module _ (program : Program) (text : List ℕ → ℕ) (c : Code) where
     pub no_more : (k : ℕ) (s : CodeSub) → slice_get c.subs (k + 1) ≡ Some s → (unit : Sub) × (sub_at program.subs k ≡ Some unit)
     -- a fork's construct is there, and each construct has a fork (5.5, 5.6.1, 4.5.10)
     pub forks : (q site : ℕ) (p : Placed) → Lists q p → p.instr ≡ Fork site → Has c.sites site (λ s. (s.entry ≡ q + 1 + 1) × (4 ≤ s.frame) × (s.around ≡ p.body) × (s.kind ≡ p.kind))
+    pub folds : (q site : ℕ) (p : Placed) → Lists q p → p.instr ≡ Fork site → FoldFits p.kind
     pub sites : (site : ℕ) (s : CodeSite) → slice_get c.sites site ≡ Some s → (q : ℕ) × (p : Placed) × Lists q p × (p.instr ≡ Fork site)
     -- one that stands in the threads of another has the greater number
     pub earlier : (site outer : ℕ) (s : CodeSite) → slice_get c.sites site ≡ Some s → s.around ≡ Site outer → outer < site

@@ -17,7 +17,7 @@ use Rattle.ada_lower.specs.Sights.{Sight}
 use Rattle.stack_code.specs.Machine.{Done, begun}
 use Rattle.stack_code.specs.Stands.{IsForward}
 use Rattle.ada_lower.specs.Sights.{Named}
-use Rattle.stack_code.specs.Valid.{IsValid}
+use Rattle.stack_code.specs.Valid.{IsCountable, IsValid}
 use Rattle.lower_emission.specs.Programs.{text_in, code_of}
 use Rattle.ada_lower.specs.Homes.{main_variables}
 use Rattle.ada_lower.specs.Driven.{Dyn, Finally, On, Safe, on, off}
@@ -51,10 +51,11 @@ abbrev pub IsLowered : (program : Program) (c : Code) (globals : ℕ → Entity 
 IsLowered program c globals mains texts text frames frame depth = IsLoweredBy unleased program c globals mains texts text frames frame depth
 
 -- The machine on the code lands where the program's run by notes ends: where that gives a value, is left by an exception,
--- has spent its turns, is cut or doesn't fit its notes.
+-- has spent its turns, is cut or doesn't fit its notes. Here and below no part of the code is repeated so often that the numbers
+-- of its rounds aren't in 64 bits.
 abbrev pub WholeLaw : Type 0
 WholeLaw = (limit : ℕ) (cuts : ℕ → ℕ → List ℕ) → Within cuts
-    → (program : Program) (c : Code) (globals : ℕ → Entity → Option Named) (mains : Entity → Bool) (texts : List (List ℕ)) (text : List ℕ → ℕ) (frames : ℕ → ℕ) (slots frame depth : ℕ) → IsLowered program c globals mains texts text frames frame depth
+    → (program : Program) (c : Code) (globals : ℕ → Entity → Option Named) (mains : Entity → Bool) (texts : List (List ℕ)) (text : List ℕ → ℕ) (frames : ℕ → ℕ) (slots frame depth : ℕ) → IsLowered program c globals mains texts text frames frame depth → IsCountable c.instrs
     → (input before : List ℕ) (notes : Schedule) → let r = (Meaning.main (stored.noted_operations limit cuts) limit program).does (stored.noted_outset slots input before notes) in
     (h : Ghost) × Lands limit c (outermost None) main_ends (λ u. Unit {0}) h (on (outermost None) 0 [] (first_dyn notes cuts frame input before)) 0 (λ u d. off (Done None) d) r.state r.end
 
@@ -72,7 +73,7 @@ pub record AreFinals (ms : List Variable) (t : stored.State) (d : Dyn) : Type 0 
 -- Where the run gives a value, the machine is done, with the same output, the same turns and the same variables.
 abbrev pub ValueLaw : Type 0
 ValueLaw = (limit : ℕ) (cuts : ℕ → ℕ → List ℕ) → Within cuts
-    → (program : Program) (c : Code) (globals : ℕ → Entity → Option Named) (mains : Entity → Bool) (texts : List (List ℕ)) (text : List ℕ → ℕ) (frames : ℕ → ℕ) (slots frame depth : ℕ) → IsLowered program c globals mains texts text frames frame depth
+    → (program : Program) (c : Code) (globals : ℕ → Entity → Option Named) (mains : Entity → Bool) (texts : List (List ℕ)) (text : List ℕ → ℕ) (frames : ℕ → ℕ) (slots frame depth : ℕ) → IsLowered program c globals mains texts text frames frame depth → IsCountable c.instrs
     → (input before : List ℕ) (notes : Schedule) → let r = (Meaning.main (stored.noted_operations limit cuts) limit program).does (stored.noted_outset slots input before notes) in r.end ≡ Ok tt
     → (d : Dyn) × Finally limit c (On (record { state = begun 0 0 [] 0 0 0 None (replicate frame (Mine (pos 0))); world = (first_dyn notes cuts frame input before).world })) (record { how = Done None; dyn = d })
     × (d.world.output ≡ r.state.output) × (d.turns ≡ r.state.turns)
@@ -83,7 +84,7 @@ ValueLaw = (limit : ℕ) (cuts : ℕ → ℕ → List ℕ) → Within cuts
 -- constructs may write, by the position of an item where those go through an array, and the run's tables of slots have room.
 abbrev pub ViewLaw : Type 0
 ViewLaw = (program : Program) (set : Setting) → IsAccepted program → Within (cuts_of set.plan)
-    → (c : Code) (globals : ℕ → Entity → Option Named) (mains : Entity → Bool) (texts : List (List ℕ)) (text : List ℕ → ℕ) (frames : ℕ → ℕ) (slots frame depth : ℕ) → IsLoweredBy (leased program) program c globals mains texts text frames frame depth
+    → (c : Code) (globals : ℕ → Entity → Option Named) (mains : Entity → Bool) (texts : List (List ℕ)) (text : List ℕ → ℕ) (frames : ℕ → ℕ) (slots frame depth : ℕ) → IsLoweredBy (leased program) program c globals mains texts text frames frame depth → IsCountable c.instrs
     → (input before : List ℕ) (notes : Schedule) → (set.one ≡ true → notes ≡ InOrder) → (((stored.noted program set).does (stored.noted_outset slots input before notes)).end ≡ Err stored.NoRoom → ⊥)
     → Safe set.limit c true (on (outermost (Some program)) 0 [] (first_dyn notes (cuts_of set.plan) frame input before))
 

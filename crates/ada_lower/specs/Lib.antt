@@ -15,13 +15,10 @@ pub mod Fits
 pub mod Defaults
 pub mod Fitted
 pub mod Bodies
-pub mod Forks
-pub mod ForkViews
 pub mod FittedForks
 pub mod ProgramCode
 pub mod Ready
 pub mod HasTables
-pub mod Sited
 pub mod Outset
 pub mod Law
 pub mod HomesLaw

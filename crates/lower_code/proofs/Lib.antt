@@ -6,6 +6,7 @@ pub mod Grown
 pub mod Leavings
 pub mod Levels
 pub mod Missing
+pub mod Narrow
 pub mod Parallels
 pub mod Programs
 pub mod Reading

@@ -213,12 +213,7 @@ fn handling(env: &Env<'_>, d: u32, id: u32, out: &mut Emitter)
 fn push_reason(env: &Env<'_>, reason: Reason, out: &mut Emitter)
     ensures { Emits (one (env_of env.now) 1 (i.Push (pos (reason_number reason)))) out.old out.new }
 {
-    match i64::try_from(reason_number(reason)) {
-        Ok(number) => out.put(env, 1, Instr::Push(number)),
-        Err(_) => {
-            out.whole = false;
-        }
-    }
+    out.put(env, 1, Instr::Push(reason_number(reason) as i64));
 }
 
 /// Whether the number in a cell is that of one of some reasons.

@@ -126,6 +126,7 @@ fn start(env: &Env<'_>, sub: Sub, out: &mut Emitter, subs: &mut Items<Start>)
     };
     if subs.push(begun).is_err() {
         out.whole = false;
+        out.short = true;
     }
 }
 

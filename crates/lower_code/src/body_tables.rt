@@ -1,8 +1,9 @@
 //! The tables of bodies: of subprograms, and of the threads of constructs.
 
-ghost use Rattle.std.specs.Prelude.{◌≡◌, ◌++◌, [], drop, get_or, replicate, IfOk, OnOk};
+ghost use Rattle.std.specs.Prelude.{◌≡◌, ◌+◌, ◌++◌, [], ◌&&◌, drop, get_or, is_ok, replicate, IfOk, OnOk};
 ghost use Rattle.std.specs.Vec.Iter.{into_iter_items};
 ghost use Rattle.lower_emission.specs.Programs as programs;
+ghost use Rattle.lower_values.specs.Words.{is_narrow};
 ghost use Rattle.lower_code.specs.BodyTables as spec;
 ghost use Rattle.lower_code.specs.BodyTables.{each};
 
@@ -62,7 +63,8 @@ fn raise_subs(code: &[Placed], subs: &mut Items<Start>)
 }
 
 fn sub_by(start: Start) -> Result<CodeSub, AllocError>
-    ensures { IfOk result (λ sub. sub ≡ programs.sub_by start.entry start.need start.gives) }
+    ensures is { IfOk result (λ sub. sub ≡ programs.sub_by start.entry start.need start.gives) }
+    ensures fits { is_ok result ≡ is_narrow (start.need.cells + 1) }
 {
     Ok(CodeSub {
         entry: start.entry,
@@ -162,7 +164,8 @@ fn fresh_sites(count: usize, alloc: Global) -> Result<Items<Begun>, AllocError>
 }
 
 fn site_by(begun: Begun, leases: Items<Lease>) -> Result<CodeSite, AllocError>
-    ensures { IfOk result (λ site. site ≡ programs.site_by begun.fork begun.need leases) }
+    ensures is { IfOk result (λ site. site ≡ programs.site_by begun.fork begun.need leases) }
+    ensures fits { is_ok result ≡ (is_narrow (begun.fork.place + 2) && is_narrow (begun.need.cells + 1)) }
 {
     Ok(CodeSite {
         entry: begun.fork.place.checked_add(2).ok_or(AllocError)?,

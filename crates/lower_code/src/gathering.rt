@@ -1,10 +1,10 @@
 //! The texts of a program (A.10.7), gathered in the order in which they stand.
 
-ghost use Rattle.std.specs.Prelude.{◌≡◌, ◌<◌, ◌∷◌, [], IfSome};
+ghost use Rattle.std.specs.Prelude.{◌≡◌, ◌<◌, ◌+◌, ◌∷◌, [], ◌&&◌, IfSome};
 ghost use Rattle.typed_tree.specs.Decoded.{alternatives_at, arms_at, as_bytes, body_at, handlers_at, part_at, pieces_at, stmt_at, stmts_at};
 ghost use Rattle.lower_emission.specs.Texts as spec;
 ghost use Rattle.lower_code.specs.Gathered.{Counts, Gathers};
-ghost use Rattle.lower_values.specs.Words.{program_of};
+ghost use Rattle.lower_values.specs.Words.{is_narrow, program_of};
 
 use lower_values::texts::{Texts, bytes_of};
 use std::alloc::Global;
@@ -156,8 +156,10 @@ fn of_body(typed: &Typed, id: u32, out: &mut Gathering)
 }
 
 /// The number behind one, if there is room for it.
+#[tactic(auto, using(crate::proofs::Narrow::flag_kept, crate::proofs::Narrow::flag_lost))]
 fn next(number: u32, out: &mut Gathering) -> u32
-    ensures { Counts number out.old result out.new }
+    ensures counts { Counts number out.old result out.new }
+    ensures fits { out.new.whole ≡ (out.old.whole && is_narrow (number + 1)) }
 {
     match number.checked_add(1) {
         Some(found) => found,

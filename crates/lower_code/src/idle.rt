@@ -61,6 +61,7 @@ pub fn idle_forks(env: &Env<'_>, out: &mut Emitter, alloc: Global)
         Ok(flags) => missing_forks(env, flags.as_slice(), out),
         Err(_) => {
             out.whole = false;
+            out.short = true;
         }
     }
 }

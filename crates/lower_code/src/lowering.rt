@@ -53,6 +53,7 @@ fn laid_out<'a>(typed: &'a Typed, texts: &'a Texts, alloc: Global) -> Option<Lai
     let mut out = Emitter {
         code: Items::new(alloc),
         whole: true,
+        short: false,
     };
     let env = Env {
         typed,

@@ -5,8 +5,9 @@ ghost use Rattle.typed_tree.specs.Decoded.{as_bytes, expr_at, part_at, pieces_at
 ghost use Rattle.lower_emission.specs.Emission.{emit};
 ghost use Rattle.lower_emission.specs.Statements as spec;
 ghost use Rattle.lower_emission.specs.Scope.{◌⨟◌, keep, one, taking};
-ghost use Rattle.lower_values.specs.Words.{env_of, nodes, place, tables, Emits, Finds, Learns};
+ghost use Rattle.lower_values.specs.Words.{env_of, is_narrow, nodes, place, tables, Emits, Finds, Fits, Learns};
 
+use ada_base::Base;
 use lower_values::exprs::emit;
 use lower_values::texts::bytes_of;
 use lower_values::types::{Emitter, Env};
@@ -53,13 +54,16 @@ fn image_instr(class: Class) -> Instr
 {
     match class {
         Class::Boolean => Instr::Bool,
+        Class::Integer(Base::Modulo(_)) => Instr::UImg,
         Class::Integer(_) | Class::Universal => Instr::Img,
     }
 }
 
 /// A static width.
+#[tactic(auto, using(lower_values::proofs::Fitting::fits_kept, lower_values::proofs::Fitting::fits_lost))]
 fn width_of(env: &Env<'_>, id: u32, out: &mut Emitter) -> u32
-    ensures { Finds (spec.width_of (expr_at (nodes env.now) id)) out.old result out.new }
+    ensures finds { Finds (spec.width_of (expr_at (nodes env.now) id)) out.old result out.new }
+    ensures fits { Fits (is_narrow (spec.width_of (expr_at (nodes env.now) id))) out.old out.new }
 {
     match env.typed.nodes.expr(id) {
         Expr::Static { value, .. } => {
@@ -106,18 +110,32 @@ fn texts(env: &Env<'_>, d: u32, id: u32, out: &mut Emitter)
     }
 }
 
-/// The number of the text of a piece.
-fn text_number(env: &Env<'_>, bytes: u32, out: &mut Emitter) -> u32
-    ensures { Finds (place env.now.texts.now (as_bytes (part_at (nodes env.now) bytes))) out.old result out.new }
+/// The number of a text.
+#[tactic(auto, using(lower_values::proofs::Fitting::fits_kept, lower_values::proofs::Fitting::fits_lost))]
+fn place_of(env: &Env<'_>, text: &Vec<u8>, out: &mut Emitter) -> u32
+    ensures finds { Finds (place env.now.texts.now text.now.items) out.old result out.new }
+    ensures fits { Fits (is_narrow (place env.now.texts.now text.now.items)) out.old out.new }
 {
-    let found = match bytes_of(env.typed, bytes, env.texts.alloc()) {
-        Ok(text) => env.texts.place(&text),
-        Err(error) => Err(error),
-    };
-    match found {
+    match env.texts.place(text) {
         Ok(number) => number,
         Err(_) => {
             out.whole = false;
+            0
+        }
+    }
+}
+
+/// The number of the text of a piece.
+#[tactic(auto, using(lower_values::proofs::Fitting::fits_short))]
+fn text_number(env: &Env<'_>, bytes: u32, out: &mut Emitter) -> u32
+    ensures finds { Finds (place env.now.texts.now (as_bytes (part_at (nodes env.now) bytes))) out.old result out.new }
+    ensures fits { Fits (is_narrow (place env.now.texts.now (as_bytes (part_at (nodes env.now) bytes)))) out.old out.new }
+{
+    match bytes_of(env.typed, bytes, env.texts.alloc()) {
+        Ok(text) => place_of(env, &text, out),
+        Err(_) => {
+            out.whole = false;
+            out.short = true;
             0
         }
     }

@@ -18,7 +18,7 @@ use lower_values::aggregates::{composed, reached};
 use lower_values::calls::{Window, call, target_cell};
 use lower_values::cells::{cells_of, composite_width};
 use lower_values::exprs::{address, checked, emit, is_whole, lost, selected};
-use lower_values::instrs::{address_of, load_of, store_at};
+use lower_values::instrs::{address_of, load_of, set_instr, store_at};
 use lower_values::types::{Emitter, Env};
 use stack_code::{Around, Instr};
 use typed_tree::{Actual, Check, Scalar, Value};
@@ -52,8 +52,7 @@ fn assign_whole(env: &Env<'_>, named: Named, check: Check, id: u32, out: &mut Em
     emit(&env.with_target(named, env.free), 0, id, out);
     match named.place.level {
         Level::Own => {
-            let set = Instr::SetL(named.place.cell, check.scalar.low, check.scalar.high);
-            out.put(env, 1, set);
+            out.put(env, 1, set_instr(check.scalar, named.place.cell));
         }
         Level::Around(_) | Level::Main => {
             checked(env, 0, check.scalar, out);

@@ -1,7 +1,8 @@
 //! The tables of the code of a program that go by its instructions alone: these, the spots of each, and its unwind entries.
 
-ghost use Rattle.std.specs.Prelude.{◌≡◌, ◌+◌, ◌<◌, ◌++◌, ◌∷◌, [], None, Some, cond, drop, slice_get, IfOk, OnOk, IfSome};
+ghost use Rattle.std.specs.Prelude.{◌≡◌, ◌+◌, ◌<◌, ◌++◌, ◌∷◌, [], None, Some, cond, drop, slice_get, is_some, IfOk, OnOk, IfSome};
 ghost use Rattle.lower_emission.specs.Tables as spec;
+ghost use Rattle.lower_values.specs.Words.{is_narrow};
 
 use ada_base::Items;
 use lower_emission::types::Placed;
@@ -69,7 +70,8 @@ fn begins(before: Option<u32>, here: Option<u32>) -> bool
 
 /// How many stretches have begun, with that which begins here.
 fn begun_by(before: Option<u32>, here: Option<u32>, begun: u32) -> Option<u32>
-    ensures { IfSome result (λ k. k ≡ spec.begun_by before here begun) }
+    ensures is { IfSome result (λ k. k ≡ spec.begun_by before here begun) }
+    ensures fits { is_some result ≡ is_narrow (spec.begun_by before here begun) }
 {
     if begins(before, here) {
         begun.checked_add(1)

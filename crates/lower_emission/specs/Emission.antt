@@ -20,8 +20,9 @@ use Rattle.typed_tree.specs.declared.program.Mode.TheVariants as mode
 use Rattle.typed_tree.specs.Syntax.{Expr, Static, Variable, Constant, Parameter, Target, Group, Unary, Binary, AndThen, OrElse, Relation, Membership, If, Call, Convert, Reduction, Optional, Absent, Present, Selections, Whole, Field, Index, Actuals, NoActual, In, InOut, Out, CompositeInOut, CompositeOut, Value, Number, Cells, Composite, WholeVariable, WholeConstant, WholeTarget, CompositeIf, Aggregate, Associations, NoAssociation, Association, Iteration, Range, Components, Chunk, NoChunk, Count, Each, Sub, Program}
 pub use Rattle.typed_tree.specs.Statics.{is_whole}
 pub use Rattle.lower_emission.specs.Repeats.{is_plain, is_repeated}
-use Rattle.ada_meaning.specs.Values.{layout, base_of}
+use Rattle.ada_meaning.specs.Values.{layout, base_of, is_modular, modular_digits}
 use Rattle.ada_meaning.specs.Meaning.{object_layout, most_threads}
+use Rattle.ada_base.specs.declared.operation.Base.TheVariants.{Wide}
 use Rattle.stack_code.specs.declared.code.Reducer as site
 use Rattle.stack_code.specs.declared.code.SiteKind.{SiteKind}
 use Rattle.stack_code.specs.declared.code.SiteKind.TheVariants as kind
@@ -38,8 +39,12 @@ use Rattle.lower_emission.specs.Scope.{Scope, own, taking, nested, thread_scope,
 abbrev pub lost : Scope → ℕ → Emit
 lost s h = one s h (i.Raise reason.ProgramError)
 
+-- numbers of modular types are compared as such
+abbrev pub check_instr : Scalar → Instr
+check_instr k = cond (is_modular k.class) (i.URange k.low k.high) (i.Range k.low k.high)
+
 abbrev pub checked : Scope → ℕ → Scalar → Emit
-checked s h k = one s h (i.Range k.low k.high)
+checked s h k = one s h (check_instr k)
 
 -- ---- names (4.1)
 
@@ -118,12 +123,16 @@ component_value s h n first own low high stride index = address s h n ⨟ item_b
 
 -- ---- operators (4.5)
 
+abbrev pub not_instr : Option ℕ → Instr
+not_instr None = i.Flip
+not_instr (Some k) = i.BNot k
+
 abbrev pub unary_instr : Sign → Class → Instr
 unary_instr sign.Minus class = i.Neg (base_of class)
 unary_instr sign.Abs class = i.Abs (base_of class)
-unary_instr sign.Not class = i.Flip
+unary_instr sign.Not class = not_instr (modular_digits class)
 
--- logical operators are on truth values, of which the lesser is false
+-- logical operators are on truth values, of which the lesser is false, or on the binary digits of numbers of a modular type
 abbrev pub binary_instr : Op → Class → Instr
 binary_instr op.Add class = i.Add (base_of class)
 binary_instr op.Sub class = i.Sub (base_of class)
@@ -132,11 +141,11 @@ binary_instr op.Div class = i.Div (base_of class)
 binary_instr op.Mod class = i.Mod (base_of class)
 binary_instr op.Rem class = i.Rem (base_of class)
 binary_instr op.Pow class = i.Pow (base_of class)
-binary_instr op.And class = i.Min
-binary_instr op.Or class = i.Max
-binary_instr op.Xor class = i.Differ
-binary_instr op.Max class = i.Max
-binary_instr op.Min class = i.Min
+binary_instr op.And class = cond (is_modular class) i.And i.Min
+binary_instr op.Or class = cond (is_modular class) i.Or i.Max
+binary_instr op.Xor class = cond (is_modular class) i.Xor i.Differ
+binary_instr op.Max class = cond (is_modular class) i.UMax i.Max
+binary_instr op.Min class = cond (is_modular class) i.UMin i.Min
 
 -- an operation whose right operand stands in the instruction
 abbrev pub fixed_instr : Op → Class → ℤ → Option Instr
@@ -156,13 +165,14 @@ abbrev pub operated_by : Scope → ℕ → Option Instr → Instr → (right : E
 operated_by s h None operates right = right ⨟ one s (h + 1) operates
 operated_by s h (Some fixed) operates right = one s h fixed
 
-abbrev pub compare_instr : Comparison → Instr
-compare_instr comparison.Equal = i.Eq
-compare_instr comparison.Unequal = i.Ne
-compare_instr comparison.Less = i.Lt
-compare_instr comparison.AtMost = i.Le
-compare_instr comparison.Greater = i.Gt
-compare_instr comparison.AtLeast = i.Ge
+-- different numbers are kept differently
+abbrev pub compare_instr : Comparison → Class → Instr
+compare_instr comparison.Equal class = i.Eq
+compare_instr comparison.Unequal class = i.Ne
+compare_instr comparison.Less class = cond (is_modular class) i.ULt i.Lt
+compare_instr comparison.AtMost class = cond (is_modular class) i.ULe i.Le
+compare_instr comparison.Greater class = cond (is_modular class) i.UGt i.Gt
+compare_instr comparison.AtLeast class = cond (is_modular class) i.UGe i.Ge
 
 abbrev pub falsity : Scope → ℕ → Emit
 falsity s h = one s h (i.Push (pos 0))
@@ -171,8 +181,8 @@ abbrev pub truth : Scope → ℕ → Emit
 truth s h = one s h (i.Push (pos 1))
 
 -- whether the first cell lies between the second and the number on the stack
-abbrev pub within : Scope → ℕ → ℕ → Emit
-within s h d = one s (h + 1) (i.LoadL d) ⨟ one s (h + 1 + 1) i.Ge ⨟ one s (h + 1) (i.LoadL (d + 1)) ⨟ one s (h + 1 + 1) (i.LoadL d) ⨟ one s (h + 1 + 1 + 1) i.Le ⨟ one s (h + 1 + 1) i.Min
+abbrev pub within : Scope → ℕ → Class → ℕ → Emit
+within s h class d = one s (h + 1) (i.LoadL d) ⨟ one s (h + 1 + 1) (compare_instr comparison.AtLeast class) ⨟ one s (h + 1) (i.LoadL (d + 1)) ⨟ one s (h + 1 + 1) (i.LoadL d) ⨟ one s (h + 1 + 1 + 1) (compare_instr comparison.AtMost class) ⨟ one s (h + 1 + 1) i.Min
 
 abbrev pub negated_code : Scope → ℕ → Bool → Emit
 negated_code s h true = one s (h + 1) i.Flip
@@ -255,7 +265,7 @@ folding s h (Function at sub accumulator value) =
 -- whether the number in a cell is one of the subtype's
 abbrev pub ranged : Scope → ℕ → (cell : ℕ) → Scalar → Emit
 ranged s h n k =
-    one s h (i.LoadL n) ⨟ one s (h + 1) (i.Push k.low) ⨟ one s (h + 1 + 1) i.Ge ⨟ one s (h + 1) (i.LoadL n) ⨟ one s (h + 1 + 1) (i.Push k.high) ⨟ one s (h + 1 + 1 + 1) i.Le ⨟ one s (h + 1 + 1) i.Min
+    one s h (i.LoadL n) ⨟ one s (h + 1) (i.Push k.low) ⨟ one s (h + 1 + 1) (compare_instr comparison.AtLeast k.class) ⨟ one s (h + 1) (i.LoadL n) ⨟ one s (h + 1 + 1) (i.Push k.high) ⨟ one s (h + 1 + 1 + 1) (compare_instr comparison.AtMost k.class) ⨟ one s (h + 1 + 1) i.Min
 
 -- the accumulator and the part on the stack go to the cells of the formals; what is then on the stack tells whether they
 -- are in their subtypes
@@ -366,7 +376,7 @@ locating_in s h t number (r ∷ q ∷ rs) =
 abbrev pub repeating : Scope → ℕ → (t : ℕ) → (component : Emit) → List Run → Emit
 repeating s h t component rs = cond (nat_eq (components_of rs) 0) none
     (one s h (i.Push (pos 0)) ⨟ keep s (h + 1) s.free ⨟ one s h (i.Repeat (components_of rs))
-    ⨟ from (λ head. locating_in s h t 0 rs ⨟ component ⨟ one s h (i.LoadL s.free) ⨟ one s (h + 1) (i.Field 1) ⨟ keep s (h + 1) s.free ⨟ one s h (i.Again head)))
+    ⨟ from (λ head. locating_in s h t 0 rs ⨟ component ⨟ one s h (i.LoadL s.free) ⨟ one s (h + 1) (i.AddI (pos 1) Wide) ⨟ keep s (h + 1) s.free ⨟ one s h (i.Again head)))
 
 -- ---- parallel constructs (5.5, 5.6.1, 4.5.10)
 
@@ -473,10 +483,10 @@ module _ (program : Program) where
     emit s h (Binary at op class e f) = emit s h e ⨟ operated_by s (h + 1) (static_instr op class f) (binary_instr op class) (emit s (h + 1) f)
     emit s h (AndThen e f) = emit s h e ⨟ choose s h (h + 1) (emit s h f) (falsity s h)
     emit s h (OrElse e f) = emit s h e ⨟ choose s h (h + 1) (truth s h) (emit s h f)
-    emit s h (Relation class comparison e f) = emit s h e ⨟ emit s (h + 1) f ⨟ one s (h + 1 + 1) (compare_instr comparison)
+    emit s h (Relation class comparison e f) = emit s h e ⨟ emit s (h + 1) f ⨟ one s (h + 1 + 1) (compare_instr comparison class)
     emit s h (Membership class negated e low high) =
         emit s h e ⨟ keep s (h + 1) s.free ⨟ emit (taking 1 s) h low ⨟ keep s (h + 1) (s.free + 1) ⨟ emit (taking 2 s) h high
-        ⨟ within s h s.free ⨟ negated_code s h negated
+        ⨟ within s h class s.free ⨟ negated_code s h negated
     emit s h (If condition value otherwise) = emit s h condition ⨟ choose s h (h + 1) (emit s h value) (emit s h otherwise)
     emit s h (Call at callee sub actuals) = passed (passing sub s) h sub s.free actuals ⨟ one s h (i.CallAt (sub + 1) s.free)
     emit s h (Convert check e) = emit s h e ⨟ checked s (h + 1) check.scalar

@@ -4,12 +4,13 @@ use Rattle.behaviours.specs.Paths.{Entity, VariableOf, ConstantOf, entity_eq}
 use Rattle.typed_tree.specs.declared.scalars.Scalar.{Scalar}
 use Rattle.typed_tree.specs.declared.expressions.Root.{Root}
 use Rattle.typed_tree.specs.declared.expressions.Root.TheVariants as root
+use Rattle.ada_meaning.specs.Values.{is_modular}
 use Rattle.stack_code.specs.declared.code.Around as body
 use Rattle.stack_code.specs.declared.code.Around.TheVariants.{Site}
 use Rattle.stack_code.specs.declared.code.SiteKind.{SiteKind}
 use Rattle.stack_code.specs.declared.code.SiteKind.TheVariants as kind
 use Rattle.stack_code.specs.declared.instr.Instr.{Instr}
-use Rattle.stack_code.specs.declared.instr.Instr.TheVariants.{Fork, Local, Outer, Global, LoadL, LoadO, LoadG, StoreL, StoreO, StoreG, SetL}
+use Rattle.stack_code.specs.declared.instr.Instr.TheVariants.{Fork, Local, Outer, Global, LoadL, LoadO, LoadG, StoreL, StoreO, StoreG, SetL, USetL}
 use Rattle.lower_emission.specs.declared.types.Where.{Where}
 use Rattle.lower_emission.specs.declared.types.Named.{Named}
 use Rattle.lower_emission.specs.declared.types.Mark.{Mark}
@@ -144,8 +145,11 @@ abbrev pub keep : Scope → ℕ → ℕ → Emit
 keep s h n = emits.One (mark_of (max s.free (n + 1)) s) h (StoreL n)
 
 -- a cell of the frame is written with a number of the subtype, and any other one raises
+abbrev pub set_instr : Scalar → ℕ → Instr
+set_instr k n = cond (is_modular k.class) (USetL n k.low k.high) (SetL n k.low k.high)
+
 abbrev pub keep_checked : Scope → ℕ → Scalar → ℕ → Emit
-keep_checked s h k n = emits.One (mark_of (max s.free (n + 1)) s) h (SetL n k.low k.high)
+keep_checked s h k n = emits.One (mark_of (max s.free (n + 1)) s) h (set_instr k n)
 
 -- a construct is begun
 abbrev pub forks : Scope → ℕ → SiteKind → (site : ℕ) → Emit

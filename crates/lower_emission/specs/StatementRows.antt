@@ -1,7 +1,7 @@
 -- Programs of simple statements (5.2), choices (5.3, 5.4), aggregates (4.3), names (4.1), output and input (A.10), and their
 -- code by hand.
 use Rattle.std.specs.Prelude.{ℕ, pos, List, [], ◌∷◌, Some, None, true, false}
-use Rattle.ada_base.specs.declared.operation.Base.TheVariants.{Narrow}
+use Rattle.ada_base.specs.declared.operation.Base.TheVariants.{Narrow, Wide}
 use Rattle.ada_base.specs.declared.operation.Comparison.TheVariants as comparison
 use Rattle.typed_tree.specs.declared.expressions.Root.TheVariants as root
 use Rattle.typed_tree.specs.declared.expressions.Run.{Run}
@@ -175,7 +175,7 @@ computes_code =
     ∷ main 14 2 fits
     ∷ main 15 2 i.Store
     ∷ main 16 0 (i.LoadL 4)
-    ∷ main 17 1 (i.Field 1)
+    ∷ main 17 1 (i.AddI (pos 1) Wide)
     ∷ main 18 1 (i.StoreL 4)
     ∷ main 19 0 (i.Again 7)
     ∷ main 20 0 i.Halt
@@ -254,7 +254,7 @@ goes_round_code =
     ∷ main 25 2 fits
     ∷ main 26 2 i.Store
     ∷ main 27 0 (i.LoadL 4)
-    ∷ main 28 1 (i.Field 1)
+    ∷ main 28 1 (i.AddI (pos 1) Wide)
     ∷ main 29 1 (i.StoreL 4)
     ∷ main 30 0 (i.Again 9)
     ∷ main 31 0 i.Halt

@@ -1,5 +1,6 @@
 -- The code of statements (5), declarations (3.11), handlers (11.2), output and input (A.10).
 use Rattle.std.specs.Prelude.{ℕ, zero, suc, ◌+◌, ◌-◌, ℤ, pos, nat_eq, List, [], ◌∷◌, ◌++◌, length, Option, Some, None, Bool, true, false, cond, not, ◌&&◌, slice_get}
+use Rattle.ada_base.specs.declared.operation.Base.TheVariants.{Modulo}
 use Rattle.ada_base.specs.declared.reason.Reason.{Reason}
 use Rattle.ada_base.specs.declared.reason.Reason.TheVariants as reason
 use Rattle.behaviours.specs.Paths.{Entity, VariableOf, ConstantOf}
@@ -26,7 +27,7 @@ use Rattle.lower_emission.specs.declared.types.Level.TheVariants.{Own}
 use Rattle.lower_emission.specs.declared.types.Leaving.{Leaving}
 use Rattle.lower_emission.specs.declared.types.Leaving.TheVariants.{ByReturn, ByValue, ByEnd, ByLeave}
 use Rattle.lower_emission.specs.Emits.{Emit}
-use Rattle.lower_emission.specs.Scope.{Scope, own, taking, nested, thread_scope, with_object, with_target, with_handled, with_exit, with_entry, root_of, none, one, keep, ◌⨟◌, choose, when_, looped, guarded, load_of, store_at, address_of}
+use Rattle.lower_emission.specs.Scope.{Scope, own, taking, nested, thread_scope, with_object, with_target, with_handled, with_exit, with_entry, root_of, none, one, keep, set_instr, ◌⨟◌, choose, when_, looped, guarded, load_of, store_at, address_of}
 use Rattle.lower_emission.specs.Emission.{lost, checked, address, is_whole, formal_of, passed, passing, cells_of, emit, selected, put_into, composed, composite_width, width, doubled, iterated, chunk_code, course_code, ends_code, loop_kind, fork_code, threaded, chunk_scope}
 
 abbrev pub no_handler : Handlers → Bool
@@ -41,7 +42,7 @@ is_end s = false
 
 -- a number is checked and goes to a cell, by one instruction to one of the own frame
 abbrev pub store_checked : Scope → Scalar → Level → ℕ → Emit
-store_checked s k Own n = one s 1 (i.SetL n k.low k.high)
+store_checked s k Own n = one s 1 (set_instr k n)
 store_checked s k level n = checked s 1 k ⨟ one s 1 (store_at level n)
 
 -- a scalar goes to a part of what is named, whose value @ is
@@ -101,6 +102,7 @@ handled_target s (Some w) = one s 0 (load_of w) ⨟ one s 1 i.Reraise
 
 abbrev pub image_instr : Class → Instr
 image_instr class.Boolean = i.Bool
+image_instr (class.Integer (Modulo k)) = i.UImg
 image_instr (class.Integer base) = i.Img
 image_instr class.Universal = i.Img
 

@@ -2,6 +2,7 @@
 use Rattle.std.proofs.Common.{◌≡◌, ℕ, zero, suc, ◌+◌, ◌-◌, min, ℤ, ◌&&◌, ◌⊎◌, inl, inr, List, [], ◌∷◌, nat_eq, nat_lt, Option, Some, None, Bool, true, false, cond, refl, ap, subst}
 use Rattle.behaviours.specs.Paths.{Entity, VariableOf, ConstantOf}
 use Rattle.typed_tree.specs.declared.scalars.Check.{Check}
+use Rattle.typed_tree.specs.declared.scalars.Class.{Class}
 use Rattle.typed_tree.specs.declared.scalars.Scalar.{Scalar}
 use Rattle.typed_tree.specs.declared.expressions.Root.{Root}
 use Rattle.typed_tree.specs.declared.expressions.Root.TheVariants as root
@@ -185,8 +186,8 @@ module _ (T : ℕ → ℕ → Type 0) (v : Around) (s : Scope) (o : Entity → O
   a_operated h None operates right right' f = (f, plain)
   a_operated h (Some j) operates right right' f = plain
 
-  pub a_within : (h d : ℕ) → Alike T (within s h d) (within (prime o x e s) h d)
-  a_within h d = (plain, (plain, (plain, (plain, (plain, plain)))))
+  pub a_within : (h : ℕ) (class : Class) (d : ℕ) → Alike T (within s h class d) (within (prime o x e s) h class d)
+  a_within h class d = (plain, (plain, (plain, (plain, (plain, plain)))))
 
   pub a_negated : (h : ℕ) (b : Bool) → Alike T (negated_code s h b) (negated_code (prime o x e s) h b)
   a_negated h true = plain

@@ -70,7 +70,7 @@ module _ (T : ℕ → ℕ → Type 0) (program : Program) (shown : ℕ → Entit
     a_emit v s o xs en h (OrElse e f) k p = (a_emit v s o xs en h e k p.0, ((marked T v s o xs en k), refl, refl, (plain T v s o xs en k), a_emit v s o xs en h f k p.1))
     a_emit v s o xs en h (Relation class comparison e f) k p = (a_emit v s o xs en h e k p.0, (a_emit v s o xs en (h + 1) f k p.1, (plain T v s o xs en k)))
     a_emit v s o xs en h (Membership class negated e low high) k p =
-        (a_emit v s o xs en h e k p.0, ((plain T v s o xs en k), (a_emit v (taking 1 s) o xs en h low k p.1, ((plain T v s o xs en k), (a_emit v (taking 2 s) o xs en h high k p.2, (a_within T v s o xs en k h s.free, a_negated T v s o xs en k h negated))))))
+        (a_emit v s o xs en h e k p.0, ((plain T v s o xs en k), (a_emit v (taking 1 s) o xs en h low k p.1, ((plain T v s o xs en k), (a_emit v (taking 2 s) o xs en h high k p.2, (a_within T v s o xs en k h class s.free, a_negated T v s o xs en k h negated))))))
     a_emit v s o xs en h (If condition value otherwise) k p = (a_emit v s o xs en h condition k p.0, ((marked T v s o xs en k), refl, refl, a_emit v s o xs en h value k p.1, a_emit v s o xs en h otherwise k p.2))
     a_emit v s o xs en h (Call at callee sub actuals) k p = (a_passed v (passing program sub s) o xs en h sub s.free p.0.unit.formals actuals k (in_actuals v p.0.unit.formals actuals p.2), (plain T v s o xs en k))
     a_emit v s o xs en h (Convert check e) k p = (a_emit v s o xs en h e k p, (plain T v s o xs en k))

@@ -31,13 +31,13 @@ use Rattle.ada_lower.specs.Law.{IsLoweredBy}
 use Rattle.ada_lower.specs.Sights.{Named, Scope, Sight}
 use Rattle.ada_lower.specs.Emission.{defaulted, put_into, shapes, shapes_cells, stmt, width}
 use Rattle.ada_lower.specs.HasTables.{HasForks}
-use Rattle.ada_lower.specs.Sited.{IsSited}
+use Rattle.ada_lower.proofs.Sited.{IsSited}
 use Rattle.ada_lower.specs.ProgramCode.{AreNamed, IsCodeOf}
 use Rattle.ada_lower.proofs.CodeTables.{construct_row, row_of}
 use Rattle.ada_lower.proofs.Constructs.{sited_law}
 use Rattle.ada_lower.proofs.Counted.{forks_law, forks_listed}
 use Rattle.lower_emission.specs.Texts.{stmt_texts}
-use Rattle.lower_laws.specs.Tables.{HasSite, IsTabled}
+use Rattle.lower_laws.proofs.Tables.{HasSite, IsTabled}
 use Rattle.lower_laws.proofs.Levels.{levels_stmt, t_stmt}
 use Rattle.ada_lower.proofs.Strings.{Stands, main_stands, sub_stands}
 use Rattle.ada_lower.proofs.Grounded.{objects_filled}

@@ -31,7 +31,7 @@ use Rattle.ada_lower.specs.Law.{IsLoweredBy}
 use Rattle.ada_lower.proofs.Grounded.{objects_filled}
 use Rattle.ada_lower.proofs.ProgramStands.{sub_scope_same}
 use Rattle.typed_scopes.specs.Scopes.{Around, FreshFormals, IsScoped, ScopedMain, ScopedValue, behind, entity_of, object_cells, outset, sub_around, with_formals, with_object, with_outer}
-use Rattle.lower_laws.specs.Tables.{HasSite, IsTabled, TabledDecls}
+use Rattle.lower_laws.proofs.Tables.{HasSite, IsTabled, TabledDecls}
 use Rattle.lower_laws.specs.Rooms.{AreFrames, HasRoom, Roomy, frames_of, seen_names}
 use Rattle.lower_laws.proofs.Exits.{all_more, handlers_more}
 use Rattle.lower_laws.proofs.FitsStatements.{default_fits, fits_stmt}

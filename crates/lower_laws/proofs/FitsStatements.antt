@@ -32,7 +32,7 @@ use Rattle.typed_scopes.specs.Outs.{OutAll, OutArms, OutCases, OutHandlers, OutS
 use Rattle.ada_lower.proofs.Grounded.{objects_filled}
 use Rattle.typed_scopes.specs.Scopes as scopes
 use Rattle.typed_scopes.specs.Scopes.{Without, Around, ScopedActuals, ScopedAll, ScopedAlternatives, ScopedArms, ScopedComposite, ScopedDecls, ScopedExpr, ScopedHandlers, ScopedOptional, ScopedPieces, ScopedStmt, ScopedValue, with_chunk, with_object, with_parameter}
-use Rattle.lower_laws.specs.Tables.{HasSite, TabledActuals, TabledAll, TabledExpr, TabledAlternatives, TabledArms, TabledDecls, TabledHandlers, TabledOptional, TabledPieces, TabledStmt}
+use Rattle.lower_laws.proofs.Tables.{HasSite, TabledActuals, TabledAll, TabledExpr, TabledAlternatives, TabledArms, TabledDecls, TabledHandlers, TabledOptional, TabledPieces, TabledStmt}
 use Rattle.lower_laws.specs.Rooms.{Roomy}
 use Rattle.lower_laws.proofs.Exits.{Every, all_more, arms_more, gather_all, gather_arms, handlers_more}
 use Rattle.lower_laws.proofs.FitsValues.{callable, composite_is, fits, fits_chunk, fits_composite, fits_selections, fits_value, filtered_body, fits_optional, item_turn_sees, passing_free, room_where, sited, thread_room, turn_sees, width_is}

@@ -25,7 +25,7 @@ use Rattle.ada_lower.specs.Fitted.{Spot, spot, spots, Callable, Fitted, FittedAs
 use Rattle.ada_lower.specs.FittedForks.{FittedChunk, FittedReductions}
 use Rattle.typed_scopes.specs.Scopes as scopes
 use Rattle.typed_scopes.specs.Scopes.{Without, Around, Called, LieWithin, ScopedAssociations, ScopedChunk, ScopedComposite, ScopedExpr, ScopedIn, ScopedOptional, ScopedReducer, ScopedSelections, ScopedValue, with_chunk, with_parameter}
-use Rattle.lower_laws.specs.Tables.{HasSite, TabledActuals, TabledAssociations, TabledChunk, TabledComposite, TabledExpr, TabledOptional, TabledSelections, TabledValue}
+use Rattle.lower_laws.proofs.Tables.{HasSite, TabledActuals, TabledAssociations, TabledChunk, TabledComposite, TabledExpr, TabledOptional, TabledSelections, TabledValue}
 use Rattle.lower_laws.specs.Rooms.{Roomy}
 use Rattle.lower_laws.proofs.Formals.{AreApart, AreFound, AreOf, all_found, formals_are, formals_at, none_of, spots_of, taken}
 use Rattle.lower_laws.proofs.Room.{composed_room, index_room, operand_room, part_room, passed_room}

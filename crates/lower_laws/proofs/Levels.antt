@@ -4,7 +4,7 @@ use Rattle.std.proofs.Common.{ℕ, zero, suc, ◌+◌, ◌≤◌, List, inl, inr
 use Rattle.std.specs.Prelude.{Some, None}
 use Rattle.typed_tree.specs.Syntax.{Expr, Static, Variable, Constant, Parameter, Target, Group, Unary, Binary, AndThen, OrElse, Relation, Membership, If, Call, Convert, Reduction, Optional, Absent, Present, Selections, Whole, Field, Index, Actuals, NoActual, In, InOut, Out, CompositeInOut, CompositeOut, Value, Number, Cells, Composite, WholeVariable, WholeConstant, WholeTarget, CompositeIf, Aggregate, Associations, NoAssociation, Association, Iteration, Range, Components, Chunk, NoChunk, Count, Each, Pieces, NoPiece, Text, Image, Padded, Decls, NoDecl, DeclareDefault, DeclareVariable, DeclareConstant, Mentions, Stmt, Null, Assign, CallProcedure, Exit, Return, ReturnValue, Raise, Reraise, IfThen, Case, Loop, For, ParallelFor, Parallel, Block, Put, Get, Stmts, End, Then, Alternatives, NoAlternative, Alternative, Arms, NoArm, Arm, Handlers, NoHandler, Handler}
 use Rattle.lower_emission.specs.Texts.{arm_texts, case_texts, handler_texts, pieces_texts, stmt_texts, texts_in}
-use Rattle.lower_laws.specs.Tables.{TabledActuals, TabledAll, TabledAlternatives, TabledArms, TabledAssociations, TabledChunk, TabledComposite, TabledDecls, TabledExpr, TabledHandlers, TabledIteration, TabledOptional, TabledPieces, TabledSelections, TabledStmt, TabledValue}
+use Rattle.lower_laws.proofs.Tables.{TabledActuals, TabledAll, TabledAlternatives, TabledArms, TabledAssociations, TabledChunk, TabledComposite, TabledDecls, TabledExpr, TabledHandlers, TabledIteration, TabledOptional, TabledPieces, TabledSelections, TabledStmt, TabledValue}
 use Rattle.ada_lower.proofs.Strings.{IsOne, one_left, one_right}
 
 -- ---- how many constructs stand in a text

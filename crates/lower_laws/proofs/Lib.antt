@@ -32,3 +32,4 @@ mod TellsValues
 mod TellsStatements
 pub mod Told
 pub mod Deep
+pub mod Tables

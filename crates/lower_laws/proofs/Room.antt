@@ -1,5 +1,5 @@
 -- Where code of a value, of an object or of pieces is, the frame has the cells that its scope uses.
-use Rattle.std.proofs.Common.{◌≡◌, ℕ, zero, suc, ◌+◌, ◌≤◌, ℤ, List, [], ◌∷◌, ◌++◌, length, slice_get, Option, Some, None, Bool, true, false, cond, refl, sym, subst, true≢false, arith}
+use Rattle.std.proofs.Common.{◌≡◌, ℕ, zero, suc, ◌+◌, ◌≤◌, ℤ, List, [], ◌∷◌, ◌++◌, length, slice_get, max, Option, Some, None, Bool, true, false, cond, refl, sym, subst, true≢false, arith}
 use Rattle.std.proofs.Math.Nat.{le-max_left, le-max_right}
 use Rattle.typed_tree.specs.declared.scalars.Scalar.{Scalar}
 use Rattle.typed_tree.specs.declared.program.Field.{Field as Part}
@@ -7,12 +7,12 @@ use Rattle.typed_tree.specs.Syntax.{Expr, Static, Actuals, NoActual, In, InOut, 
 use Rattle.ada_meaning.specs.Values.{components, fields, layout_of, layout_within, repeated}
 use Rattle.stack_code.specs.declared.code.Around.{Around}
 use Rattle.stack_code.specs.declared.code.SiteKind.{SiteKind}
-use Rattle.lower_emission.specs.Emits.{Emit}
-use Rattle.lower_emission.specs.Scope.{Scope, one, ◌⨟◌}
+use Rattle.lower_emission.specs.Emits.{Emit, One}
+use Rattle.lower_emission.specs.Scope.{Scope, keep_checked, mark_of, one, ◌⨟◌}
 use Rattle.lower_emission.specs.declared.types.Named.{Named}
 use Rattle.ada_lower.specs.Emission.{cells_of, default_of, defaults_within, emit, field_defaults, indexed_by, is_whole, item_by, own_cell, main_named, component_address, component_value, named_value, operated_by, static_instr, passed, piece_cells, piece_values, put_into, composed, read, selected, send_instr}
 use Rattle.lower_emission.proofs.OwnCells.{emit_own}
-use Rattle.lower_emission.proofs.Fused.{of_operated}
+use Rattle.lower_emission.proofs.Fused.{of_operated, of_set}
 use Rattle.ada_base.specs.declared.operation.Op.{Op}
 use Rattle.typed_tree.specs.declared.scalars.Class.{Class}
 use Rattle.stack_code.specs.declared.instr.Instr.{Instr}
@@ -89,9 +89,12 @@ module _ (program : Program) (rows : ℕ → SiteKind → Around → Type 0) (ro
   composed_room s h t (CompositeIf condition value otherwise) m = m.1.0
   composed_room s h t (Aggregate at size associations) m = m.0
 
+  kept_room : (s : Scope) (h t : ℕ) (k : Scalar) → Roomy rows room (keep_checked s h k t) → max s.free (t + 1) ≤ room s.body
+  kept_room s h t k = of_set (λ j. Roomy rows room (One (mark_of (max s.free (t + 1)) s) h j) → max s.free (t + 1) ≤ room s.body) k t (λ m. m) (λ m. m)
+
   pub put_room : (s : Scope) (h t : ℕ) (x : Value) → Roomy rows room (put_into program s h t x) → s.free ≤ room s.body
   unfolding put_into
-  put_room s h t (Number check e) m = let z = le-max_left s.free (t + 1) in let y = m.1 in omega (arith, z, y)
+  put_room s h t (Number check e) m = let z = le-max_left s.free (t + 1) in let y = kept_room s (h + 1) t check.scalar m.1 in omega (arith, z, y)
   put_room s h t (Cells c) m = composed_room s h t c m
 
   -- a line is sent

@@ -8,6 +8,7 @@ use Rattle.typed_tree.specs.declared.expressions.Run.{Run}
 use Rattle.typed_tree.specs.Syntax.{Optional, Selections, Components, Chunk, NoChunk, Count, Each, Program}
 use Rattle.ada_meaning.specs.Formed.{FormedIteration, FormedOptional, FormedSelections, Known, Spans, SpansConstant, with_constant, with_shape}
 use Rattle.ada_meaning.specs.Shapes.{size}
+use Rattle.ada_base.specs.declared.operation.Base.TheVariants.{Wide}
 use Rattle.stack_code.specs.declared.code.Around as body
 use Rattle.stack_code.specs.declared.code.SiteKind.{SiteKind}
 use Rattle.lower_emission.specs.Emits.{Emit}
@@ -65,7 +66,7 @@ locating_room rows room s h t r rs le m = (subst (λ b. Roomy rows room (cond b 
 
 pub repeated_room : (rows : ℕ → SiteKind → body.Around → Type 0) (room : body.Around → ℕ) (s : Scope) (h t : ℕ) (component : Emit) (r : Run) (rs : List Run) → 1 ≤ r.count → Roomy rows room (repeating s h t component (r ∷ rs)) → Roomy rows room (keep s (h + 1) (s.free + 1)) × Roomy rows room component
 repeated_room rows room s h t component r rs le m =
-    let round : ℕ → Emit = λ head. locating_in s h t 0 (r ∷ rs) ⨟ component ⨟ one s h (i.LoadL s.free) ⨟ one s (h + 1) (i.Field 1) ⨟ keep s (h + 1) s.free ⨟ one s h (i.Again head) in
+    let round : ℕ → Emit = λ head. locating_in s h t 0 (r ∷ rs) ⨟ component ⨟ one s h (i.LoadL s.free) ⨟ one s (h + 1) (i.AddI (pos 1) Wide) ⨟ keep s (h + 1) s.free ⨟ one s h (i.Again head) in
     let whole : Emit = one s h (i.Push (pos 0)) ⨟ keep s (h + 1) s.free ⨟ one s h (i.Repeat (components_of (r ∷ rs))) ⨟ from round in
     let w : Roomy rows room whole = subst (λ b. Roomy rows room (cond b none whole)) (positive (components_of (r ∷ rs)) (omega (arith, le))) m in
     let rounds : Roomy rows room (round 0) = w.1.1.1 0 in

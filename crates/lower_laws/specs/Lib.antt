@@ -1,4 +1,3 @@
-pub mod Tables
 pub mod Rooms
 pub mod CodeLaw
 pub mod Granted

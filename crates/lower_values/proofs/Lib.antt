@@ -1,3 +1,5 @@
 -- Lemmas.
+pub mod Fitting
+pub mod Forks
 pub mod Reading
 pub mod Found

@@ -1,8 +1,10 @@
 -- What functions say of what they emit.
-use Rattle.std.specs.Prelude.{◌≡◌, ℕ, List, None, Some, Option, Bool, true, false, cond, not, ◌&&◌, length, IsTrue, nat_eq}
+use Rattle.std.specs.Prelude.{◌≡◌, ℕ, List, None, Some, Option, Bool, true, false, cond, not, ◌&&◌, length, IsTrue, nat_eq, nat_lt}
 use Rattle.behaviours.specs.Paths.{Entity, VariableOf, ConstantOf, entity_eq}
 use Rattle.lower_emission.specs.declared.types.Named.{Named}
 use Rattle.lower_emission.specs.declared.types.Where.{Where}
+use Rattle.lower_emission.specs.declared.types.Level.{Level}
+use Rattle.lower_emission.specs.declared.types.Level.TheVariants.{Own, Around, Main}
 use Rattle.lower_emission.specs.declared.types.Placed.{Placed}
 use Rattle.lower_emission.specs.Emits.{Emit, written}
 use Rattle.lower_emission.specs.Scope.{Scope, moved_named, moved_where}
@@ -96,6 +98,26 @@ Finds n before found after = IsTrue after.whole → IsTrue before.whole × ((aft
 -- if the code is whole, this was done to it, and the number is that of what came next before
 abbrev pub Leaps : (List Placed → List Placed) → Emitter → ℕ → Emitter → Type 0
 Leaps f before found after = IsTrue after.whole → IsTrue before.whole × ((after.code ≡ f before.code) × (found ≡ length before.code))
+
+-- ---- what is lost, and why
+
+-- a number has room in 32 bits
+abbrev pub is_narrow : ℕ → Bool
+is_narrow n = nat_lt n 4294967296
+
+-- in 64
+abbrev pub is_long : ℕ → Bool
+is_long n = nat_lt n 18446744073709551616
+
+-- how far outward a frame is has room
+abbrev pub is_near : Level → Bool
+is_near (Around n) = is_narrow n
+is_near Own = true
+is_near Main = true
+
+-- where memory isn't short it wasn't before, and the code is whole exactly where it was and this holds
+pub record Fits (holds : Bool) (before after : Emitter) : Type 0 where
+  pub fits : after.short ≡ false → (before.short ≡ false) × (after.whole ≡ (before.whole && holds))
 
 unfoldable pub program_of : Typed → Program
 program_of t = program t

@@ -1,10 +1,12 @@
 //! Arrays and records (4.3).
 
 ghost use Rattle.std.specs.Prelude.{◌≡◌, ◌<◌, ◌+◌, ◌*◌, ◌+ℤ◌, ◌-ℤ◌, ◌-◌, min, nat_eq, nat_lt, ◌&&◌, pos, cond, Option, true, false};
+ghost use Rattle.ada_base.specs.Operation.{is_in_base};
+ghost use Rattle.ada_base.specs.declared.operation.Base.TheVariants.{Wide};
 ghost use Rattle.typed_tree.specs.Decoded.{associations_at, as_runs, composite_at, expr_at, part_at, selections_at, value_at};
 ghost use Rattle.lower_emission.specs.Emission as spec;
 ghost use Rattle.lower_emission.specs.Scope.{◌⨟◌, keep, looped, one, own, taking};
-ghost use Rattle.lower_values.specs.Words.{env_of, nodes, tables, Emits, Learns};
+ghost use Rattle.lower_values.specs.Words.{env_of, nodes, tables, Emits, Fits, Learns};
 ghost use Rattle.stack_code.specs.declared.instr.Instr.TheVariants as i;
 
 use crate::cells::{cells_of, composite_width, product, width};
@@ -331,8 +333,10 @@ pub fn reached(cell: u32, cells: u32) -> Named
 }
 
 /// The last value of a parameter that has so many.
+#[tactic(auto, using(crate::proofs::Fitting::fits_kept, crate::proofs::Fitting::fits_lost))]
 pub fn last_value(first: i64, count: u32, out: &mut Emitter) -> i64
-    ensures { Learns (first +ℤ pos count -ℤ pos 1) out.old result out.new }
+    ensures learns { Learns (first +ℤ pos count -ℤ pos 1) out.old result out.new }
+    ensures fits { Fits (is_in_base Wide (first +ℤ pos count -ℤ pos 1)) out.old out.new }
 {
     let behind = i64::from(count) - 1;
     match first.checked_add(behind) {

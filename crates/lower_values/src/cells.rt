@@ -7,15 +7,17 @@ ghost use Rattle.ada_meaning.specs.Meaning.{object_layout};
 ghost use Rattle.typed_tree.specs.Programs.{formals_at};
 ghost use Rattle.typed_tree.specs.Decoded.{composite_at, value_at};
 ghost use Rattle.lower_emission.specs.Emission as spec;
-ghost use Rattle.lower_values.specs.Words.{entity, nodes, tables, Finds};
+ghost use Rattle.lower_values.specs.Words.{entity, is_narrow, nodes, tables, Finds, Fits};
 
 use crate::types::{Emitter, Env};
 use run_values::subtypes;
 use typed_tree::{Composite, Formal, Leaf, Mode, Value};
 
 /// A product, if there is room for it.
+#[tactic(auto, using(crate::proofs::Fitting::fits_kept, crate::proofs::Fitting::fits_lost))]
 pub fn product(a: u32, b: u32, out: &mut Emitter) -> u32
-    ensures { Finds (a * b) out.old result out.new }
+    ensures finds { Finds (a * b) out.old result out.new }
+    ensures fits { Fits (is_narrow (a * b)) out.old out.new }
 {
     match a.checked_mul(b) {
         Some(found) => found,

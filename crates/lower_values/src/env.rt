@@ -5,15 +5,17 @@ ghost use Rattle.lower_emission.specs.Emits.{placed};
 ghost use Rattle.lower_emission.specs.Scope as scope;
 ghost use Rattle.lower_emission.specs.Scope.{at_free, mark_of, thread_scope};
 ghost use Rattle.lower_values.specs.Words as spec;
-ghost use Rattle.lower_values.specs.Words.{entity, env_of, Learns};
+ghost use Rattle.lower_values.specs.Words.{entity, env_of, is_near, Fits, Learns};
 
 use crate::types::{Emitter, Env, Link, Names};
 use lower_emission::types::{Leaving, Level, Named, Placed, Where};
 use stack_code::{Around, Instr, SiteKind};
 use typed_tree::Root;
 
+#[tactic(auto, using(crate::proofs::Fitting::fits_kept))]
 fn outer_where(place: Where, out: &mut Emitter) -> Where
-    ensures { Learns (scope.outer_where place) out.old result out.new }
+    ensures learns { Learns (scope.outer_where place) out.old result out.new }
+    ensures fits { Fits (is_near (scope.outer_where place).level) out.old out.new }
 {
     let level = match place.level {
         Level::Own => Level::Around(1),

@@ -11,12 +11,12 @@ ghost use Rattle.stack_code.specs.declared.instr.Instr.TheVariants as i;
 use crate::aggregates::composed;
 use crate::calls::call;
 use crate::instrs::{
-    address_of, binary_instr, compare_instr, fixed_instr, load_of, main_named, own_named,
-    own_where, unary_instr,
+    address_of, binary_instr, check_instr, compare_instr, fixed_instr, load_of, main_named,
+    own_named, own_where, unary_instr,
 };
 use crate::reductions::reduction;
 use crate::types::{Emitter, Env, Index};
-use ada_base::{Op, Reason};
+use ada_base::{Comparison, Op, Reason};
 use lower_emission::types::{Named, Where};
 use stack_code::Instr;
 use typed_tree::{Class, Expr, Scalar, Selection, Value};
@@ -32,7 +32,7 @@ pub fn lost(env: &Env<'_>, h: u32, out: &mut Emitter)
 pub fn checked(env: &Env<'_>, h: u32, scalar: Scalar, out: &mut Emitter)
     ensures { Emits (spec.checked (env_of env.now) (h + 1) scalar) out.old out.new }
 {
-    out.put_above(env, h, 1, Instr::Range(scalar.low, scalar.high));
+    out.put_above(env, h, 1, check_instr(scalar));
 }
 
 fn load(env: &Env<'_>, h: u32, found: Option<Named>, out: &mut Emitter)
@@ -189,18 +189,19 @@ pub fn emit(env: &Env<'_>, h: u32, id: u32, out: &mut Emitter)
         Expr::OrElse { left, right } => or_else(env, h, left, right, out),
         Expr::Relation {
             comparison,
+            class,
             left,
             right,
-            ..
-        } => two(env, h, left, right, compare_instr(comparison), out),
+        } => two(env, h, left, right, compare_instr(comparison, class), out),
         Expr::Membership {
             negated,
+            class,
             value,
             low,
             high,
             ..
         } => {
-            between(env, h, value, low, high, out);
+            between(env, h, class, value, low, high, out);
             if negated {
                 out.put_above(env, h, 1, Instr::Flip);
             }
@@ -465,8 +466,8 @@ fn conditional(env: &Env<'_>, h: u32, condition: u32, value: u32, otherwise: u32
 /// Whether a value lies between two others.
 #[cycle(emit)]
 #[inline(never)]
-fn between(env: &Env<'_>, h: u32, value: u32, low: u32, high: u32, out: &mut Emitter)
-    ensures { Emits (spec.emit (tables env.now) (env_of env.now) h (expr_at (nodes env.now) value) ⨟ keep (env_of env.now) (h + 1) env.now.free ⨟ spec.emit (tables env.now) (taking 1 (env_of env.now)) h (expr_at (nodes env.now) low) ⨟ keep (env_of env.now) (h + 1) (env.now.free + 1) ⨟ spec.emit (tables env.now) (taking 2 (env_of env.now)) h (expr_at (nodes env.now) high) ⨟ spec.within (env_of env.now) h env.now.free) out.old out.new }
+fn between(env: &Env<'_>, h: u32, class: Class, value: u32, low: u32, high: u32, out: &mut Emitter)
+    ensures { Emits (spec.emit (tables env.now) (env_of env.now) h (expr_at (nodes env.now) value) ⨟ keep (env_of env.now) (h + 1) env.now.free ⨟ spec.emit (tables env.now) (taking 1 (env_of env.now)) h (expr_at (nodes env.now) low) ⨟ keep (env_of env.now) (h + 1) (env.now.free + 1) ⨟ spec.emit (tables env.now) (taking 2 (env_of env.now)) h (expr_at (nodes env.now) high) ⨟ spec.within (env_of env.now) h class env.now.free) out.old out.new }
 {
     let free1 = out.sum(env.free, 1);
     let free2 = out.sum(env.free, 2);
@@ -475,17 +476,18 @@ fn between(env: &Env<'_>, h: u32, value: u32, low: u32, high: u32, out: &mut Emi
     emit(&env.with_free(free1), h, low, out);
     out.keep(env, h, free1);
     emit(&env.with_free(free2), h, high, out);
-    within(env, h, env.free, out);
+    within(env, h, class, env.free, out);
 }
 
-fn within(env: &Env<'_>, h: u32, d: u32, out: &mut Emitter)
-    ensures { Emits (spec.within (env_of env.now) h d) out.old out.new }
+fn within(env: &Env<'_>, h: u32, class: Class, d: u32, out: &mut Emitter)
+    ensures { Emits (spec.within (env_of env.now) h class d) out.old out.new }
 {
     let h1 = out.sum(h, 1);
     let d1 = out.sum(d, 1);
     out.put(env, h1, Instr::LoadL(d));
-    out.put_above(env, h, 2, Instr::Ge);
-    out.operate(env, h1, Instr::LoadL(d1), Instr::LoadL(d), Instr::Le);
+    out.put_above(env, h, 2, compare_instr(Comparison::AtLeast, class));
+    let at_most = compare_instr(Comparison::AtMost, class);
+    out.operate(env, h1, Instr::LoadL(d1), Instr::LoadL(d), at_most);
     out.put_above(env, h, 2, Instr::Min);
 }
 

@@ -1,22 +1,23 @@
 //! The instructions of operators and of what is named.
 
-ghost use Rattle.std.specs.Prelude.{◌≡◌};
+ghost use Rattle.std.specs.Prelude.{◌≡◌, cond};
 ghost use Rattle.lower_emission.specs.Emission as spec;
 ghost use Rattle.lower_emission.specs.Scope as scope;
-ghost use Rattle.ada_meaning.specs.Values.{base_of};
+ghost use Rattle.ada_meaning.specs.Values.{is_modular};
 
-use ada_base::{Base, Comparison, Op};
+use ada_base::{Comparison, Op};
 use lower_emission::types::{Level, Named, Where};
+use run_values::{base_of, digits_in};
 use stack_code::Instr;
-use typed_tree::{Class, Sign};
+use typed_tree::{Class, Scalar, Sign};
 
-pub(crate) fn base_of(class: Class) -> Base
-    ensures { result ≡ base_of class }
+// The one of two instructions that works on numbers of a class.
+fn either(class: Class, modular: Instr, other: Instr) -> Instr
+    ensures { result ≡ cond (is_modular class) modular other }
 {
-    match class {
-        Class::Integer(base) => base,
-        Class::Boolean => Base::Narrow,
-        Class::Universal => Base::Wide,
+    match digits_in(class) {
+        Some(_) => modular,
+        None => other,
     }
 }
 
@@ -27,8 +28,33 @@ pub fn unary_instr(sign: Sign, class: Class) -> Instr
     match sign {
         Sign::Minus => Instr::Neg(base_of(class)),
         Sign::Abs => Instr::Abs(base_of(class)),
-        Sign::Not => Instr::Flip,
+        Sign::Not => match digits_in(class) {
+            Some(count) => Instr::BNot(count),
+            None => Instr::Flip,
+        },
     }
+}
+
+/// The instruction that raises Constraint_Error unless the top is one of a subtype's numbers (3.5).
+pub fn check_instr(scalar: Scalar) -> Instr
+    ensures { result ≡ spec.check_instr scalar }
+{
+    either(
+        scalar.class,
+        Instr::URange(scalar.low, scalar.high),
+        Instr::Range(scalar.low, scalar.high),
+    )
+}
+
+/// The same, which writes the top to a cell of the own frame then.
+pub fn set_instr(scalar: Scalar, cell: u32) -> Instr
+    ensures { result ≡ scope.set_instr scalar cell }
+{
+    either(
+        scalar.class,
+        Instr::USetL(cell, scalar.low, scalar.high),
+        Instr::SetL(cell, scalar.low, scalar.high),
+    )
 }
 
 /// The instruction of an operator of two operands of a class (4.5.1, 4.5.3, 4.5.5, 4.5.6), and of Max and Min.
@@ -44,9 +70,11 @@ pub fn binary_instr(op: Op, class: Class) -> Instr
         Op::Mod => Instr::Mod(base),
         Op::Rem => Instr::Rem(base),
         Op::Pow => Instr::Pow(base),
-        Op::And | Op::Min => Instr::Min,
-        Op::Or | Op::Max => Instr::Max,
-        Op::Xor => Instr::Differ,
+        Op::And => either(class, Instr::And, Instr::Min),
+        Op::Or => either(class, Instr::Or, Instr::Max),
+        Op::Xor => either(class, Instr::Xor, Instr::Differ),
+        Op::Max => either(class, Instr::UMax, Instr::Max),
+        Op::Min => either(class, Instr::UMin, Instr::Min),
     }
 }
 
@@ -64,17 +92,17 @@ pub fn fixed_instr(op: Op, class: Class, value: i64) -> Option<Instr>
     }
 }
 
-/// The instruction of a comparison (4.5.2).
-pub fn compare_instr(comparison: Comparison) -> Instr
-    ensures { result ≡ spec.compare_instr comparison }
+/// The instruction of a comparison of numbers of a class (4.5.2).
+pub fn compare_instr(comparison: Comparison, class: Class) -> Instr
+    ensures { result ≡ spec.compare_instr comparison class }
 {
     match comparison {
         Comparison::Equal => Instr::Eq,
         Comparison::Unequal => Instr::Ne,
-        Comparison::Less => Instr::Lt,
-        Comparison::AtMost => Instr::Le,
-        Comparison::Greater => Instr::Gt,
-        Comparison::AtLeast => Instr::Ge,
+        Comparison::Less => either(class, Instr::ULt, Instr::Lt),
+        Comparison::AtMost => either(class, Instr::ULe, Instr::Le),
+        Comparison::Greater => either(class, Instr::UGt, Instr::Gt),
+        Comparison::AtLeast => either(class, Instr::UGe, Instr::Ge),
     }
 }
 

@@ -6,7 +6,7 @@ ghost use Rattle.typed_tree.specs.Syntax.{Count};
 ghost use Rattle.ada_meaning.specs.Meaning.{most_threads};
 ghost use Rattle.lower_emission.specs.Emission as spec;
 ghost use Rattle.lower_emission.specs.Scope.{◌⨟◌, array_root_of, keep, one, taking};
-ghost use Rattle.lower_values.specs.Words.{env_of, nodes, tables, Emits, Finds};
+ghost use Rattle.lower_values.specs.Words.{env_of, is_narrow, nodes, tables, Emits, Finds, Fits};
 ghost use Rattle.stack_code.specs.declared.instr.Instr.TheVariants as i;
 
 use crate::aggregates::{Components, own};
@@ -73,8 +73,10 @@ pub fn counting(env: &Env<'_>, h: u32, counted: Counted, head: u32, out: &mut Em
 }
 
 /// The cell of a range's parameter.
+#[tactic(auto, using(crate::proofs::Fitting::fits_kept))]
 pub fn first_parameter(counted: Counted, out: &mut Emitter) -> u32
-    ensures { Finds (spec.first_parameter counted.reverse counted.first) out.old result out.new }
+    ensures finds { Finds (spec.first_parameter counted.reverse counted.first) out.old result out.new }
+    ensures fits { Fits (is_narrow (spec.first_parameter counted.reverse counted.first)) out.old out.new }
 {
     if counted.reverse {
         out.sum(counted.first, 1)

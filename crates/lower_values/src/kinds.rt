@@ -4,7 +4,7 @@ ghost use Rattle.std.specs.Prelude.{◌≡◌};
 ghost use Rattle.typed_tree.specs.Decoded.{chunk_at};
 ghost use Rattle.lower_emission.specs.Emission as spec;
 
-use crate::instrs::base_of;
+use run_values::base_of;
 use stack_code::SiteKind;
 use typed_tree::{Chunk, Reducer, Typed};
 

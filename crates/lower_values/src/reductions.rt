@@ -7,16 +7,18 @@ ghost use Rattle.lower_emission.specs.Emission as spec;
 ghost use Rattle.lower_emission.specs.Scope.{◌⨟◌, forks, looped, nested, one, keep, taking, thread_scope};
 ghost use Rattle.lower_values.specs.Words.{env_of, nodes, tables, Emits};
 ghost use Rattle.stack_code.specs.declared.instr.Instr.TheVariants as i;
+ghost use Rattle.ada_base.specs.declared.operation.Comparison.TheVariants as comparison;
 
 use crate::aggregates::{self, Steps, own, reached, stepping};
 use crate::exprs::{checked, emit};
-use crate::instrs::binary_instr;
+use crate::instrs::{binary_instr, compare_instr};
 use crate::iterations::{
     Array, Counted, array_address, ascending, bounds, bounds_code, chunk_code, chunk_env, counting,
     course_code, ends_code, first_item, first_parameter, positions,
 };
 use crate::kinds::reduction_kind;
 use crate::types::{Emitter, Env};
+use ada_base::Comparison;
 use stack_code::{Instr, SiteKind};
 use typed_tree::{Expr, Iteration, Reducer, Scalar};
 
@@ -277,9 +279,7 @@ fn fork(env: &Env<'_>, h: u32, parallel: Parallel, forked: Forked, fold: Fold, o
     let h1 = out.sum(h, 1);
     let free = out.sum(env.free, 1);
     let nest = out.sum(env.nest, 1);
-    emit(env, h, parallel.initial, out);
-    out.keep(env, h, env.free);
-    out.put(env, h, Instr::Nest);
+    opened(env, h, parallel.initial, out);
     let inside = env.with_free(free).with_nest(nest);
     let question = Question {
         site: parallel.site,
@@ -291,9 +291,27 @@ fn fork(env: &Env<'_>, h: u32, parallel: Parallel, forked: Forked, fold: Fold, o
     thread(env, parallel.site, forked, fold, out);
     out.aim(&inside, h1, over);
     out.put(&inside, h1, Instr::Unnest);
-    let course = out.sum(free, 2);
+    together(&env.with_free(free), h, fold.by, out);
+}
+
+/// The initial value goes to a cell of the frame, and a construct is begun.
+#[cycle(emit)]
+#[inline(never)]
+fn opened(env: &Env<'_>, h: u32, initial: u32, out: &mut Emitter)
+    ensures { Emits (spec.emit (tables env.now) (env_of env.now) h (expr_at (nodes env.now) initial) ⨟ keep (env_of env.now) (h + 1) env.now.free ⨟ one (env_of env.now) h i.Nest) out.old out.new }
+{
+    emit(env, h, initial, out);
+    out.keep(env, h, env.free);
+    out.put(env, h, Instr::Nest);
+}
+
+/// Combines the accumulators of threads, where the chunks and the course have two cells each.
+fn together(env: &Env<'_>, h: u32, by: Reducer, out: &mut Emitter)
+    ensures { Emits (spec.combined (taking 2 (taking 2 (env_of env.now))) h by) out.old out.new }
+{
+    let course = out.sum(env.free, 2);
     let behind = out.sum(course, 2);
-    combined(&env.with_free(behind), h, fold.by, out);
+    combined(&env.with_free(behind), h, by, out);
 }
 
 /// The fork of a loop or a reduction, with what it is asked.
@@ -356,25 +374,29 @@ fn reducing(env: &Env<'_>, h: u32, accumulator: Scalar, value: Scalar, out: &mut
     out.put_above(env, h, 2, Instr::Min);
 }
 
+/// Tests whether the number in a cell is at least the subtype's first one.
+fn at_least(env: &Env<'_>, h: u32, cell: u32, subtype: Scalar, out: &mut Emitter)
+    ensures { Emits (one (env_of env.now) h (i.LoadL cell) ⨟ one (env_of env.now) (h + 1) (i.Push subtype.low) ⨟ one (env_of env.now) (h + 1 + 1) (spec.compare_instr comparison.AtLeast subtype.class)) out.old out.new }
+{
+    let instr = compare_instr(Comparison::AtLeast, subtype.class);
+    out.operate(env, h, Instr::LoadL(cell), Instr::Push(subtype.low), instr);
+}
+
+/// Tests whether it is at most the last one.
+fn at_most(env: &Env<'_>, h: u32, cell: u32, subtype: Scalar, out: &mut Emitter)
+    ensures { Emits (one (env_of env.now) h (i.LoadL cell) ⨟ one (env_of env.now) (h + 1) (i.Push subtype.high) ⨟ one (env_of env.now) (h + 1 + 1) (spec.compare_instr comparison.AtMost subtype.class)) out.old out.new }
+{
+    let instr = compare_instr(Comparison::AtMost, subtype.class);
+    out.operate(env, h, Instr::LoadL(cell), Instr::Push(subtype.high), instr);
+}
+
 /// Tests whether the number in a cell is one of the subtype's.
 fn ranged(env: &Env<'_>, h: u32, cell: u32, subtype: Scalar, out: &mut Emitter)
     ensures { Emits (spec.ranged (env_of env.now) h cell subtype) out.old out.new }
 {
     let h1 = out.sum(h, 1);
-    out.operate(
-        env,
-        h,
-        Instr::LoadL(cell),
-        Instr::Push(subtype.low),
-        Instr::Ge,
-    );
-    out.operate(
-        env,
-        h1,
-        Instr::LoadL(cell),
-        Instr::Push(subtype.high),
-        Instr::Le,
-    );
+    at_least(env, h, cell, subtype, out);
+    at_most(env, h1, cell, subtype, out);
     out.put_above(env, h, 2, Instr::Min);
 }
 

@@ -1,21 +1,25 @@
 //! A value that is computed anew for each of several components, as a part that is repeated (4.3.3).
 
-ghost use Rattle.std.specs.Prelude.{◌≡◌, ◌<◌, ◌+◌, ◌-ℤ◌, pos};
+ghost use Rattle.std.specs.Prelude.{◌≡◌, ◌<◌, ◌+◌, ◌-ℤ◌, nat_lt, pos};
+ghost use Rattle.ada_base.specs.declared.operation.Base.TheVariants.{Wide};
 ghost use Rattle.typed_tree.specs.Decoded.{as_runs, part_at, value_at};
 ghost use Rattle.lower_emission.specs.Emission as spec;
 ghost use Rattle.lower_emission.specs.Scope.{◌⨟◌, keep, one, taking};
-ghost use Rattle.lower_values.specs.Words.{env_of, nodes, tables, Emits, Finds, Learns};
+ghost use Rattle.lower_values.specs.Words.{env_of, is_long, nodes, tables, Emits, Finds, Fits, Learns};
 ghost use Rattle.stack_code.specs.declared.instr.Instr.TheVariants as i;
 
 use crate::aggregates::{component, last_value};
 use crate::runs::first_run;
 use crate::types::{Emitter, Env};
+use ada_base::Base;
 use stack_code::Instr;
 use typed_tree::Run;
 
 /// A sum, if there is room for it.
+#[tactic(auto, using(crate::proofs::Fitting::fits_kept, crate::proofs::Fitting::fits_lost))]
 fn sum(number: u64, more: u64, out: &mut Emitter) -> u64
-    ensures { Finds (number + more) out.old result out.new }
+    ensures finds { Finds (number + more) out.old result out.new }
+    ensures fits { Fits (is_long (number + more)) out.old out.new }
 {
     match number.checked_add(more) {
         Some(found) => found,
@@ -27,8 +31,10 @@ fn sum(number: u64, more: u64, out: &mut Emitter) -> u64
 }
 
 /// A number as one of code, if there is room for it.
+#[tactic(auto, using(crate::proofs::Fitting::fits_kept, crate::proofs::Fitting::fits_lost))]
 fn coded(number: u64, out: &mut Emitter) -> i64
-    ensures { Learns (pos number) out.old result out.new }
+    ensures learns { Learns (pos number) out.old result out.new }
+    ensures fits { Fits (nat_lt number 9223372036854775808) out.old out.new }
 {
     match i64::try_from(number) {
         Ok(found) => found,
@@ -40,8 +46,10 @@ fn coded(number: u64, out: &mut Emitter) -> i64
 }
 
 /// How many components runs have.
+#[tactic(auto, using(crate::proofs::Fitting::fits_kept, crate::proofs::Fitting::fits_total))]
 fn components_of(env: &Env<'_>, runs: u32, out: &mut Emitter) -> u64
-    ensures { Finds (spec.components_of (as_runs (part_at (nodes env.now) runs))) out.old result out.new }
+    ensures finds { Finds (spec.components_of (as_runs (part_at (nodes env.now) runs))) out.old result out.new }
+    ensures fits { Fits (is_long (spec.components_of (as_runs (part_at (nodes env.now) runs)))) out.old out.new }
 {
     match first_run(&env.typed.nodes, runs) {
         None => 0,
@@ -81,10 +89,10 @@ pub fn repeating(env: &Env<'_>, h: u32, to: u32, value: u32, runs: u32, out: &mu
 
 /// The number of the round goes on, and another one begins where it follows.
 fn next_round(env: &Env<'_>, h: u32, head: u32, out: &mut Emitter)
-    ensures { Emits (one (env_of env.now) h (i.LoadL env.now.free) ⨟ one (env_of env.now) (h + 1) (i.Field 1) ⨟ keep (env_of env.now) (h + 1) env.now.free ⨟ one (env_of env.now) h (i.Again head)) out.old out.new }
+    ensures { Emits (one (env_of env.now) h (i.LoadL env.now.free) ⨟ one (env_of env.now) (h + 1) (i.AddI (pos 1) Wide) ⨟ keep (env_of env.now) (h + 1) env.now.free ⨟ one (env_of env.now) h (i.Again head)) out.old out.new }
 {
     out.put(env, h, Instr::LoadL(env.free));
-    out.put_above(env, h, 1, Instr::Field(1));
+    out.put_above(env, h, 1, Instr::AddI(1, Base::Wide));
     out.keep(env, h, env.free);
     out.put(env, h, Instr::Again(head));
 }

@@ -5,7 +5,7 @@ ghost use Rattle.typed_tree.specs.Decoded.{as_runs, part_at, value_at};
 ghost use Rattle.lower_emission.specs.Emission as spec;
 ghost use Rattle.lower_emission.specs.Scope.{◌⨟◌, looped, one, when_};
 ghost use Rattle.lower_values.specs.Runs.{runs_from};
-ghost use Rattle.lower_values.specs.Words.{env_of, nodes, tables, Emits, Finds};
+ghost use Rattle.lower_values.specs.Words.{env_of, is_narrow, nodes, tables, Emits, Finds, Fits};
 ghost use Rattle.stack_code.specs.declared.instr.Instr.TheVariants as i;
 
 use crate::aggregates::{
@@ -41,8 +41,10 @@ pub fn first_run(nodes: &Nodes, runs: u32) -> Option<Found>
 }
 
 /// The height at which a component's code stands in the loop through these runs.
+#[tactic(auto, using(crate::proofs::Fitting::fits_kept))]
 pub fn turn_height(env: &Env<'_>, h: u32, runs: u32, out: &mut Emitter) -> u32
-    ensures { Finds (spec.turn_height (as_runs (part_at (nodes env.now) runs)) h) out.old result out.new }
+    ensures finds { Finds (spec.turn_height (as_runs (part_at (nodes env.now) runs)) h) out.old result out.new }
+    ensures fits { Fits (is_narrow (spec.turn_height (as_runs (part_at (nodes env.now) runs)) h)) out.old out.new }
 {
     match first_run(&env.typed.nodes, runs) {
         None => h,

@@ -1,8 +1,9 @@
 //! The texts of a program (A.10.7), each once, so that the number of one is found at once.
 
-ghost use Rattle.std.specs.Prelude.{◌≡◌, [], IfOk, OnOk};
+ghost use Rattle.std.specs.Prelude.{◌≡◌, [], is_ok, IfOk, OnOk};
 ghost use Rattle.lower_emission.specs.Texts.{gathered, noted, place};
 ghost use Rattle.lower_values.specs.Texts.{Listed, found};
+ghost use Rattle.lower_values.specs.Words.{is_narrow};
 ghost use Rattle.typed_tree.specs.Decoded.{as_bytes, part_at};
 
 use ada_base::Items;
@@ -48,10 +49,11 @@ impl Texts {
         self.alloc
     }
 
-    /// The number of a text among them, or their number where it isn't among them. An Err is want of memory.
+    /// The number of a text among them, or their number where it isn't among them. An Err is a number beyond 32 bits.
     #[tactic(auto, using(crate::proofs::Found::place_some, crate::proofs::Found::place_none))]
     pub fn place(&self, text: &Vec<u8>) -> Result<u32, AllocError>
-        ensures { IfOk result (λ n. n ≡ place self.now text.now.items) }
+        ensures is { IfOk result (λ n. n ≡ place self.now text.now.items) }
+        ensures fits { is_ok result ≡ is_narrow (place self.now text.now.items) }
     {
         match self.numbers.get(text) {
             Some(number) => Ok(*number),

@@ -58,11 +58,13 @@ pub struct Env<'a> {
     pub nest: u32,
 }
 
-/// The code that was emitted, if it is whole: if all of it had room.
+/// The code that was emitted, if it is whole: if all of it had room. It isn't where memory was short, where a number has
+/// no room in the bits of a code's, or where a part of the tree isn't of the kind that the part around it says.
 #[derive(Drop)]
 pub struct Emitter {
     pub code: Items<Placed>,
     pub whole: bool,
+    pub short: bool,
 }
 
 /// An index of a name: its expression, its least and greatest value, and the cells of one component.

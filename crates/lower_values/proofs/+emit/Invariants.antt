@@ -146,6 +146,9 @@ decreases-reductions::item_folds l = 17179869184 * max l.turns.filter l.turns.fo
 abbrev pub decreases-reductions::fork : goal.decreases-reductions::fork
 decreases-reductions::fork l = 17179869184 * max l.parallel.initial (max l.forked.chunk (max l.forked.iteration l.fold.value)) + 90
 
+abbrev pub decreases-reductions::opened : goal.decreases-reductions::opened
+decreases-reductions::opened l = 17179869184 * l.initial + 30
+
 abbrev pub decreases-reductions::ordered : goal.decreases-reductions::ordered
 decreases-reductions::ordered l = 17179869184 * max l.initial (max l.forked.iteration l.fold.value) + 90
 

@@ -10,7 +10,7 @@ use Rattle.lower_code.proofs.bodies.subprograms.Goals as goal
 -- a subprogram is written
 pub loop-sub-preserved : goal.loop-sub-preserved
 loop-sub-preserved c = λ h.
-    let n = c.sum-number.ensures h in
+    let n = c.sum-number.ensures.finds h in
     let u = c.subprogram.ensures n.0 in
     let v = c.start.ensures u.0 in
     let i = c.loop-sub.invariant v.0 in

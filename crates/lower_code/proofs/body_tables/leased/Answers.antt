@@ -10,7 +10,7 @@ loop-site-preserved c =
     let bs = c.args.begun.now in
     let k = c.loop-site.site-index in
     let h = c.loop-site.invariant in (
-      leased_kept c.args.leases k bs _ _ _ _ _ _ _ (drop_more bs k _ c.loop-site-test.true) c.next_lease-list.ensures.0 h.1 c.in_ok-site_by.ensures c.in_ok-push.ensures.ok h.0,
+      leased_kept c.args.leases k bs _ _ _ _ _ _ _ (drop_more bs k _ c.loop-site-test.true) c.next_lease-list.ensures.0 h.1 c.in_ok-site_by.ensures.is c.in_ok-push.ensures.ok h.0,
       c.next_lease-list.ensures.1 ∙ (ap (drop 1) h.1 ∙ lease_next c.args.leases k),
     )
 

@@ -10,7 +10,7 @@ pub loop-forked-preserved : goal.loop-forked-preserved
 loop-forked-preserved c = λ h.
     let look = c.in-Some.ensures.lookup in
     let e : slice_get c.args.flags.now c.loop-forked.site ≡ Some c.in-Some.forked.now = slice_get_read c.args.flags.now (length c.args.flags.now) c.loop-forked.site c.in-Some.forked.now refl look.3.0 look.1 in
-    let n = c.sum-site.ensures h in
+    let n = c.sum-site.ensures.finds h in
     let u = c.missing_fork.ensures n.0 in
     let i = c.loop-forked.invariant u.0 in
     (i.0, missing_kept (env_of c.args.env.now) c.loop-forked.site c.sum-site.result c.in-Some.forked.now c.args.flags.now c.loop-forked.out.code c.missing_fork.new.out.code c.sum-site.new.self.code _ e n.1 u.1 i.1)
