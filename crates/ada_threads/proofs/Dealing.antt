@@ -1,11 +1,10 @@
 -- Threads that are dealt are what workers take.
-use Rattle.std.proofs.Common.{◌≡◌, ◌⊎◌, inl, inr, ℕ, zero, suc, ◌+◌, ◌-◌, ◌<◌, ◌≤◌, ◌^◌, ℤ, pos, Bool, true, false, cond, List, [], ◌∷◌, ◌++◌, length, get_or, drop, replicate, Option, Some, None, arith, refl, sym, ◌∙◌, ap, subst, append_assoc, append-nil}
+use Rattle.std.proofs.Common.{◌≡◌, ◌⊎◌, inl, inr, ℕ, suc, ◌+◌, ◌<◌, ◌^◌, Bool, true, false, cond, List, [], ◌∷◌, ◌++◌, length, get_or, drop, Option, Some, None, arith, refl, sym, ◌∙◌, ap, subst, append_assoc, append-nil}
 use Rattle.std.specs.Prelude.{◌↔◌, slice_get}
 use Rattle.std.proofs.Math.Seq.{drop-cons}
 use Rattle.ada_base.specs.Cells.{Cell}
 use Rattle.ada_base.specs.Cuts.{Plan, cuts_of}
 use Rattle.behaviours.specs.Joins.{Share, deal}
-use Rattle.cell_strip.specs.declared.region.Region.{Region}
 use Rattle.cell_strip.specs.Regions.{covered}
 use Rattle.stack_code.specs.declared.code.Code.{Code}
 use Rattle.stack_code.specs.declared.code.CodeSite.{CodeSite}
@@ -16,7 +15,7 @@ use Rattle.ada_lower.specs.Lending.{Among, IsLent, Owns}
 use Rattle.ada_machine.specs.States.{state_of}
 use Rattle.ada_machine.specs.declared.machine.Machine.{Machine}
 use Rattle.ada_workers.specs.Orders.{Start}
-use Rattle.ada_workers.specs.Threads.{AllInside, FramesFit, areas_of, begin_of, begins_of, frame_values}
+use Rattle.ada_workers.specs.Threads.{AllInside, FramesFit, areas_of, begins_of, frame_values}
 use Rattle.ada_workers.specs.declared.threads.Thread.{Thread}
 use Rattle.machine_paths.specs.Constructing.{shares_of, starts_at}
 use Rattle.machine_paths.specs.Starting.{thread_start, thread_starts, thread_values}

@@ -1,13 +1,13 @@
 // What the threads of a construct come to.
 ghost use Rattle.std.specs.Prelude.{◌≡◌, ◌∷◌, [], IfOk};
-ghost use Rattle.stack_code.specs.Deeds.{bit, truth, differ, applied};
+ghost use Rattle.stack_code.specs.Deeds.{bit, truth, differ};
 ghost use Rattle.stack_code.specs.declared.code.Code.{Code as CodeOf};
 ghost use Rattle.stack_code.specs.declared.path.Asked.{Asked as AskedOf};
 ghost use Rattle.stack_code.specs.declared.path.Gave.TheVariants as gave;
-ghost use Rattle.ada_lower.specs.Driven.{answer_of, combine_by, combined_by, onto_by, raised_or};
+ghost use Rattle.ada_lower.specs.Driven.{answer_of, plain_applied, combine_by, combined_by, onto_by, raised_or};
 
-use ada_base::{Items, Op, Reason};
-use ada_machine::operands::applied;
+use ada_base::{Base, Items, Op, Reason, modular};
+use ada_machine::operands::plain_applied;
 use stack_code::{Gave, Leave, Reducer, SiteKind};
 use std::alloc::{AllocError, Global};
 
@@ -18,21 +18,32 @@ fn difference(a: i64, b: i64) -> i64
     if (a != 0) != (b != 0) { 1 } else { 0 }
 }
 
+// Two accumulators of another type than a modular one.
+fn combine_plain(op: Op, base: Base, a: i64, b: i64) -> Option<i64>
+    ensures { (c : CodeOf) → result ≡ plain_applied c op base a b }
+{
+    match op {
+        Op::And | Op::Min => Some(a.min(b)),
+        Op::Or | Op::Max => Some(a.max(b)),
+        Op::Xor => Some(difference(a, b)),
+        Op::Add => plain_applied(Op::Add, base, a, b),
+        Op::Sub => plain_applied(Op::Sub, base, a, b),
+        Op::Mul => plain_applied(Op::Mul, base, a, b),
+        Op::Div => plain_applied(Op::Div, base, a, b),
+        Op::Mod => plain_applied(Op::Mod, base, a, b),
+        Op::Rem => plain_applied(Op::Rem, base, a, b),
+        Op::Pow => plain_applied(Op::Pow, base, a, b),
+    }
+}
+
 // Two accumulators. None is Constraint_Error.
 fn combine_two(by: Reducer, a: i64, b: i64) -> Option<i64>
     ensures { (c : CodeOf) → result ≡ combine_by c by a b }
 {
-    match by.op {
-        Op::And | Op::Min => Some(a.min(b)),
-        Op::Or | Op::Max => Some(a.max(b)),
-        Op::Xor => Some(difference(a, b)),
-        Op::Add => applied(Op::Add, by.base, a, b),
-        Op::Sub => applied(Op::Sub, by.base, a, b),
-        Op::Mul => applied(Op::Mul, by.base, a, b),
-        Op::Div => applied(Op::Div, by.base, a, b),
-        Op::Mod => applied(Op::Mod, by.base, a, b),
-        Op::Rem => applied(Op::Rem, by.base, a, b),
-        Op::Pow => applied(Op::Pow, by.base, a, b),
+    match by.base {
+        Base::Modulo(k) => modular(by.op, k, a, b),
+        Base::Narrow => combine_plain(by.op, Base::Narrow, a, b),
+        Base::Wide => combine_plain(by.op, Base::Wide, a, b),
     }
 }
 

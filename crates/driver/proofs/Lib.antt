@@ -6,7 +6,7 @@ pub mod RaceFree
 pub mod Words
 mod Leavings
 mod FromTheOutset
-mod Truths
+mod CellKinds
 mod Coded
 mod Declaring
 mod Reading

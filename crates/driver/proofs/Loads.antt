@@ -14,6 +14,7 @@ use Rattle.lower_laws.specs.Granted.{paths_at}
 use Rattle.name_scopes.specs.Law.{NamedProgramsLaw}
 use Rattle.run_loaded.specs.Law.{AcceptedLaw}
 use Rattle.run_machine_laws.specs.Programs.{IsLoaded}
+use Rattle.stack_code.specs.Valid.{IsCountable}
 use Rattle.stack_code.specs.declared.code.Code.{Code}
 use Rattle.typed_tree.specs.Programs.{program}
 use Rattle.typed_tree.specs.Syntax.{Program}
@@ -37,8 +38,8 @@ same_grants (g ∷ gs) site = λ i. cond (eq_sym site g.site i) ((g.arm, effect_
 pub code_loaded : NamedProgramsLaw → AcceptedLaw → (p : Program) (c : Code) → IsAccepted p → IsTyped p → HasCode p c → (slots : ℕ) × IsLoaded p c (main_frame c) slots
 code_loaded names loads p c accepted typed coded =
     let named = names typed.0 typed.1.0 p typed.1.1 in
-    let loaded = loads p named.0 coded.grants accepted ((blocked_law p).1 accepted.unblocked) named.1 coded.granted in
     let is : c ≡ code_of p (leases_at p (λ site. paths_at site coded.grants.owned)) = coded.is ∙ ap (λ (granted : ℕ → List (ℕ × EffectPath)). code_of p (leases_at p granted)) (λ i site. same_grants coded.grants.owned site i) in
+    let loaded = loads p named.0 coded.grants accepted ((blocked_law p).1 accepted.unblocked) named.1 coded.granted (subst (λ (x : Code). IsCountable x.instrs) is coded.countable) in
     (loaded.0, subst (λ (x : Code). IsLoaded p x (main_frame x) loaded.0) (sym is) loaded.1)
 
 -- a unit that was built is loaded on a frame of so many cells

@@ -13,7 +13,7 @@ use Rattle.check_clashes.specs.declared.granted.Grants.{Grants}
 use Rattle.check_conflicts.specs.Answer.{AreGrants}
 use Rattle.check_effects.specs.Accepted.{IsAccepted}
 use Rattle.stack_code.specs.Stands.{IsForward}
-use Rattle.stack_code.specs.Valid.{IsValid}
+use Rattle.stack_code.specs.Valid.{IsCountable, IsValid}
 use Rattle.stack_code.specs.declared.code.Code.{Code}
 use Rattle.lower_emission.specs.Programs.{code_of}
 use Rattle.ada_lower.specs.Homes.{main_variables}
@@ -25,10 +25,12 @@ use Rattle.driver.specs.Kept.{main_frame}
 use Rattle.driver.specs.declared.unit.Unit.{Unit}
 
 -- It is that of the definition. A path may be granted more than once, so the text doesn't tell how often a lease is there.
+-- No part of it is repeated too often for numbers of 64 bits.
 pub record HasCode (program : Program) (code : Code) : Type 0 where
   pub grants : Grants
   pub granted : AreGrants program grants
   pub is : code ≡ code_of program (leases_at program (granted_by grants.owned))
+  pub countable : IsCountable code.instrs
 
 -- Code that stands for a program. It is valid and forward, so the machine on it is never stuck and comes to an end. It fits the
 -- program as the laws of the machine ask (`loaded`), and so a run of the machine on it, under whatever plan, number of workers

@@ -1,6 +1,7 @@
 -- What a text is compiled to.
-use Rattle.std.specs.Prelude.{ℕ, List, [], ◌∷◌, ◌++◌, map, slice_get, Option, Some, None, Bool, true, false}
+use Rattle.std.specs.Prelude.{ℕ, List, [], ◌∷◌, ◌++◌, map, slice_get, Option, Some, None}
 use Rattle.ada_base.specs.Tokens.{Tokenized, slice_at}
+use Rattle.ada_base.specs.declared.operation.Base.TheVariants.{Modulo}
 use Rattle.ada_meaning.specs.Meaning.{object_layout}
 use Rattle.typed_tree.specs.Programs as typed
 use Rattle.typed_tree.specs.Syntax.{Program, Decls, NoDecl, DeclareDefault, DeclareVariable, DeclareConstant, Mentions}
@@ -11,6 +12,8 @@ use Rattle.typed_tree.specs.declared.statements.Decl.TheVariants as decl
 use Rattle.typed_tree.specs.declared.scalars.Class.{Class}
 use Rattle.typed_tree.specs.declared.scalars.Class.TheVariants as class
 use Rattle.typed_tree.specs.declared.scalars.Scalar.{Scalar}
+use Rattle.run_reports.specs.declared.ends.CellKind.{CellKind}
+use Rattle.run_reports.specs.declared.ends.CellKind.TheVariants as kind
 use Rattle.run_reports.specs.declared.ends.Final.{Final}
 use Rattle.driver.specs.declared.unit.Unit.{Unit}
 
@@ -20,15 +23,17 @@ pub record Compiled : Type 0 where
   pub finals : List Final
   pub exceptions : List (List ℕ)
 
-abbrev pub is_boolean_class : Class → Bool
-is_boolean_class class.Boolean = true
-is_boolean_class _ = false
+-- what a cell of a class keeps
+abbrev pub kind_of : Class → CellKind
+kind_of class.Boolean = kind.Truth
+kind_of (class.Integer (Modulo k)) = kind.Digits
+kind_of c = kind.Number
 
-abbrev pub is_boolean : Scalar → Bool
-is_boolean s = is_boolean_class s.class
+abbrev pub scalar_kind : Scalar → CellKind
+scalar_kind s = kind_of s.class
 
-abbrev pub truths : List Scalar → List Bool
-truths cells = map is_boolean cells
+abbrev pub kinds_of : List Scalar → List CellKind
+kinds_of cells = map scalar_kind cells
 
 -- the name of an object as it is declared
 abbrev pub name_of : Tokenized → Option Object → List ℕ
@@ -36,7 +41,7 @@ name_of t None = []
 name_of t (Some o) = slice_at t o.name
 
 abbrev pub final_of : Tokenized → Program → ℕ → Final
-final_of t p x = record { name = name_of t (slice_get p.objects x); booleans = truths (object_layout p x) }
+final_of t p x = record { name = name_of t (slice_get p.objects x); kinds = kinds_of (object_layout p x) }
 
 -- the variables that are declared, behind others
 abbrev pub finals_behind : Tokenized → Program → List Final → Decls → List Final

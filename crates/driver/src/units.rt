@@ -1,22 +1,23 @@
 //! The unit of a typed program.
 
-ghost use Rattle.std.specs.Prelude.{◌≡◌, ◌++◌, ◌∷◌, [], IfOk, slice_get};
+ghost use Rattle.std.specs.Prelude.{◌≡◌, ◌++◌, ◌∷◌, [], IfOk, IsTrue, slice_get};
 ghost use Rattle.ada_meaning.specs.Meaning.{object_layout};
 ghost use Rattle.typed_tree.specs.Decoded.{decls_at};
 ghost use Rattle.typed_tree.specs.Programs.{program};
 ghost use Rattle.check_conflicts.specs.Answer.{AreGrants};
 ghost use Rattle.check_effects.specs.Accepted.{IsAccepted};
+ghost use Rattle.stack_code.specs.Valid.{IsCountable};
 ghost use Rattle.driver.specs.Coded.{HasCode, IsBuilt, IsTyped};
-ghost use Rattle.driver.specs.Compiled.{also_final, compiled, compiled_of, declared_variable, exception_names, final_of, finals_behind, name_of, truths};
+ghost use Rattle.driver.specs.Compiled.{also_final, compiled, compiled_of, declared_variable, exception_names, final_of, finals_behind, name_of, kinds_of};
 
-use crate::shapes::truths_of;
+use crate::shapes::kinds_of;
 use crate::unit::Unit;
 use ada_base::{Items, Tokens};
 use check_clashes::granted::Grants;
 use lower_code::lowering::lower;
 use lower_leases::{leases_of, variables_of};
-use run_reports::Final;
-use stack_code::Code;
+use run_reports::{CellKind, Final};
+use stack_code::{Code, Instr};
 use std::alloc::{AllocError, Global};
 use typed_tree::{Decl, Declared, Typed};
 
@@ -46,15 +47,43 @@ pub fn finish(
     })
 }
 
+/// Whether what an instruction begins is done less often than numbers of 64 bits tell.
+fn is_counted(instr: Instr) -> bool
+    ensures { IsTrue result → IsCountable (instr ∷ []) }
+{
+    match instr {
+        Instr::Repeat(times) => times < 9_223_372_036_854_775_808,
+        _ => true,
+    }
+}
+
+/// Whether each part of code is done less often than that. So it is in the code of any program: a part is repeated for each
+/// component of a value, each of which has a cell, and there are at most 2^22 cells.
+fn is_countable(code: &Code) -> bool
+    ensures { IsTrue result → IsCountable code.now.instrs }
+{
+    let instrs = code.instrs.as_slice();
+    for at in 0..instrs.len() {
+        if !is_counted(instrs[at]) {
+            return false;
+        }
+    }
+    true
+}
+
 /// The code of a typed program, by what its threads are granted. An Err is want of memory, also where a number of the code is
-/// beyond 32 bits.
+/// beyond 32 bits, or where a part is repeated too often for numbers of 64 bits, which it is for no program.
 fn lowered(alloc: Global, typed: &Typed, grants: &Grants) -> Result<Code, AllocError>
     requires { AreGrants (program typed.now) grants.now }
     ensures { IfOk result (HasCode (program typed.now)) }
 {
     let leases = leases_of(typed, grants, alloc)?;
     lower_leases::laws();
-    lower(typed, leases, alloc)
+    let code = lower(typed, leases, alloc)?;
+    if !is_countable(&code) {
+        return Err(AllocError);
+    }
+    Ok(code)
 }
 
 fn exceptions(
@@ -146,8 +175,8 @@ fn variable(alloc: Global, tokens: &Tokens, typed: &Typed, object: u32) -> Resul
     ensures { IfOk result (λ variable. variable ≡ final_of tokens.now (program typed.now) object) }
 {
     let name = object_name(alloc, tokens, typed, object)?;
-    let booleans = object_truths(alloc, typed, object)?;
-    Ok(Final { name, booleans })
+    let kinds = object_kinds(alloc, typed, object)?;
+    Ok(Final { name, kinds })
 }
 
 fn object_name(
@@ -167,12 +196,12 @@ fn object_name(
     }
 }
 
-fn object_truths(alloc: Global, typed: &Typed, object: u32) -> Result<Items<bool>, AllocError>
-    ensures { IfOk result (λ booleans. booleans ≡ truths (object_layout (program typed.now) object)) }
+fn object_kinds(alloc: Global, typed: &Typed, object: u32) -> Result<Items<CellKind>, AllocError>
+    ensures { IfOk result (λ kinds. kinds ≡ kinds_of (object_layout (program typed.now) object)) }
 {
-    let mut booleans = Items::new(alloc);
+    let mut kinds = Items::new(alloc);
     if let Some(found) = typed.objects.get(object as usize) {
-        truths_of(typed, found.subtype, &mut booleans)?;
+        kinds_of(typed, found.subtype, &mut kinds)?;
     }
-    Ok(booleans)
+    Ok(kinds)
 }

@@ -1,12 +1,13 @@
 -- No listed instruction of a thread, or of a nonblocking subprogram, asks for input or output, and it calls nonblocking ones alone (9.5).
-use Rattle.std.proofs.Common.{◌≡◌, ℕ, zero, suc, ◌+◌, ◌-◌, ◌<◌, min, ℤ, pos, ◌&&◌, not, List, [], ◌∷◌, ◌++◌, length, slice_get, nat_eq, nat_lt, Option, Some, None, Bool, true, false, cond, refl, sym, subst, ap, ◌∙◌, true≢false, arith}
+use Rattle.std.proofs.Common.{◌≡◌, ℕ, zero, suc, ◌+◌, ◌-◌, ◌<◌, min, max, ℤ, pos, ◌&&◌, not, List, [], ◌∷◌, ◌++◌, length, slice_get, nat_eq, nat_lt, Option, Some, None, Bool, true, false, cond, refl, sym, subst, ap, ◌∙◌, true≢false, arith}
 use Rattle.std.proofs.lemmas.Option.{none-some}
 use Rattle.ada_meaning.proofs.Cells.{some_same}
 use Rattle.ada_base.specs.declared.operation.Op.{Op}
 use Rattle.ada_base.specs.declared.operation.Op.TheVariants as op
 use Rattle.ada_base.specs.declared.reason.Reason.{Reason}
 use Rattle.behaviours.specs.Paths.{VariableOf, ConstantOf}
-use Rattle.ada_meaning.specs.Values.{components}
+use Rattle.ada_base.specs.declared.operation.Base.TheVariants.{Narrow, Wide, Modulo}
+use Rattle.ada_meaning.specs.Values.{components, is_modular}
 use Rattle.ada_meaning.specs.Nonblocking.{MayCall, MayReduce, KeepsExpr, KeepsOptional, KeepsSelections, KeepsActuals, KeepsValue, KeepsComposite, KeepsAssociations, KeepsIteration, KeepsChunk, KeepsPieces, KeepsDecls, Keeps, KeepsAll, KeepsAlternatives, KeepsArms, KeepsHandlers, KeepsBody, KeepsSubs, KeepsRule, nonblocking_of}
 use Rattle.ada_meaning.specs.Meaning.{object_layout, arms_of}
 use Rattle.typed_tree.specs.declared.scalars.Class.{Class}
@@ -36,9 +37,9 @@ use Rattle.lower_emission.specs.declared.types.Level.TheVariants.{Own, Around, M
 use Rattle.lower_emission.specs.declared.types.Leaving.{Leaving}
 use Rattle.lower_emission.specs.declared.types.Leaving.TheVariants.{ByReturn, ByValue, ByEnd, ByLeave}
 use Rattle.lower_emission.specs.Emits.{Emit, Nothing, One, Seq, Choose, When, Looped, Guarded, Aside, From, listed}
-use Rattle.lower_emission.specs.Scope.{Scope, own, taking, nested, thread_scope, with_parameter, with_item, with_target, with_handled, with_exit, with_entry, root_of, constant_root_of, array_root_of, none, one, ◌⨟◌, load_at, address_at, store_at, address_of}
-use Rattle.lower_emission.specs.Emission.{is_plain, Shape, shapes, load_by, load_named, load_where, address, is_whole, own_cell, indexed_by, item_by, main_named, component_address, component_value, unary_instr, binary_instr, static_instr, operated_by, compare_instr, within, negated_code, leaving_by, first_parameter, range_scope, item_scope, counting, bounds_code, ascending, stepping, folding, ranged, combined, doubled, filling, fillings, iterated_scope, turnings, entering, entering_next, run_steps, run_turnings, turn_height, chunk_scope, raise_above, raise_beyond, ends_code, turn_range, turn_component, cells_of, passing, composite_width, width, is_repeated, components_of, locating, locating_in, repeating}
-use Rattle.lower_emission.proofs.Fused.{of_operated, of_component_address, of_component_value}
+use Rattle.lower_emission.specs.Scope.{Scope, mark_of, keep_checked, own, taking, nested, thread_scope, with_parameter, with_item, with_target, with_handled, with_exit, with_entry, root_of, constant_root_of, array_root_of, none, one, ◌⨟◌, load_at, address_at, store_at, address_of}
+use Rattle.lower_emission.specs.Emission.{checked, is_plain, Shape, shapes, load_by, load_named, load_where, address, is_whole, own_cell, indexed_by, item_by, main_named, component_address, component_value, unary_instr, binary_instr, static_instr, operated_by, compare_instr, within, negated_code, leaving_by, first_parameter, range_scope, item_scope, counting, bounds_code, ascending, stepping, folding, ranged, combined, doubled, filling, fillings, iterated_scope, turnings, entering, entering_next, run_steps, run_turnings, turn_height, chunk_scope, raise_above, raise_beyond, ends_code, turn_range, turn_component, cells_of, passing, composite_width, width, is_repeated, components_of, locating, locating_in, repeating}
+use Rattle.lower_emission.proofs.Fused.{of_either, of_check, of_set, of_not, of_operated, of_component_address, of_component_value}
 unfoldable use Rattle.lower_emission.specs.Emission.{emit, named_value, selected, read, passed, put_into, composed, associated, component, filtered, iterated, chunk_code, course_code, threaded}
 use Rattle.lower_emission.specs.Statements.{no_handler, is_end, assigned, in_span, chosen, has_reason, handled_by, returning, returning_value, away, exiting, handled_target, image_instr, send_instr, piece_texts, object_here, exits_of, arm_exits, left_by, exits_code, is_own, left_code, field_defaults, default_of, defaults_within, subtype_or_none, defaulted, declared, parallel_for, arms_code, chunk_by, arm_scope, parallel_block, store_checked}
 unfoldable use Rattle.lower_emission.specs.Statements.{back_code, piece_values, stmt, all, cases, handling, arm_codes}
@@ -174,7 +175,7 @@ module _ (program : Program) where
     quiet_unary : (h : ℕ) (g : Sign) (class : Class) → Hushed (one s h (unary_instr g class))
     quiet_unary h sign.Minus class = tt
     quiet_unary h sign.Abs class = tt
-    quiet_unary h sign.Not class = tt
+    quiet_unary h sign.Not class = of_not (λ j. Hushed (one s h j)) class tt (λ n d. tt)
 
     quiet_binary : (h : ℕ) (x : Op) (class : Class) → Hushed (one s h (binary_instr x class))
     quiet_binary h op.Add class = tt
@@ -184,25 +185,31 @@ module _ (program : Program) where
     quiet_binary h op.Mod class = tt
     quiet_binary h op.Rem class = tt
     quiet_binary h op.Pow class = tt
-    quiet_binary h op.And class = tt
-    quiet_binary h op.Or class = tt
-    quiet_binary h op.Xor class = tt
-    quiet_binary h op.Max class = tt
-    quiet_binary h op.Min class = tt
+    quiet_binary h op.And class = of_either (λ j. Hushed (one s h j)) (is_modular class) _ _ tt tt
+    quiet_binary h op.Or class = of_either (λ j. Hushed (one s h j)) (is_modular class) _ _ tt tt
+    quiet_binary h op.Xor class = of_either (λ j. Hushed (one s h j)) (is_modular class) _ _ tt tt
+    quiet_binary h op.Max class = of_either (λ j. Hushed (one s h j)) (is_modular class) _ _ tt tt
+    quiet_binary h op.Min class = of_either (λ j. Hushed (one s h j)) (is_modular class) _ _ tt tt
 
     quiet_operated : (h : ℕ) (x : Op) (class : Class) (f : Expr) (right : Emit) → Hushed right → Hushed (operated_by s h (static_instr x class f) (binary_instr x class) right)
     quiet_operated h x class f right m = of_operated Hushed s h x class f (binary_instr x class) right (λ v. tt) (λ v. tt) (λ v. tt) (λ v. tt) (m, quiet_binary (h + 1) x class)
 
-    quiet_compare : (h : ℕ) (r : Comparison) → Hushed (one s h (compare_instr r))
-    quiet_compare h comparison.Equal = tt
-    quiet_compare h comparison.Unequal = tt
-    quiet_compare h comparison.Less = tt
-    quiet_compare h comparison.AtMost = tt
-    quiet_compare h comparison.Greater = tt
-    quiet_compare h comparison.AtLeast = tt
+    quiet_compare : (h : ℕ) (r : Comparison) (class : Class) → Hushed (one s h (compare_instr r class))
+    quiet_compare h comparison.Equal class = tt
+    quiet_compare h comparison.Unequal class = tt
+    quiet_compare h comparison.Less class = of_either (λ j. Hushed (one s h j)) (is_modular class) _ _ tt tt
+    quiet_compare h comparison.AtMost class = of_either (λ j. Hushed (one s h j)) (is_modular class) _ _ tt tt
+    quiet_compare h comparison.Greater class = of_either (λ j. Hushed (one s h j)) (is_modular class) _ _ tt tt
+    quiet_compare h comparison.AtLeast class = of_either (λ j. Hushed (one s h j)) (is_modular class) _ _ tt tt
 
-    quiet_within : (h d : ℕ) → Hushed (within s h d)
-    quiet_within h d = (tt, (tt, (tt, (tt, (tt, tt)))))
+    quiet_checked : (h : ℕ) (x : Scalar) → Hushed (checked s h x)
+    quiet_checked h x = of_check (λ j. Hushed (one s h j)) x tt tt
+
+    quiet_keep_checked : (h n : ℕ) (x : Scalar) → Hushed (keep_checked s h x n)
+    quiet_keep_checked h n x = of_set (λ j. Hushed (One (mark_of (max s.free (n + 1)) s) h j)) x n tt tt
+
+    quiet_within : (h : ℕ) (class : Class) (d : ℕ) → Hushed (within s h class d)
+    quiet_within h class d = (tt, (quiet_compare (h + 1 + 1) comparison.AtLeast class, (tt, (tt, (quiet_compare (h + 1 + 1 + 1) comparison.AtMost class, tt)))))
 
     quiet_negated : (h : ℕ) (b : Bool) → Hushed (negated_code s h b)
     quiet_negated h true = tt
@@ -210,13 +217,13 @@ module _ (program : Program) where
 
     quiet_bounds : (h d : ℕ) (check : Option Check) → Hushed (bounds_code s h d check)
     quiet_bounds h d None = tt
-    quiet_bounds h d (Some x) = (tt, (tt, (tt, (tt, (tt, tt)))))
+    quiet_bounds h d (Some x) = (tt, (quiet_checked (h + 1) x.scalar, (tt, (tt, (quiet_checked (h + 1) x.scalar, tt)))))
 
     quiet_ascending : (h d : ℕ) → Hushed (ascending s h d)
     quiet_ascending h d = (tt, (tt, tt))
 
     quiet_ranged : (h n : ℕ) (subtype : Scalar) → Hushed (ranged s h n subtype)
-    quiet_ranged h n subtype = (tt, (tt, (tt, (tt, (tt, (tt, tt))))))
+    quiet_ranged h n subtype = (tt, (tt, (quiet_compare (h + 1 + 1) comparison.AtLeast subtype.class, (tt, (tt, (quiet_compare (h + 1 + 1 + 1) comparison.AtMost subtype.class, tt))))))
 
     quiet_raise_above : (h d : ℕ) → Hushed (raise_above s h d)
     quiet_raise_above h d = (tt, (tt, (tt, tt)))
@@ -287,7 +294,7 @@ module _ (program : Program) where
 
     quiet_folding : (h : ℕ) (by : Reducer) → MayReduce nonblocking may by → Hushed (folding s h by)
     quiet_folding h (Operator a x class) w = quiet_binary s (h + 1 + 1) x class
-    quiet_folding h (Function a sub accumulator value) w = (tt, (tt, (tt, (tt, (tt, calls_quiet sub w)))))
+    quiet_folding h (Function a sub accumulator value) w = (tt, (quiet_keep_checked s (h + 1) s.free accumulator, (tt, (quiet_checked s (h + 1) value, (tt, calls_quiet sub w)))))
 
     quiet_combined : (h : ℕ) (by : Reducer) → MayReduce nonblocking may by → Hushed (combined s h by)
     quiet_combined h (Operator a x class) w = tt
@@ -317,12 +324,12 @@ module _ (program : Program) where
     quiet_emit may s h (Binary a x class e f) w k = (quiet_emit may s h e w.0 k, quiet_operated s (h + 1) x class f (emit program s (h + 1) f) (quiet_emit may s (h + 1) f w.1 k))
     quiet_emit may s h (AndThen e f) w k = (quiet_emit may s h e w.0 k, (quiet_emit may s h f w.1 k, tt))
     quiet_emit may s h (OrElse e f) w k = (quiet_emit may s h e w.0 k, (tt, quiet_emit may s h f w.1 k))
-    quiet_emit may s h (Relation class r e f) w k = (quiet_emit may s h e w.0 k, (quiet_emit may s (h + 1) f w.1 k, quiet_compare s (h + 1 + 1) r))
+    quiet_emit may s h (Relation class r e f) w k = (quiet_emit may s h e w.0 k, (quiet_emit may s (h + 1) f w.1 k, quiet_compare s (h + 1 + 1) r class))
     quiet_emit may s h (Membership class negated e low high) w k =
-        (quiet_emit may s h e w.0 k, (tt, (quiet_emit may (taking 1 s) h low w.1 k, (tt, (quiet_emit may (taking 2 s) h high w.2 k, (quiet_within s h s.free, quiet_negated s h negated))))))
+        (quiet_emit may s h e w.0 k, (tt, (quiet_emit may (taking 1 s) h low w.1 k, (tt, (quiet_emit may (taking 2 s) h high w.2 k, (quiet_within s h class s.free, quiet_negated s h negated))))))
     quiet_emit may s h (If condition value otherwise) w k = (quiet_emit may s h condition w.0 k, (quiet_emit may s h value w.1 k, quiet_emit may s h otherwise w.2 k))
     quiet_emit may s h (Call a callee sub actuals) w k = (quiet_passed may (passing program sub s) h sub s.free actuals w.1 k, calls_quiet may s k sub w.0)
-    quiet_emit may s h (Convert check e) w k = (quiet_emit may s h e w k, tt)
+    quiet_emit may s h (Convert check e) w k = (quiet_emit may s h e w k, quiet_checked s (h + 1) check.scalar)
     quiet_emit may s h (Reduction a attribute by initial None chunk it value) w k =
         (quiet_emit may s h initial w.2 k, quiet_iterated may s (h + 1) None it (λ u. emit program u (h + 1) value ⨟ folding u h by) w.4 k (λ u k'. (quiet_emit may u (h + 1) value w.5 k', quiet_folding may u k' h by w.1)))
     quiet_emit may s h (Reduction a attribute by initial (Some site) chunk it value) w k =
@@ -386,7 +393,7 @@ module _ (program : Program) where
     quiet_passed may s h sub n NoActual w k = tt
     quiet_passed may s h sub n (In formal value rest) w k = (quiet_into may s h _ value w.0 k, quiet_passed may s h sub n rest w.1 k)
     quiet_passed may s h sub n (InOut formal a r selections inner outer rest) w k =
-        ((quiet_address s h (root_of s r), (quiet_selected may s (h + 1) selections w.0 k, (tt, (tt, (tt, tt))))), quiet_passed may s h sub n rest w.1 k)
+        ((quiet_address s h (root_of s r), (quiet_selected may s (h + 1) selections w.0 k, (tt, (tt, (tt, quiet_keep_checked s (h + 1) _ inner))))), quiet_passed may s h sub n rest w.1 k)
     quiet_passed may s h sub n (Out formal a r selections inner outer rest) w k = ((quiet_address s h (root_of s r), (quiet_selected may s (h + 1) selections w.0 k, (tt, (tt, tt)))), quiet_passed may s h sub n rest w.1 k)
     quiet_passed may s h sub n (CompositeInOut formal a r selections subtype rest) w k =
         ((tt, (quiet_address s (h + 1) (root_of s r), (quiet_selected may s (h + 1 + 1) selections w.0 k, (tt, (tt, tt))))), quiet_passed may s h sub n rest w.1 k)
@@ -394,7 +401,7 @@ module _ (program : Program) where
         ((tt, (quiet_address s (h + 1) (root_of s r), (quiet_selected may s (h + 1 + 1) selections w.0 k, (tt, (tt, tt))))), quiet_passed may s h sub n rest w.1 k)
 
     quiet_into : (may : Bool) (s : Scope) (h n : ℕ) (x : Value) → KeepsValue nonblocking x may → Inside may s → Hushed (put_into program s h n x)
-    quiet_into may s h n (Number check e) w k = (quiet_emit may s h e w k, tt)
+    quiet_into may s h n (Number check e) w k = (quiet_emit may s h e w k, quiet_keep_checked s (h + 1) n check.scalar)
     quiet_into may s h n (Cells x) w k = quiet_composed may s h n x w k
 
     quiet_composed : (may : Bool) (s : Scope) (h n : ℕ) (x : Composite) → KeepsComposite nonblocking x may → Inside may s → Hushed (composed program s h n x)
@@ -411,7 +418,7 @@ module _ (program : Program) where
     quiet_associated may s h n (Association runs (Some x) mentions value rest) w k = (quiet_turnings s h n x.first _ runs (quiet_component may (iterated_scope s x.parameter) (turn_height runs h) (s.free + 1 + 1) value w.1 k), quiet_associated may s h n rest w.2 k)
 
     quiet_component : (may : Bool) (s : Scope) (h a : ℕ) (x : Value) → KeepsValue nonblocking x may → Inside may s → Hushed (component program s h a x)
-    quiet_component may s h a (Number check e) w k = (tt, (quiet_emit may s (h + 1) e w k, (tt, tt)))
+    quiet_component may s h a (Number check e) w k = (tt, (quiet_emit may s (h + 1) e w k, (quiet_checked s (h + 1 + 1) check.scalar, tt)))
     quiet_component may s h a (Cells x) w k = (quiet_composed may (taking (composite_width program x) s) h s.free x w k, (tt, (tt, tt)))
 
     quiet_filtered : (may : Bool) (s : Scope) (h : ℕ) (filter : Optional) (x : Emit) → KeepsOptional nonblocking filter may → Inside may s → Hushed x → Hushed (filtered program s h filter x)
@@ -516,7 +523,9 @@ module _ (program : Program) where
 
     quiet_image : (class : Class) → Hushed (one s 1 (image_instr class))
     quiet_image class.Boolean = tt
-    quiet_image (class.Integer base) = tt
+    quiet_image (class.Integer Narrow) = tt
+    quiet_image (class.Integer Wide) = tt
+    quiet_image (class.Integer (Modulo d)) = tt
     quiet_image class.Universal = tt
 
     quiet_texts : (d : ℕ) (x : Pieces) → Hushed (piece_texts s d x)
@@ -552,14 +561,14 @@ module _ (program : Program) where
         (tt, (tt, (tt, ((quiet_left_by s.free 1, (quiet_returning 0 s.leaving, (quiet_left_by s.free 2, (tt, quiet_returning_value s.leaving)))), quiet_exits s.free number loops))))
 
     quiet_store_checked : (x : Scalar) (level : Level) (n : ℕ) → Hushed (store_checked s x level n)
-    quiet_store_checked x Own n = tt
-    quiet_store_checked x level n = (tt, quiet_store_at s 1 level n)
+    quiet_store_checked x Own n = of_set (λ j. Hushed (one s 1 j)) x n tt tt
+    quiet_store_checked x level n = (quiet_checked s 1 x, quiet_store_at s 1 level n)
 
     quiet_assigned : (n : Option Named) (whole : Bool) (x : Scalar) (part : Emit) (value : Scope → ℕ → Emit) → Hushed part → ((u : Scope) (h : ℕ) → u.body ≡ s.body → Hushed (value u h)) → Hushed (assigned s n whole x part value)
     quiet_assigned None whole x part value f g = tt
     quiet_assigned (Some n) whole x part value f g =
         quiet_cond s (whole && not n.through) _ _ (g (with_target n s) 0 refl, quiet_store_checked x n.place.level n.place.cell)
-        (quiet_address_of s 0 n, (f, (tt, (tt, (g (with_target (record { through = true; place = own s.free; cells = 1 }) (taking 1 s)) 1 refl, (tt, tt))))))
+        (quiet_address_of s 0 n, (f, (tt, (tt, (g (with_target (record { through = true; place = own s.free; cells = 1 }) (taking 1 s)) 1 refl, (quiet_checked s (1 + 1) x, tt))))))
 
   quiet_fields : (at : ℕ → ℕ → Emit) (n : ℕ) (fs : List Part) → ((n m : ℕ) → Hushed (at n m)) → Hushed (field_defaults program at n fs)
   quiet_fields at n [] g = tt
@@ -582,8 +591,8 @@ module _ (program : Program) where
   unfolding back_code
   quiet_back s sub n NoActual = tt
   quiet_back s sub n (In formal value rest) = quiet_back s sub n rest
-  quiet_back s sub n (InOut formal a r selections inner outer rest) = ((tt, (tt, (tt, tt))), quiet_back s sub n rest)
-  quiet_back s sub n (Out formal a r selections inner outer rest) = ((tt, (tt, (tt, tt))), quiet_back s sub n rest)
+  quiet_back s sub n (InOut formal a r selections inner outer rest) = ((tt, (tt, (quiet_checked s 2 outer, tt))), quiet_back s sub n rest)
+  quiet_back s sub n (Out formal a r selections inner outer rest) = ((tt, (tt, (quiet_checked s 2 outer, tt))), quiet_back s sub n rest)
   quiet_back s sub n (CompositeInOut formal a r selections subtype rest) = ((tt, (tt, tt)), quiet_back s sub n rest)
   quiet_back s sub n (CompositeOut formal a r selections subtype rest) = ((tt, (tt, tt)), quiet_back s sub n rest)
 
@@ -630,7 +639,7 @@ module _ (program : Program) where
     quiet_stmt may s (Exit loop Absent) w k = quiet_exiting s loop (s.exits loop)
     quiet_stmt may s (Exit loop (Present e)) w k = (quiet_emit may s 0 e w k, quiet_exiting s loop (s.exits loop))
     quiet_stmt may s Return w k = quiet_returning s 0 s.leaving
-    quiet_stmt may s (ReturnValue (Number check e)) w k = (quiet_emit may s 0 e w k, (tt, quiet_returning_value s s.leaving))
+    quiet_stmt may s (ReturnValue (Number check e)) w k = (quiet_emit may s 0 e w k, (quiet_checked s 1 check.scalar, quiet_returning_value s s.leaving))
     quiet_stmt may s (ReturnValue (Cells x)) w k = tt
     quiet_stmt may s (Raise x) w k = tt
     quiet_stmt may s Reraise w k = quiet_handled s s.handled
@@ -644,7 +653,7 @@ module _ (program : Program) where
     quiet_stmt may s (Block decls stmts handlers) w k = quiet_declared may s decls _ w.0 k (λ u k'.
         quiet_cond u (no_handler handlers) _ _ (quiet_all may u stmts w.1 k') ((tt, quiet_handling may (with_handled (own u.free) (taking 1 u)) u.free handlers w.2 k'), (λ x. quiet_all may (with_entry x u) stmts w.1 k')))
     quiet_stmt may s (Put a callee pieces line) w k = (quiet_pieces may s pieces w.0 k, (quiet_texts s s.free pieces, quiet_send may s k w.1 line))
-    quiet_stmt may s (Get a callee first r selections scalar) w k = (quiet_address s 0 (root_of s r), (quiet_selected may s 1 selections w.0 k, ((λ q. true≢false (sym w.1 ∙ k q)), (tt, tt))))
+    quiet_stmt may s (Get a callee first r selections scalar) w k = (quiet_address s 0 (root_of s r), (quiet_selected may s 1 selections w.0 k, ((λ q. true≢false (sym w.1 ∙ k q)), (quiet_checked s 2 scalar, tt))))
 
     quiet_all : (may : Bool) (s : Scope) (x : Stmts) → KeepsAll nonblocking x may → Inside may s → Hushed (all program s x)
     quiet_all may s End w k = tt

@@ -11,13 +11,13 @@ use Rattle.stack_code.specs.declared.code.Code.{Code}
 use Rattle.stack_code.specs.declared.code.CodeSub.{CodeSub}
 use Rattle.stack_code.specs.declared.code.Unwind.{Unwind}
 use Rattle.ada_base.specs.Cells.{Cell, Gone, Seen, Mine, value_in, seen, written, zeros}
-use Rattle.stack_code.specs.Deeds.{Deed, Lacks, GoesOn, Fails, Loads, Stores, Turns, Calls, CallsAt, Combines, Draws, Repeats, Rounds, Ends, Leaves, Forks, Nests, Unnests, Writes, Sends, Gets, Gives, deed_of}
-use Rattle.stack_code.specs.Machine.{Frame, State, Spent, Went, Goes, Stops, look_by, look, with_value, with_cells, cut, on, moved_to, failed, entered, entered_at, entry_of, handled, unwound, raised, turned, entering, calling, entering_at, calling_at, combining, drawing, another, rounding, ending, nesting, done, acted, stepped, step, going, run}
+use Rattle.stack_code.specs.Deeds.{Deed, Lacks, GoesOn, Fails, Loads, Stores, Points, Turns, Calls, CallsAt, Combines, Draws, Repeats, Rounds, Ends, Leaves, Forks, Nests, Unnests, Writes, Sends, Gets, Gives, deed_of}
+use Rattle.stack_code.specs.Machine.{Frame, State, Spent, Went, Goes, Stops, look_by, look, with_value, with_cells, points, if_pointing, cut, on, moved_to, failed, entered, entered_at, entry_of, handled, unwound, raised, turned, entering, calling, entering_at, calling_at, combining, drawing, another, rounding, ending, nesting, done, acted, stepped, step, going, run}
 use Rattle.cell_memory.specs.Sight.{is_mine}
 use Rattle.machine_paths.specs.Alike.{at, Kept, with_memory, Chain, Alike}
 use Rattle.cell_memory.specs.Sight.{is_gone}
 use Rattle.machine_paths.specs.Touched.{Touch, Reads, Sets, Allowed, AllAllowed, touches_of, instr_touches, raise_touches, step_touches, run_touches, Own, GoesWell, OwnAfter}
-use Rattle.machine_paths.proofs.Frames.{there, get_at, read_same, wrote, writes, take_long, kept_write, steps_alike}
+use Rattle.machine_paths.proofs.Frames.{there, get_at, points_same, read_same, wrote, writes, take_long, kept_write, steps_alike}
 
 -- well, and with own cells to write
 abbrev pub Well : ℕ → Went → Type 0
@@ -183,6 +183,11 @@ module _ (b : ℕ) (vs ms : List Cell) where
       ] refl a.1 g where
         some_is : (x y : List Cell) → Some x ≡ Some y → x ≡ y
         some_is x y e = cc
+  back limit (Points x d) s ns k o a g =
+      elim (points ns x) as (λ y. points ns x ≡ y → GoesWell (if_pointing y (with_memory s ns) (done limit d (with_memory s ns))) → Well b (done limit (Points x d) s)) [
+        | false ↦ λ e w. absurd w
+        | true ↦ λ e w. subst (λ y. Well b (if_pointing y s (done limit d s))) (sym (sym (points_same ns s.cells x k.covers.0) ∙ e)) (back limit d s ns k o a w)
+      ] refl g
   back limit Turns s ns k o a g = turns b s o limit (λ t. Goes (on t.stack t)) (λ l n. (tt, o))
   back limit (Calls f) s ns k o a g = calls b s o limit f (s.pc + 1) s.kept
   back limit (CallsAt f cell to fit st) s ns k o a g = calls_at b limit f cell to fit st s o

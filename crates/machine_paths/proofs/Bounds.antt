@@ -9,9 +9,9 @@ use Rattle.stack_code.specs.declared.code.Code.{Code}
 use Rattle.stack_code.specs.declared.code.CodeSub.{CodeSub}
 use Rattle.stack_code.specs.declared.code.Unwind.{Unwind}
 use Rattle.ada_base.specs.Cells.{seen, written}
-use Rattle.stack_code.specs.Deeds.{Deed, Lacks, GoesOn, Fails, Loads, Stores, Turns, Calls, CallsAt, Combines, Draws, Repeats, Rounds, Ends, Leaves, Forks, Nests, Unnests, Writes, Sends, Gets, Gives, deed_of}
-use Rattle.stack_code.specs.Machine.{Frame, State, Stop, Spent, Cut, Went, Goes, Stops, look, with_value, with_cells, cut, on, moved_to, failed, entered, entered_at, entry_of, handled, unwound, raised, turned, entering, calling, entering_at, calling_at, combining, drawing, another, rounding, ending, nesting, done, acted, stepped, step, going, run}
-use Rattle.machine_paths.specs.Bounded.{with_left, Bounded}
+use Rattle.stack_code.specs.Deeds.{Deed, Lacks, GoesOn, Fails, Loads, Stores, Points, Turns, Calls, CallsAt, Combines, Draws, Repeats, Rounds, Ends, Leaves, Forks, Nests, Unnests, Writes, Sends, Gets, Gives, deed_of}
+use Rattle.stack_code.specs.Machine.{Frame, State, Stop, Spent, Cut, Went, Goes, Stops, look, with_value, with_cells, points, if_pointing, cut, on, moved_to, failed, entered, entered_at, entry_of, handled, unwound, raised, turned, entering, calling, entering_at, calling_at, combining, drawing, another, rounding, ending, nesting, done, acted, stepped, step, going, run}
+use Rattle.machine_paths.proofs.Bounded.{with_left, Bounded}
 
 cut_too : (w y : Went) (u : State) → Bounded w y → Bounded w (Stops Cut u)
 cut_too (Goes t) y u h = (h.0, inr (u, refl))
@@ -126,6 +126,11 @@ does limit (Stores a v d) s j =
     elim (written s.cells a v) as (λ o. Bounded (with_cells o (with_left s None) (λ t. done limit d t)) (with_cells o (with_left s (Some j)) (λ t. done limit d t))) [
       | None ↦ (λ e. cc, refl, inl (j, refl))
       | Some ds ↦ does limit d (record s { cells = ds }) j
+    ]
+does limit (Points a d) s j =
+    elim (points s.cells a) as (λ o. Bounded (if_pointing o (with_left s None) (done limit d (with_left s None))) (if_pointing o (with_left s (Some j)) (done limit d (with_left s (Some j))))) [
+      | false ↦ (λ e. cc, refl, inl (j, refl))
+      | true ↦ does limit d s j
     ]
 does limit Turns s j = turns s limit (λ t. Goes (on t.stack t)) (λ n i. (refl, inl (i, refl))) j
 does limit (Calls f) s j = calls s limit f (s.pc + 1) s.kept j

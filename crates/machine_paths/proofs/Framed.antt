@@ -7,7 +7,7 @@ use Rattle.stack_code.specs.Machine.{Stop, Done, Left, Spent, Cut, Asks, Constru
 use Rattle.ada_lower.specs.Driven.{Final}
 use Rattle.machine_paths.specs.Alike.{NotStuck}
 use Rattle.machine_paths.specs.Nesting.{FinalAlike}
-use Rattle.machine_paths.specs.Looking.{FinalBound}
+use Rattle.machine_paths.proofs.Looking.{FinalBound}
 use Rattle.machine_paths.proofs.Nested.{path_on_memory}
 use Rattle.machine_paths.proofs.NestedBounds.{path_bounded}
 use Rattle.machine_paths.specs.Threads.{ThreadPath, starts, ending, outcome_of, enough, ran, runs}

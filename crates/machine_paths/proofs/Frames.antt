@@ -1,6 +1,6 @@
 -- A run that isn't stuck on its view is the same on a memory that shows what the view has.
 use Rattle.std.proofs.Common.{◌≡◌, ℕ, zero, suc, ◌+◌, ◌-◌, ◌<◌, ◌≤◌, inl, inr, ℤ, pos, negsuc, Bool, true, false, cond, List, [], ◌∷◌, ◌++◌, length, set, take, Option, Some, None, arith, refl, sym, ◌∙◌, ap, subst, length-append, length-set}
-use Rattle.std.specs.Prelude.{slice_get, nat_eq, nat_lt}
+use Rattle.std.specs.Prelude.{slice_get, nat_eq, nat_lt, nat_le}
 use Rattle.std.proofs.lemmas.List.{get_or-set_same, get_or-set_other, get_or_append_left, get_or-append_right, get_or-take}
 use Rattle.std.proofs.lemmas.Bool.{cases_lt, cases_eq}
 use Rattle.ada_base.specs.declared.reason.Reason.{Reason}
@@ -11,8 +11,8 @@ use Rattle.stack_code.specs.declared.code.Code.{Code}
 use Rattle.stack_code.specs.declared.code.CodeSub.{CodeSub}
 use Rattle.stack_code.specs.declared.code.Unwind.{Unwind}
 use Rattle.ada_base.specs.Cells.{Cell, Gone, Seen, Mine, value_in, seen, where_mine, written, zeros}
-use Rattle.stack_code.specs.Deeds.{Deed, Lacks, GoesOn, Fails, Loads, Stores, Turns, Calls, CallsAt, Combines, Draws, Repeats, Rounds, Ends, Leaves, Forks, Nests, Unnests, Writes, Sends, Gets, Gives, deed_of}
-use Rattle.stack_code.specs.Machine.{Frame, State, Stop, Spent, Went, Goes, Stops, look_by, look, with_value, with_cells, cut, on, moved_to, failed, entered, entered_at, ended, entry_of, handled, unwound, raised, turned, entering, calling, entering_at, calling_at, combining, drawing, another, rounding, ending, nesting, done, acted, stepped, step, going, run}
+use Rattle.stack_code.specs.Deeds.{Deed, Lacks, GoesOn, Fails, Loads, Stores, Points, Turns, Calls, CallsAt, Combines, Draws, Repeats, Rounds, Ends, Leaves, Forks, Nests, Unnests, Writes, Sends, Gets, Gives, deed_of}
+use Rattle.stack_code.specs.Machine.{Frame, State, Stop, Spent, Went, Goes, Stops, look_by, look, with_value, with_cells, points, if_pointing, cut, on, moved_to, failed, entered, entered_at, ended, entry_of, handled, unwound, raised, turned, entering, calling, entering_at, calling_at, combining, drawing, another, rounding, ending, nesting, done, acted, stepped, step, going, run}
 use Rattle.cell_memory.specs.Sight.{is_mine}
 use Rattle.ada_workers.specs.Paths.{Shows, Covers}
 use Rattle.machine_paths.specs.Alike.{at, Kept, with_memory, Chain, Alike}
@@ -41,6 +41,11 @@ mine_for m (Seen w) v s e = s ∙ ap Mine (some_is w v e) where
 mine_for m (Mine w) v s e = s ∙ ap Mine (some_is w v e) where
   some_is : (x y : ℤ) → Some x ≡ Some y → x ≡ y
   some_is x y e = cc
+
+-- memories of one length have the same addresses
+pub points_same : (ns ws : List Cell) (a : ℤ) → length ns ≡ length ws → points ns a ≡ points ws a
+points_same ns ws (pos n) e = ap (λ m. nat_le n m) e
+points_same ns ws (negsuc n) e = refl
 
 pub read_same : (ns ws : List Cell) (a v : ℤ) → Covers ns ws → seen ws a ≡ Some v → seen ns a ≡ Some v
 read_same ns ws (pos n) v c e = by_cell (slice_get ws n) refl e where
@@ -308,6 +313,11 @@ module _ (b : ℕ) (vs ms : List Cell) where
         | Some ds ↦ λ e.
             let w = kept_write s.cells ns ds a v k e in
             subst (λ o. Pair (done limit d (record s { cells = ds })) (with_cells o (with_memory s ns) (λ t. done limit d t))) (sym w.1) (does limit d (record s { cells = ds }) w.0 w.2 c)
+      ] refl
+  does limit (Points a d) s ns k c =
+      elim (points s.cells a) as (λ o. points s.cells a ≡ o → Pair (if_pointing o s (done limit d s)) (done limit (Points a d) (with_memory s ns))) [
+        | false ↦ λ e g. absurd g
+        | true ↦ λ e. subst (λ o. Pair (done limit d s) (if_pointing o (with_memory s ns) (done limit d (with_memory s ns)))) (sym (points_same ns s.cells a k.covers.0 ∙ e)) (does limit d s ns k c)
       ] refl
   does limit Turns s ns k c = turns_alike s ns k c limit (λ t. Goes (on t.stack t)) (λ l n. (c, (ns, refl, k)))
   does limit (Calls f) s ns k c = calls_alike s ns k c limit f (s.pc + 1) s.kept

@@ -6,19 +6,20 @@ use Rattle.ada_base.specs.declared.operation.Op.TheVariants as op
 use Rattle.ada_base.specs.declared.reason.Reason.TheVariants.{StorageError}
 use Rattle.ada_base.specs.Operation.{within}
 use Rattle.stack_code.specs.declared.instr.Instr.{Instr}
-use Rattle.stack_code.specs.declared.instr.Instr.TheVariants.{Push, Pop, Dup, Swap, Local, Outer, Global, Index, Field, Load, Store, Copy, Fill, Add, Sub, Mul, Div, Mod, Rem, Pow, Neg, Abs, Max, Min, Eq, Ne, Lt, Le, Gt, Ge, Far, And, Or, Xor, Not, Range, Jump, JFalse, JTrue, Turn, Call, CallAt, CallTo, Ret, RetV, Raise, Reraise, Exit, Leave as LeaveNow, LeaveV, Fork, Nest, Unnest, Words, Img, Bool as BoolImage, Wide, Send, SendLn, Get, End, EndV, Halt, Combine, Part, Repeat, Again, LoadL, LoadO, LoadG, StoreL, StoreO, StoreG, SetL, AddI, SubI, MulI, ModI, IndexL, Item, ItemL, IndexG, ItemG, JfEq, JfNe, JfLt, JfLe, JfGt, JfGe, Next, Prior, Flip, Differ}
+use Rattle.stack_code.specs.declared.instr.Instr.TheVariants.{Push, Pop, Dup, Swap, Local, Outer, Global, Index, Field, Load, Store, Copy, Fill, Add, Sub, Mul, Div, Mod, Rem, Pow, Neg, Abs, Max, Min, Eq, Ne, Lt, Le, Gt, Ge, Far, And, Or, Xor, Not, Range, Jump, JFalse, JTrue, Turn, Call, CallAt, CallTo, Ret, RetV, Raise, Reraise, Exit, Leave as LeaveNow, LeaveV, Fork, Nest, Unnest, Words, Img, Bool as BoolImage, Wide, Send, SendLn, Get, End, EndV, Halt, Combine, Part, Repeat, Again, LoadL, LoadO, LoadG, StoreL, StoreO, StoreG, SetL, AddI, SubI, MulI, ModI, IndexL, Item, ItemL, IndexG, ItemG, JfEq, JfNe, JfLt, JfLe, JfGt, JfGe, Next, Prior, Flip, Differ, BNot, ULt, ULe, UGt, UGe, UMax, UMin, URange, USetL, UImg}
 use Rattle.stack_code.specs.declared.code.Code.{Code}
 use Rattle.stack_code.specs.declared.operators.Relation.TheVariants.{Equal, Unequal, Less, AtMost, Greater, AtLeast}
 use Rattle.stack_code.specs.declared.operators.Digits.TheVariants.{Both, Either, Differ}
 use Rattle.stack_code.specs.declared.code.CodeSub.{CodeSub}
 use Rattle.stack_code.specs.declared.path.Asked.{Asked}
-use Rattle.stack_code.specs.Deeds.{Deed, GoesOn, Fails, Loads, Stores, Leaves, Forks, bit, truth, applied, differ, is_related, is_far, digits_of, if_between, indexed, on_one, on_two, pushed, unary, binary, cell_of_frame, load_of_frame, store_to, store_of_frame, item_at, stored, stepped, loads_all, stores_all, called, called_at, combining, can_fork, many, asked, forked, deed_of}
+use Rattle.stack_code.specs.Deeds.{Deed, GoesOn, Fails, Loads, Stores, Points, Leaves, Forks, bit, truth, applied, differ, is_related, is_far, digits_of, if_between, indexed, on_one, on_two, pushed, pointed, unary, binary, cell_of_frame, load_of_frame, store_to, store_of_frame, item_at, stored, stepped, loads_all, stores_all, called, called_at, combining, can_fork, many, asked, forked, deed_of, negated, unsigned, complemented, if_among}
 
 -- nothing is left by it
 abbrev pub Stays : Deed → Type 0
 Stays (Leaves l st) = ⊥
 Stays (Loads a k) = (v : ℤ) → Stays (k v)
 Stays (Stores a v d) = Stays d
+Stays (Points a d) = Stays d
 Stays _ = Unit {0}
 
 abbrev pub Leaver : Instr → Type 0
@@ -39,6 +40,10 @@ two_free (y ∷ x ∷ rest) k h = h x y rest
 pushed_free : (pc : ℕ) (v : Option ℤ) (st : List ℤ) → Stays (pushed pc v st)
 pushed_free pc (Some v) st = tt
 pushed_free pc None st = tt
+
+pointed_free : (pc : ℕ) (v : Option ℤ) (st : List ℤ) → Stays (pointed pc v st)
+pointed_free pc (Some v) st = tt
+pointed_free pc None st = tt
 
 unary_free : (pc : ℕ) (st : List ℤ) (f : ℤ → Option ℤ) → Stays (unary pc st f)
 unary_free pc st f = one_free st _ (λ x rest. pushed_free pc (f x) rest)
@@ -113,8 +118,8 @@ leaves_by c pc st base outward Swap = inr (two_free st _ (λ x y rest. tt))
 leaves_by c pc st base outward (Local n) = inr tt
 leaves_by c pc st base outward (Outer k n) = inr (cell_free pc st _ n)
 leaves_by c pc st base outward (Global n) = inr tt
-leaves_by c pc st base outward (Index lo hi size) = inr (binary_free pc st (λ a i. indexed lo hi size a i))
-leaves_by c pc st base outward (Field n) = inr (unary_free pc st (λ a. Some (a +ℤ pos n)))
+leaves_by c pc st base outward (Index lo hi size) = inr (two_free st _ (λ a i rest. pointed_free pc (indexed lo hi size a i) rest))
+leaves_by c pc st base outward (Field n) = inr (one_free st _ (λ a rest. tt))
 leaves_by c pc st base outward Load = inr (one_free st _ (λ x rest. λ v. tt))
 leaves_by c pc st base outward Store = inr (two_free st _ (λ x y rest. tt))
 leaves_by c pc st base outward (Copy n) = inr (two_free st _ (λ x y rest. loads_free n y (λ vs. stores_all vs x (GoesOn (pc + 1) rest)) (λ vs. stores_free vs x (GoesOn (pc + 1) rest) tt)))
@@ -126,8 +131,8 @@ leaves_by c pc st base outward (Div kind) = inr (binary_free pc st (λ x y. appl
 leaves_by c pc st base outward (Mod kind) = inr (binary_free pc st (λ x y. applied op.Mod kind x y))
 leaves_by c pc st base outward (Rem kind) = inr (binary_free pc st (λ x y. applied op.Rem kind x y))
 leaves_by c pc st base outward (Pow kind) = inr (binary_free pc st (λ x y. applied op.Pow kind x y))
-leaves_by c pc st base outward (Neg kind) = inr (unary_free pc st (λ x. within kind (Some (pos 0 -ℤ x))))
-leaves_by c pc st base outward (Abs kind) = inr (unary_free pc st (λ x. within kind (Some (pos (nat_abs x)))))
+leaves_by c pc st base outward (Neg kind) = inr (unary_free pc st (λ x. negated kind x))
+leaves_by c pc st base outward (Abs kind) = inr (unary_free pc st (λ x. unsigned kind x))
 leaves_by c pc st base outward Max = inr (binary_free pc st (λ x y. Some (int_max x y)))
 leaves_by c pc st base outward Min = inr (binary_free pc st (λ x y. Some (int_min x y)))
 leaves_by c pc st base outward Eq = inr (binary_free pc st (λ x y. Some (bit (is_related Equal x y))))
@@ -184,10 +189,10 @@ leaves_by c pc st base outward (AddI v kind) = inr (unary_free pc st (λ x. appl
 leaves_by c pc st base outward (SubI v kind) = inr (unary_free pc st (λ x. applied op.Sub kind x v))
 leaves_by c pc st base outward (MulI v kind) = inr (unary_free pc st (λ x. applied op.Mul kind x v))
 leaves_by c pc st base outward (ModI v kind) = inr (unary_free pc st (λ x. applied op.Mod kind x v))
-leaves_by c pc st base outward (IndexL n lo hi size) = inr (λ i. unary_free pc st (λ a. indexed lo hi size a i))
+leaves_by c pc st base outward (IndexL n lo hi size) = inr (λ i. one_free st _ (λ a rest. pointed_free pc (indexed lo hi size a i) rest))
 leaves_by c pc st base outward (Item lo hi size) = inr (two_free st _ (λ x y rest. item_free pc _ _))
 leaves_by c pc st base outward (ItemL n lo hi size) = inr (λ i. one_free st _ (λ x rest. item_free pc _ _))
-leaves_by c pc st base outward (IndexG g lo hi size n) = inr (λ i. pushed_free pc (indexed lo hi size (pos g) i) st)
+leaves_by c pc st base outward (IndexG g lo hi size n) = inr (λ i. pointed_free pc (indexed lo hi size (pos g) i) st)
 leaves_by c pc st base outward (ItemG g lo hi size n) = inr (λ i. item_free pc (indexed lo hi size (pos g) i) st)
 leaves_by c pc st base outward (JfEq to) = inr (two_free st _ (λ x y rest. tt))
 leaves_by c pc st base outward (JfNe to) = inr (two_free st _ (λ x y rest. tt))
@@ -197,5 +202,15 @@ leaves_by c pc st base outward (JfGt to) = inr (two_free st _ (λ x y rest. tt))
 leaves_by c pc st base outward (JfGe to) = inr (two_free st _ (λ x y rest. tt))
 leaves_by c pc st base outward (Next n m to) = inr (λ x. λ y. stepped_free pc st _ _ _ to)
 leaves_by c pc st base outward (Prior n m to) = inr (λ x. λ y. stepped_free pc st _ _ _ to)
-leaves_by c pc st base outward Flip = inr (unary_free pc st (λ x. Some (pos 1 -ℤ x)))
+leaves_by c pc st base outward Flip = inr (unary_free pc st (λ x. Some (bit (not (truth x)))))
 leaves_by c pc st base outward Differ = inr (binary_free pc st (λ x y. Some (bit (differ (truth x) (truth y)))))
+leaves_by c pc st base outward (BNot k) = inr (unary_free pc st (λ x. Some (complemented k x)))
+leaves_by c pc st base outward ULt = inr (two_free st _ (λ x y rest. tt))
+leaves_by c pc st base outward ULe = inr (two_free st _ (λ x y rest. tt))
+leaves_by c pc st base outward UGt = inr (two_free st _ (λ x y rest. tt))
+leaves_by c pc st base outward UGe = inr (two_free st _ (λ x y rest. tt))
+leaves_by c pc st base outward UMax = inr (two_free st _ (λ x y rest. tt))
+leaves_by c pc st base outward UMin = inr (two_free st _ (λ x y rest. tt))
+leaves_by c pc st base outward (URange lo hi) = inr (unary_free pc st (λ x. if_among lo hi x))
+leaves_by c pc st base outward (USetL n lo hi) = inr (one_free st _ (λ x rest. stored_free pc _ (if_among lo hi x) rest))
+leaves_by c pc st base outward UImg = inr (one_free st _ (λ x rest. tt))

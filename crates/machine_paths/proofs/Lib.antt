@@ -17,3 +17,5 @@ pub mod Stoppings
 pub mod Hushes
 pub mod Enough
 pub mod Sums
+pub mod Bounded
+pub mod Looking

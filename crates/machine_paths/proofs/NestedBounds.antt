@@ -14,9 +14,9 @@ use Rattle.stack_code.specs.declared.path.Leave.TheVariants.{Exit as Exits, Retu
 use Rattle.stack_code.specs.Machine.{Frame, State, Stop, Done, Left, Spent, Cut, Asks, Constructs, Stuck, Astray, Went, Goes, Stops, after, resumed, step}
 use Rattle.ada_lower.specs.Driven.{World, Dyn, Path, Final, Step, On, Off, Forks, Forked, clip, cut_to, off, dyn_of, raw_of, sizes_for, with_left as dyn_left, with_turns, thread_ended, thread_went, in_order, by_notes, gathered, thread_at, answer_of, answering, with_answer, at_site, fork, with_dyn, fork_end, after_fork, halted}
 use Rattle.machine_paths.specs.Silent.{unasked, silent, silently}
-use Rattle.machine_paths.specs.Bounded.{with_left, Bounded}
+use Rattle.machine_paths.proofs.Bounded.{with_left, Bounded}
 use Rattle.machine_paths.specs.Nesting.{Ordered}
-use Rattle.machine_paths.specs.Looking.{path_left, final_left, forked_left, StepCut, FinalCut, ForkedCut, StepBound, FinalBound, ForkedBound}
+use Rattle.machine_paths.proofs.Looking.{path_left, final_left, forked_left, StepCut, FinalCut, ForkedCut, StepBound, FinalBound, ForkedBound}
 use Rattle.machine_paths.proofs.Bounds.{steps_bounded}
 
 -- ---- a path goes on with an answer

@@ -14,7 +14,7 @@ use Rattle.ada_lower.specs.Driven.{World, Path, Final, Step, On, span_cells, thr
 use Rattle.machine_paths.specs.Threads.{ThreadPath, inside, quiet, starts, outcome_of, enough}
 use Rattle.machine_paths.specs.Noting.{first, AsThread, AsThreads}
 use Rattle.machine_paths.specs.Silent.{silently}
-use Rattle.machine_paths.specs.Looking.{path_left, FinalBound}
+use Rattle.machine_paths.proofs.Looking.{path_left, FinalBound}
 use Rattle.machine_paths.proofs.NestedBounds.{path_bounded}
 use Rattle.machine_paths.proofs.Worlds.{in_final, in_step, silently_in}
 use Rattle.machine_paths.specs.Starting.{span_values, thread_values, thread_start, thread_starts}

@@ -13,9 +13,9 @@ use Rattle.stack_code.specs.declared.path.Round.{Round}
 use Rattle.stack_code.specs.declared.path.Leave.{Leave}
 use Rattle.stack_code.specs.declared.path.Leave.TheVariants.{Raise as Raises}
 use Rattle.stack_code.specs.Answers.{IsIo}
-use Rattle.stack_code.specs.Deeds.{Deed, Lacks, GoesOn, Fails, Loads, Stores, Turns, Calls, CallsAt, Combines, Draws, Repeats, Rounds, Ends, Leaves, Forks, Nests, Unnests, Writes, Sends, Gets, Gives, deed_of}
+use Rattle.stack_code.specs.Deeds.{Deed, Lacks, GoesOn, Fails, Loads, Stores, Points, Turns, Calls, CallsAt, Combines, Draws, Repeats, Rounds, Ends, Leaves, Forks, Nests, Unnests, Writes, Sends, Gets, Gives, deed_of}
 use Rattle.stack_code.specs.Fits.{IsFit}
-use Rattle.stack_code.specs.Machine.{Frame, State, Done, Left, Spent, Cut, Asks, Constructs, Stuck, Astray, Went, Goes, Stops, look_by, with_value, with_cells, cut, on, moved_to, failed, entered, entered_at, entry_of, handled, unwound, raised, turned, entering, entering_at, combining, drawing, another, rounding, ending, nesting, done, acted, stepped, step}
+use Rattle.stack_code.specs.Machine.{Frame, State, Done, Left, Spent, Cut, Asks, Constructs, Stuck, Astray, Went, Goes, Stops, look_by, with_value, with_cells, points, if_pointing, cut, on, moved_to, failed, entered, entered_at, entry_of, handled, unwound, raised, turned, entering, entering_at, combining, drawing, another, rounding, ending, nesting, done, acted, stepped, step}
 use Rattle.stack_code.specs.Stands.{Stands}
 use Rattle.stack_code.specs.Valid.{IsValid}
 use Rattle.stack_code.proofs.Standing.{here_of, fit_of}
@@ -113,6 +113,10 @@ module _ (i : Instr) (limit : ℕ) where
     back w (Stops Cut t) g = g
     back w (Stops Stuck t) g = g
     back w (Stops Astray t) g = g
+  done_at c pc stack (Points a d) s h f = elim (points s.cells a) as (λ o. StoppedAt i s (if_pointing o s (done limit d s))) [
+    | false ↦ tt
+    | true ↦ done_at c pc stack d s h f
+  ]
   done_at c pc stack Turns s h f = turned_at s (λ t. Goes (on t.stack t)) (λ l n. tt)
   done_at c pc stack (Calls g) s h f = turned_at s (λ t. entering limit g (s.pc + 1) s.kept t) (λ l n. entering_at_all s (record s { left = l; turns = n }) g (s.pc + 1) s.kept)
   done_at c pc stack (CallsAt g m to fit st) s h f = turned_at s (λ t. entering_at limit g m to fit (record t { stack = st })) (λ l n. entering_frame s (record s { left = l; turns = n; stack = st }) g m to fit)

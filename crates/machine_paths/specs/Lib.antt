@@ -1,10 +1,8 @@
 pub mod Alike
 pub mod Touched
-pub mod Bounded
 pub mod Silent
 pub mod Nesting
 pub mod Touching
-pub mod Looking
 pub mod Threads
 pub mod Noting
 pub mod Starting

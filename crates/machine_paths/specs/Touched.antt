@@ -4,7 +4,7 @@ use Rattle.ada_base.specs.declared.reason.Reason.{Reason}
 use Rattle.stack_code.specs.declared.instr.Instr.{Instr}
 use Rattle.stack_code.specs.declared.code.Code.{Code}
 use Rattle.ada_base.specs.Cells.{Cell, seen, written}
-use Rattle.stack_code.specs.Deeds.{Deed, Lacks, GoesOn, Fails, Loads, Stores, Turns, Calls, CallsAt, Combines, Draws, Repeats, Rounds, Ends, Leaves, Forks, Nests, Unnests, Writes, Sends, Gets, Gives, deed_of}
+use Rattle.stack_code.specs.Deeds.{Deed, Lacks, GoesOn, Fails, Loads, Stores, Points, Turns, Calls, CallsAt, Combines, Draws, Repeats, Rounds, Ends, Leaves, Forks, Nests, Unnests, Writes, Sends, Gets, Gives, deed_of}
 use Rattle.stack_code.specs.Machine.{State, Went, Goes, Stops, step}
 use Rattle.cell_memory.specs.Sight.{is_mine, is_gone}
 use Rattle.machine_paths.specs.Alike.{at, NotStuck}
@@ -27,6 +27,7 @@ AllAllowed b vs (t ∷ ts) = Allowed b vs t × AllAllowed b vs ts
 abbrev pub touches_of : Deed → List Cell → List Touch
 touches_of (Loads a h) cs = Reads a ∷ elim (seen cs a) [ Some v ↦ touches_of (h v) cs | None ↦ [] ]
 touches_of (Stores a v d) cs = Sets a ∷ elim (written cs a v) [ Some ds ↦ touches_of d ds | None ↦ [] ]
+touches_of (Points a d) cs = touches_of d cs
 touches_of Lacks cs = []
 touches_of (GoesOn to st) cs = []
 touches_of (Fails r st) cs = []

@@ -30,7 +30,7 @@ first_entry None h = h
 first_entry (Some s) h = h.0
 
 pub loaded_law : LoadedLaw
-loaded_law program shown granted accepted rule named are =
+loaded_law program shown granted accepted rule named are countable =
     let leases : ℕ → List Lease = leases_at program granted in
     let c : Code = code_of program leases in
     let text = text_in program in
@@ -56,6 +56,7 @@ loaded_law program shown granted accepted rule named are =
         lowered = lowered.1;
         leased = leased;
         valid = valid_law program text c tables.0 tables.1 ready.0 ready.1;
+        countable = countable;
         begins = first_entry (slice_get c.subs 0) tables.1.main;
         later = hushed.1;
         quiet = quiet_in program;
@@ -65,4 +66,4 @@ loaded_law program shown granted accepted rule named are =
     )
 
 pub accepted_law : AcceptedLaw
-accepted_law program shown grants accepted rule named are = loaded_law program shown (granted_by grants) accepted rule named (granted_law program grants are)
+accepted_law program shown grants accepted rule named are countable = loaded_law program shown (granted_by grants) accepted rule named (granted_law program grants are) countable

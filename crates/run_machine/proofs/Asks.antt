@@ -12,9 +12,9 @@ use Rattle.stack_code.specs.declared.instr.Instr.{Instr}
 use Rattle.stack_code.specs.declared.instr.Instr.TheVariants.{Send, SendLn, Get}
 use Rattle.stack_code.specs.declared.path.Io.TheVariants as io
 use Rattle.stack_code.specs.declared.path.Round.{Round}
-use Rattle.stack_code.specs.Deeds.{Deed, Lacks, GoesOn, Fails, Loads, Stores, Turns, Calls, CallsAt, Combines, Draws, Repeats, Rounds, Ends, Leaves, Forks, Nests, Unnests, Writes, Sends, Gets, Gives, deed_of}
+use Rattle.stack_code.specs.Deeds.{Deed, Lacks, GoesOn, Fails, Loads, Stores, Points, Turns, Calls, CallsAt, Combines, Draws, Repeats, Rounds, Ends, Leaves, Forks, Nests, Unnests, Writes, Sends, Gets, Gives, deed_of}
 use Rattle.stack_code.specs.Fits.{IsFit}
-use Rattle.stack_code.specs.Machine.{Frame, State, Stop, Asks, Went, Goes, Stops, acted, another, combining, cut, done, drawing, ending, entered, entered_at, entering, entering_at, entry_of, failed, going, handled, look_by, nesting, on, raised, rounding, run, step, stepped, turned, unwound, with_cells, with_value, Comes_to}
+use Rattle.stack_code.specs.Machine.{Frame, State, Stop, Asks, Went, Goes, Stops, acted, another, combining, cut, done, drawing, ending, entered, entered_at, entering, entering_at, entry_of, failed, going, handled, look_by, nesting, on, points, if_pointing, raised, rounding, run, step, stepped, turned, unwound, with_cells, with_value, Comes_to}
 use Rattle.stack_code.specs.Stands.{Keeps, Stands}
 use Rattle.stack_code.specs.Valid.{IsValid}
 use Rattle.stack_code.proofs.Fits.{fits}
@@ -79,12 +79,17 @@ module _ (limit : ℕ) (c : Code) (i : Instr) where
   cells_asks pc None s k h = tt
   cells_asks pc (Some cells) s k h = h cells
 
+  pointing_asks : (pc : ℕ) (b : Bool) (s : State) (w : Went) → AsksBy i pc w → AsksBy i pc (if_pointing b s w)
+  pointing_asks pc true s w h = h
+  pointing_asks pc false s w h = tt
+
   done_asks : (d : Deed) (s : State) → IsFit c s.pc s.stack i d → AsksBy i s.pc (done limit d s)
   done_asks Lacks s f = tt
   done_asks (GoesOn to st) s f = tt
   done_asks (Fails r st) s f = tt
   done_asks (Loads a k) s f = value_asks s.pc (seen s.cells a) s _ (λ v. done_asks (k v) s (f v))
   done_asks (Stores a v d) s f = cells_asks s.pc (written s.cells a v) s _ (λ cells. done_asks d (record s { cells = cells }) f)
+  done_asks (Points a d) s f = pointing_asks s.pc (points s.cells a) s (done limit d s) (done_asks d s f)
   done_asks Turns s f = turned_asks limit i s.pc s (λ t. Goes (on t.stack t)) (λ t. tt)
   done_asks (Calls g) s f = turned_asks limit i s.pc s _ (λ t. entering_asks limit i s.pc g (s.pc + 1) s.kept t)
   done_asks (CallsAt g n to fit st) s f = turned_asks limit i s.pc s _ (λ t. entering_at_asks limit i s.pc g n to fit (record t { stack = st }))

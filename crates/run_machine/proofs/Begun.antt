@@ -1,5 +1,5 @@
 -- A run from the outset.
-use Rattle.std.proofs.Common.{◌≡◌, ℕ, zero, suc, ◌-◌, ◌≤◌, ◌<◌, pos, true, false, List, [], ◌∷◌, length, drop, replicate, slice_get, Option, Some, None, arith, refl, sym, ◌∙◌, ap, subst}
+use Rattle.std.proofs.Common.{◌≡◌, ℕ, zero, suc, ◌≤◌, ◌<◌, pos, true, false, List, [], ◌∷◌, length, drop, replicate, slice_get, Option, Some, None, arith, refl, sym, ◌∙◌, ap, subst}
 use Rattle.std.specs.Prelude.{All, IsSome, IsSomeAnd}
 use Rattle.ada_base.specs.Cells.{Mine}
 use Rattle.ada_base.specs.Cuts.{cuts_of}
@@ -95,7 +95,7 @@ module _ (InTells : Type 0) (law_is : LoopLaw) (views : ViewLaw) (set : Setting)
   false_true e = cc
 
   safe_first : (w : List ℕ) (ns : List ConstructNote) → Safe set.limit c true (On (with_schedule (ByNotes ns) (record { state = first_state; world = first_world w })))
-  safe_first w ns = views program (record set { one = false }) is.accepted (plan_within set.plan) c is.globals is.mains is.texts is.text is.frames slots frame is.depth is.leased w o.put (ByNotes ns) (λ e. absurd (false_true e)) (is.room (record set { one = false }) w o.put (ByNotes ns))
+  safe_first w ns = views program (record set { one = false }) is.accepted (plan_within set.plan) c is.globals is.mains is.texts is.text is.frames slots frame is.depth is.leased is.countable w o.put (ByNotes ns) (λ e. absurd (false_true e)) (is.room (record set { one = false }) w o.put (ByNotes ns))
 
   runs_first : Running InTells set c frame o.put [] [] first_state o
   runs_first = record {

@@ -55,7 +55,7 @@ some_is e f h = cc
 module _ (stops : StopLaw) (program : Program) (set : Setting) (c : Code) (frame slots : ℕ) (is : IsLoaded program c frame slots) (input before : List ℕ) where
   whole : (notes : Schedule) → ComesWell set.limit c (first notes (cuts_of set.plan) frame input before)
   whole notes =
-      let w = whole_law set.limit (cuts_of set.plan) (plan_within set.plan) program c is.globals is.mains is.texts is.text is.frames slots frame is.depth is.lowered input before notes in
+      let w = whole_law set.limit (cuts_of set.plan) (plan_within set.plan) program c is.globals is.mains is.texts is.text is.frames slots frame is.depth is.lowered is.countable input before notes in
       let r = (noted program set).does (noted_outset slots input before notes) in
       lands set.limit c w.0 (first notes (cuts_of set.plan) frame input before) r.state r.end (is.room set input before notes) w.1
 

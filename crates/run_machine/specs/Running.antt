@@ -1,5 +1,5 @@
 -- A run of the machine on a program's code, with its input and its output.
-use Rattle.std.specs.Prelude.{◌≡◌, ℕ, ◌+◌, nat_eq, length, drop, List, ◌++◌, true, Option, Some}
+use Rattle.std.specs.Prelude.{◌≡◌, ℕ, nat_eq, length, drop, List, ◌++◌, true, Option, Some}
 use Rattle.ada_base.specs.Cells.{Cell}
 use Rattle.ada_base.specs.Cuts.{Plan, cuts_of}
 use Rattle.ada_base.specs.Notes.{ConstructNote, InOrder, ByNotes}

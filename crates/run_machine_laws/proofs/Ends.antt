@@ -110,6 +110,6 @@ end_law program set c frame slots is input before told e ending leads so =
         → AreFinals (main_variables program 0 program.body.decls) ((noted program set).does (noted_outset slots input before (schedule set.one told))).state e.dyn
     finals value =
         let notes = schedule set.one told in
-        let q = value_law set.limit (cuts_of set.plan) (plan_within set.plan) program c is.globals is.mains is.texts is.text is.frames slots frame is.depth is.lowered input before notes value in
+        let q = value_law set.limit (cuts_of set.plan) (plan_within set.plan) program c is.globals is.mains is.texts is.text is.frames slots frame is.depth is.lowered is.countable input before notes value in
         subst (λ (d : Dyn). AreFinals (main_variables program 0 program.body.decls) ((noted program set).does (noted_outset slots input before notes)).state d)
         (ap (λ (f : Final). f.dyn) (one_end set.limit c (first notes (cuts_of set.plan) frame input before) (record { how = Done None; dyn = q.0 }) e q.1 ((leads e).1 (0, refl)))) q.4

@@ -68,7 +68,7 @@ module _ (program : Program) (set : Setting) (c : Code) (frame slots : ℕ) (is 
   -- the machine on the whole code
   pub whole_came : (input before : List ℕ) (notes : Schedule) → let r = (noted program set).does (noted_outset slots input before notes) in Came set.limit c (first notes (cuts_of set.plan) frame input before) r.state r.end
   whole_came input before notes =
-      let w = whole_law set.limit (cuts_of set.plan) (plan_within set.plan) program c is.globals is.mains is.texts is.text is.frames slots frame is.depth is.lowered input before notes in
+      let w = whole_law set.limit (cuts_of set.plan) (plan_within set.plan) program c is.globals is.mains is.texts is.text is.frames slots frame is.depth is.lowered is.countable input before notes in
       let r = (noted program set).does (noted_outset slots input before notes) in
       came set.limit c w.0 (first notes (cuts_of set.plan) frame input before) r.state r.end (is.room set input before notes) w.1
 

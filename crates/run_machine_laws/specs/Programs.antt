@@ -7,7 +7,7 @@ use Rattle.ada_meaning.specs.Programs.{Setting}
 use Rattle.ada_meaning.specs.Stored.{NoRoom, noted, noted_outset}
 use Rattle.check_effects.specs.Accepted.{IsAccepted}
 use Rattle.stack_code.specs.declared.code.Code.{Code}
-use Rattle.stack_code.specs.Valid.{Has, IsValid}
+use Rattle.stack_code.specs.Valid.{Has, IsCountable, IsValid}
 use Rattle.ada_lower.specs.Sights.{Named}
 use Rattle.ada_lower.specs.Leased.{leased}
 use Rattle.ada_lower.specs.Law.{IsLowered, IsLoweredBy}
@@ -18,8 +18,8 @@ abbrev pub HasRoom : Program → ℕ → Type 0
 HasRoom program slots = (set : Setting) (input before : List ℕ) (notes : Schedule) → ((noted program set).does (noted_outset slots input before notes)).end ≡ Err NoRoom → ⊥
 
 -- Code of a program that was accepted, whose main frame has so many cells. What is listed here is to follow from that: the
--- code fits the program, with leases of what threads may write; it is valid, and begins at its first instruction; its threads begin
--- behind their forks, and ask for no input or output.
+-- code fits the program, with leases of what threads may write; it is valid, repeats no part too often for numbers of 64 bits, and
+-- begins at its first instruction; its threads begin behind their forks, and ask for no input or output.
 pub record IsLoaded (program : Program) (c : Code) (frame slots : ℕ) : Type 0 where
   pub accepted : IsAccepted program
   pub globals : ℕ → Entity → Option Named
@@ -31,6 +31,7 @@ pub record IsLoaded (program : Program) (c : Code) (frame slots : ℕ) : Type 0 
   pub lowered : IsLowered program c globals mains texts text frames frame depth
   pub leased : IsLoweredBy (leased program) program c globals mains texts text frames frame depth
   pub valid : IsValid c
+  pub countable : IsCountable c.instrs
   pub begins : Has c.subs 0 (λ s. s.entry ≡ 0)
   pub later : BeginsLater c
   pub quiet : ℕ → Bool

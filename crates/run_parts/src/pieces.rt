@@ -8,8 +8,8 @@ ghost use Rattle.run_values.specs.Values.{OrNoMemory};
 ghost use Rattle.run_parts.specs.Words.{nodes_of, text_with};
 
 use crate::work::Work;
-use ada_base::Items;
-use ada_io::{append_image, append_padded, truth_image};
+use ada_base::{Base, Items, digits};
+use ada_io::{append_digits, append_image, append_padded, truth_image};
 use run_values::{End, is_true};
 use typed_tree::{Class, Leaf};
 
@@ -47,7 +47,14 @@ pub fn with_image(out: Items<u8>, class: Class, value: i64) -> Result<Items<u8>,
             let text = with_bytes(out, truth_image(is_true(value)))?;
             Ok(text)
         }
-        Class::Integer(_) | Class::Universal => {
+        Class::Integer(Base::Modulo(_)) => {
+            let mut text = out;
+            match append_digits(&mut text, digits(value)) {
+                Ok(()) => Ok(text),
+                Err(_) => Err(End::NoMemory),
+            }
+        }
+        Class::Integer(Base::Narrow | Base::Wide) | Class::Universal => {
             let text = with_number(out, value)?;
             Ok(text)
         }

@@ -3,11 +3,19 @@
 use ada_base::{Items, Reason};
 use ada_meaning::Variable;
 
-/// A variable of the main procedure's declarative part: its name as declared, and which of its cells are Boolean.
+/// What a scalar cell keeps (3.5): a truth value, a number, or a number of a modular type by its binary digits (3.5.4).
+#[derive(Clone, Copy)]
+pub enum CellKind {
+    Truth,
+    Number,
+    Digits,
+}
+
+/// A variable of the main procedure's declarative part: its name as declared, and what each of its cells keeps.
 #[derive(Drop)]
 pub struct Final {
     pub name: Items<u8>,
-    pub booleans: Items<bool>,
+    pub kinds: Items<CellKind>,
 }
 
 /// The values of the main procedure's variables at the end of a run: their cells, and which of the cells each has.

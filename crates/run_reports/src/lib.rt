@@ -6,7 +6,7 @@ mod report;
 mod status;
 mod vars;
 
-pub use ends::{Final, Finals, RunEnd};
+pub use ends::{CellKind, Final, Finals, RunEnd};
 pub use report::{
     say, say_out_of_memory, say_raised, say_read_fault, say_spent, say_unreadable, say_usage,
     say_write_fault,

@@ -1,16 +1,17 @@
 //! The lines of the variables of the main procedure.
 
-ghost use Rattle.std.specs.Prelude.{◌≡◌, ◌∷◌, ◌++◌, take, drop, length, true, IfOk};
+ghost use Rattle.std.specs.Prelude.{◌≡◌, ◌∷◌, ◌++◌, take, drop, length, IfOk};
 ghost use Rattle.ada_meaning.specs.Meaning.{object_layout};
 ghost use Rattle.ada_meaning.specs.Stored.{filled, final_of, finals_of};
 ghost use Rattle.typed_tree.specs.Programs.{program};
 ghost use Rattle.run_reports.specs.Ends.{values_of};
 ghost use Rattle.run_reports.specs.Puts.{Puts};
-ghost use Rattle.run_reports.specs.Rows.{ThreeCells, TwoLines};
+ghost use Rattle.run_reports.specs.Rows.{GreatestDigits, ThreeCells, TwoLines};
 ghost use Rattle.run_reports.specs.Vars.{cell_text, cells_text, first_or_zero, vars_line, vars_lines};
+ghost use Rattle.run_reports.specs.declared.ends.CellKind.TheVariants as cell_kinds;
 
-use crate::ends::{Final, Finals};
-use ada_base::Items;
+use crate::ends::{CellKind, Final, Finals};
+use ada_base::{Base, Items, number};
 use ada_io::truth_image;
 use ada_meaning::Variable;
 use ada_port::Sink;
@@ -85,13 +86,7 @@ fn line_of(
     let mut line = Items::new(alloc);
     line.extend(variable.name.as_slice())?;
     line.extend(b" =")?;
-    push_cells(
-        alloc,
-        variable.booleans.as_slice(),
-        cells,
-        values,
-        &mut line,
-    )?;
+    push_cells(alloc, variable.kinds.as_slice(), cells, values, &mut line)?;
     line.push(b'\n')?;
     Ok(line)
 }
@@ -132,20 +127,20 @@ fn front(cells: &[i64], count: u64) -> &[i64]
 /// So many of the values, and zeros where there are no more, as texts behind others, one for each cell.
 fn push_cells(
     alloc: Global,
-    booleans: &[bool],
+    kinds: &[CellKind],
     cells: u64,
     values: &[i64],
     line: &mut Items<u8>,
 ) -> Result<(), AllocError>
-    ensures { IfOk result (λ u. line.new ≡ line.old ++ cells_text booleans.now (filled cells values.now)) }
+    ensures { IfOk result (λ u. line.new ≡ line.old ++ cells_text kinds.now (filled cells values.now)) }
 {
     let mut left = cells;
     let mut rest = values;
-    for truth in booleans {
+    for kind in kinds {
         if left == 0 {
             return Ok(());
         }
-        push_first(alloc, *truth, rest, line)?;
+        push_first(alloc, *kind, rest, line)?;
         left -= 1;
         rest = behind(rest);
     }
@@ -173,34 +168,48 @@ fn behind(values: &[i64]) -> &[i64]
 /// One space, and the first of the values.
 fn push_first(
     alloc: Global,
-    truth: bool,
+    kind: CellKind,
     values: &[i64],
     line: &mut Items<u8>,
 ) -> Result<(), AllocError>
-    ensures { IfOk result (λ u. line.new ≡ line.old ++ 32 ∷ cell_text truth (first_or_zero values.now)) }
+    ensures { IfOk result (λ u. line.new ≡ line.old ++ 32 ∷ cell_text kind (first_or_zero values.now)) }
 {
     let value = first(values);
-    push_cell(alloc, truth, value, line)?;
+    push_cell(alloc, kind, value, line)?;
     Ok(())
 }
 
 /// One space, and a cell's value.
-fn push_cell(alloc: Global, truth: bool, value: i64, line: &mut Items<u8>) -> Result<(), AllocError>
-    ensures { IfOk result (λ u. line.new ≡ line.old ++ 32 ∷ cell_text truth value) }
+fn push_cell(
+    alloc: Global,
+    kind: CellKind,
+    value: i64,
+    line: &mut Items<u8>,
+) -> Result<(), AllocError>
+    ensures { IfOk result (λ u. line.new ≡ line.old ++ 32 ∷ cell_text kind value) }
 {
     line.push(b' ')?;
-    if truth {
-        line.extend(truth_text(value))?;
-        Ok(())
-    } else {
-        let text = format!(in alloc; "{value}")?;
-        line.extend(text.as_bytes())?;
-        Ok(())
+    match kind {
+        CellKind::Truth => {
+            line.extend(truth_text(value))?;
+            Ok(())
+        }
+        CellKind::Number => {
+            let text = format!(in alloc; "{value}")?;
+            line.extend(text.as_bytes())?;
+            Ok(())
+        }
+        CellKind::Digits => {
+            let number = number(Base::Modulo(64), value);
+            let text = format!(in alloc; "{number}")?;
+            line.extend(text.as_bytes())?;
+            Ok(())
+        }
     }
 }
 
 fn truth_text(value: i64) -> &'static [u8]
-    ensures { result.now ≡ cell_text true value }
+    ensures { result.now ≡ cell_text cell_kinds.Truth value }
 {
     truth_image(is_true(value))
 }
@@ -209,4 +218,5 @@ fn truth_text(value: i64) -> &'static [u8]
 pub fn rows()
     ensures three_cells { ThreeCells }
     ensures two_lines { TwoLines }
+    ensures greatest_digits { GreatestDigits }
 {}

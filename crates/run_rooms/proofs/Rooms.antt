@@ -17,7 +17,7 @@ use Rattle.typed_tree.specs.declared.expressions.Run.{Run}
 use Rattle.typed_tree.specs.declared.expressions.Reducer.{Reducer}
 use Rattle.typed_tree.specs.declared.expressions.Reducer.TheVariants.{Operator, Function}
 use Rattle.behaviours.specs.Paths.{Exits, Returns, Raises, Entity, VariableOf, ConstantOf, Region, Everywhere, Here}
-use Rattle.ada_meaning.specs.Values.{truth, bit, is_in, between, to_nat, count, base_of, unary, defaults, laid, zeros, image_of, handles_reason, is_chosen}
+use Rattle.ada_meaning.specs.Values.{truth, bit, is_in, between, to_nat, count, base_of, is_modular, unary, defaults, laid, zeros, image_of, handles_reason, is_chosen}
 use Rattle.ada_meaning.specs.Operations.{RangeCheck, IndexCheck, OverflowCheck, Sized, Operations}
 use Rattle.ada_meaning.specs.Stored
 use Rattle.ada_meaning.specs.Stored.{State, Cause, Stored, NoRoom, key, noted, noted_outset, no_slot}
@@ -105,10 +105,13 @@ module _ {n : ℕ} where
     most : (v : ℤ) → Has n Any (Meaning.most_of (ops a) v)
     most v = then_has (unless a.limit a.cuts (int_lt (pos 0) v) reason.ProgramError) (λ _. ret_has (min (to_nat v) most_threads) tt)
 
+    sign_check : (s : Sign) (at : ℕ) (class : Class) (v : ℤ) → Has n Any (Meaning.sign_checked (ops a) s at class v)
+    sign_check sign.Minus at class v = checks_has OverflowCheck at (is_in_base (base_of class) v)
+    sign_check sign.Abs at class v = checks_has OverflowCheck at (is_in_base (base_of class) v)
+    sign_check sign.Not at class v = ret_has tt tt
+
     unary_check : (s : Sign) (at : ℕ) (class : Class) (v : ℤ) → Has n Any (Meaning.unary_checked (ops a) s at class v)
-    unary_check sign.Minus at class v = checks_has OverflowCheck at (is_in_base (base_of class) v)
-    unary_check sign.Abs at class v = checks_has OverflowCheck at (is_in_base (base_of class) v)
-    unary_check sign.Not at class v = ret_has tt tt
+    unary_check s at class v = choose (is_modular class) (ret_has tt tt) (sign_check s at class v)
 
     one_run : (k size first stride : ℕ) (so_far : List ℤ) {f : ℕ → Stored (List ℤ)} → ((k : ℕ) → Has n Any (f k)) → Has n Any (Meaning.run_values (ops a) k size first stride f so_far)
     one_run k zero first stride so_far r = ret_has so_far tt
@@ -218,7 +221,7 @@ module _ (program : Program) where
     eval (Parameter at x) = none (λ n a env. ret_has (env.parameter x) tt)
     eval (Target at scalar) = none (λ n a env. reads_has (VariableOf env.target.object) env.target.offset)
     eval (Group e) = one (eval e) (λ n h a env. h a env)
-    eval (Unary at s class e) = one (eval e) (λ n h a env. then_has (h a env) (λ v. then_has (unary_check a s at class (unary s v)) (λ _. ret_has (unary s v) tt)))
+    eval (Unary at s class e) = one (eval e) (λ n h a env. then_has (h a env) (λ v. then_has (unary_check a s at class (unary s class v)) (λ _. ret_has (unary s class v) tt)))
     eval (Binary at op class e f) = two (eval e) (eval f) (λ n h g a env. then_has (h a env) (λ x. then_has (g a env) (λ y. operate_has op at class x y)))
     eval (AndThen e f) = two (eval e) (eval f) (λ n h g a env. then_has (h a env) (λ x. choose (truth x) (g a env) (ret_has (bit false) tt)))
     eval (OrElse e f) = two (eval e) (eval f) (λ n h g a env. then_has (h a env) (λ x. choose (truth x) (ret_has (bit true) tt) (g a env)))

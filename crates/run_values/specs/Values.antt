@@ -3,7 +3,7 @@ use Rattle.std.specs.Prelude.{◌≡◌, ℕ, ℤ, Result, Ok, Err}
 use Rattle.typed_tree.specs.declared.scalars.Class.{Class}
 use Rattle.typed_tree.specs.declared.expressions.Sign.{Sign}
 use Rattle.ada_base.specs.Cuts.{One, cuts_of}
-use Rattle.ada_meaning.specs.Values.{unary}
+use Rattle.ada_meaning.specs.Values.{plain_unary, unary}
 use Rattle.ada_meaning.specs.Meaning as meaning
 use Rattle.ada_meaning.specs.Stored.{State, Stored, at, operations, bind, ret}
 use Rattle.run_values.specs.declared.ends.End.{End}
@@ -21,4 +21,8 @@ ComesTo m v = (s : State) → m.does s ≡ at s (Ok v)
 
 -- a unary operator: its check, and its value
 abbrev pub unary_then : Sign → ℕ → Class → ℤ → Stored ℤ
-unary_then s at class v = bind (meaning.unary_checked (operations 0 (cuts_of One)) s at class (unary s v)) (λ _. ret (unary s v))
+unary_then s at class v = bind (meaning.unary_checked (operations 0 (cuts_of One)) s at class (unary s class v)) (λ _. ret (unary s class v))
+
+-- of a type that isn't modular
+abbrev pub plain_then : Sign → ℕ → Class → ℤ → Stored ℤ
+plain_then s at class v = bind (meaning.sign_checked (operations 0 (cuts_of One)) s at class (plain_unary s v)) (λ _. ret (plain_unary s v))

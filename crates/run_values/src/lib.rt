@@ -8,6 +8,6 @@ pub mod values;
 pub use ends::{End, Leave};
 pub use subtypes::{cells_of, components, defaults_of};
 pub use values::{
-    Range, base_of, between, bit, compares, count, divides, is_in, is_true, last_of, magnitude,
-    negated, operated, overflows, result_of, unary_result,
+    Range, base_of, between, bit, compares, count, digits_in, divides, is_in, is_member, is_true,
+    last_of, magnitude, modular_unary, negated, operated, overflows, result_of, unary_result,
 };

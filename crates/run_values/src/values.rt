@@ -5,10 +5,10 @@ ghost use Rattle.ada_base.specs.Operation as operation;
 ghost use Rattle.ada_meaning.specs.Values as spec;
 ghost use Rattle.ada_meaning.specs.Operations as meaning;
 ghost use Rattle.ada_meaning.specs.Stored as stored;
-ghost use Rattle.run_values.specs.Values.{ComesTo, OrNoMemory, unary_then};
+ghost use Rattle.run_values.specs.Values.{ComesTo, OrNoMemory, plain_then, unary_then};
 
 use crate::ends::End;
-use ada_base::{Base, Comparison, Op, apply, is_in_base};
+use ada_base::{Base, Comparison, Op, apply, complement, digits, is_in_base, modular, opposite};
 use typed_tree::{Class, Scalar, Sign};
 
 /// Whether a truth value is True.
@@ -25,8 +25,47 @@ pub fn bit(value: bool) -> i64
     if value { 1 } else { 0 }
 }
 
-/// A relation of two values (4.5.2).
-pub fn compares(comparison: Comparison, left: i64, right: i64) -> bool
+/// Whether a class is a modular one, with so many binary digits: 1 to 64, and any other number counts as the nearest.
+pub fn digits_in(class: Class) -> Option<u8>
+    ensures { result ≡ spec.modular_digits class }
+{
+    match class {
+        Class::Integer(Base::Modulo(k)) => Some(k.min(64).max(1)),
+        Class::Integer(Base::Narrow | Base::Wide) | Class::Boolean | Class::Universal => None,
+    }
+}
+
+fn is_modular(class: Class) -> bool
+    ensures { result ≡ spec.is_modular class }
+{
+    digits_in(class).is_some()
+}
+
+/// A relation of two values of a class (4.5.2).
+pub fn compares(comparison: Comparison, class: Class, left: i64, right: i64) -> bool
+    ensures { result ≡ spec.compares comparison (spec.number_in class left) (spec.number_in class right) }
+{
+    if is_modular(class) {
+        compares_numbers(comparison, digits(left), digits(right))
+    } else {
+        compares_values(comparison, left, right)
+    }
+}
+
+fn compares_numbers(comparison: Comparison, left: u64, right: u64) -> bool
+    ensures { result ≡ spec.compares comparison (pos left) (pos right) }
+{
+    match comparison {
+        Comparison::Equal => left == right,
+        Comparison::Unequal => left != right,
+        Comparison::Less => left < right,
+        Comparison::AtMost => left <= right,
+        Comparison::Greater => left > right,
+        Comparison::AtLeast => left >= right,
+    }
+}
+
+fn compares_values(comparison: Comparison, left: i64, right: i64) -> bool
     ensures { result ≡ spec.compares comparison left right }
 {
     match comparison {
@@ -46,11 +85,28 @@ pub fn between(low: i64, value: i64, high: i64) -> bool
     low <= value && value <= high
 }
 
+/// Whether a value of a class stands between two others, which count.
+pub fn is_member(class: Class, low: i64, value: i64, high: i64) -> bool
+    ensures { result ≡ spec.is_member class low value high }
+{
+    if is_modular(class) {
+        stands_between(digits(low), digits(value), digits(high))
+    } else {
+        between(low, value, high)
+    }
+}
+
+fn stands_between(low: u64, value: u64, high: u64) -> bool
+    ensures { result ≡ spec.between (pos low) (pos value) (pos high) }
+{
+    low <= value && value <= high
+}
+
 /// Whether a value is one of a subtype.
 pub fn is_in(scalar: Scalar, value: i64) -> bool
     ensures { result ≡ spec.is_in scalar value }
 {
-    scalar.low <= value && value <= scalar.high
+    is_member(scalar.class, scalar.low, value, scalar.high)
 }
 
 /// A range of numbers.
@@ -90,7 +146,9 @@ pub fn base_of(class: Class) -> Base
 {
     match class {
         Class::Boolean => Base::Narrow,
-        Class::Integer(base) => base,
+        Class::Integer(Base::Narrow) => Base::Narrow,
+        Class::Integer(Base::Wide) => Base::Wide,
+        Class::Integer(Base::Modulo(k)) => Base::Modulo(k.min(64).max(1)),
         Class::Universal => Base::Wide,
     }
 }
@@ -113,6 +171,15 @@ pub fn overflows(op: Op) -> bool
 pub fn result_of(op: Op, class: Class, x: i64, y: i64) -> Option<i64>
     ensures { result ≡ spec.result op class x y }
 {
+    match digits_in(class) {
+        Some(k) => modular(op, k, x, y),
+        None => plain_result(op, class, x, y),
+    }
+}
+
+fn plain_result(op: Op, class: Class, x: i64, y: i64) -> Option<i64>
+    ensures { result ≡ spec.plain_result op class x y }
+{
     match op {
         Op::And | Op::Min => Some(x.min(y)),
         Op::Or | Op::Max => Some(x.max(y)),
@@ -123,8 +190,8 @@ pub fn result_of(op: Op, class: Class, x: i64, y: i64) -> Option<i64>
 
 // an operator of integers, whose operands may be any
 fn in_base(base: Base, op: Op, x: i64, y: i64) -> Option<i64>
-    requires { operation.AreOperands op x y }
-    ensures { result ≡ operation.result_of op base x y }
+    requires { operation.AreOperands op Base.Wide x y }
+    ensures { result ≡ operation.within base (operation.unbounded op x y) }
 {
     let value = apply(op, Base::Wide, x, y)?;
     if is_in_base(base, value) {
@@ -151,8 +218,29 @@ pub fn operated(op: Op, class: Class, x: i64, y: i64) -> Option<i64>
 pub fn unary_result(sign: Sign, class: Class, value: i64) -> Option<i64>
     ensures { IfSome result (λ v. (at : ℕ) → ComesTo (unary_then sign at class value) v) }
 {
+    match digits_in(class) {
+        Some(k) => Some(modular_unary(sign, k, value)),
+        None => plain_unary(sign, class, value),
+    }
+}
+
+/// A sign before a value of a modular type with so many binary digits, which raises nothing (4.5.4, 4.5.6).
+pub fn modular_unary(sign: Sign, k: u8, value: i64) -> i64
+    ensures { result ≡ operation.turned (spec.modular_unary k sign (operation.turned value)) }
+{
     match sign {
-        Sign::Not => 1_i64.checked_sub(value),
+        Sign::Not => complement(k, value),
+        Sign::Minus => opposite(k, value),
+        Sign::Abs => value,
+    }
+}
+
+#[tactic(auto, unfolding(ada_meaning::specs::Stored::bind, ada_meaning::specs::Stored::ret, ada_meaning::specs::Stored::leaves))]
+fn plain_unary(sign: Sign, class: Class, value: i64) -> Option<i64>
+    ensures { IfSome result (λ v. (at : ℕ) → ComesTo (plain_then sign at class value) v) }
+{
+    match sign {
+        Sign::Not => Some(bit(!is_true(value))),
         Sign::Minus => negated(base_of(class), value),
         Sign::Abs => magnitude(base_of(class), value),
     }

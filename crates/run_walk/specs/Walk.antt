@@ -21,7 +21,7 @@ use Rattle.typed_tree.specs.declared.expressions.Actual.TheVariants as actual
 use Rattle.typed_tree.specs.declared.expressions.Iterated.{Iterated}
 use Rattle.typed_tree.specs.Syntax.{Expr, Optional, Selections, Actuals, Value, Composite, Associations, Iteration, Chunk, Pieces, Stmt, Stmts, Alternatives, Arms, Handlers, Decls, Body, Sub}
 use Rattle.typed_tree.specs.Programs.{program}
-use Rattle.ada_meaning.specs.Values.{truth, bit, compares, between, to_nat, is_in, image_of}
+use Rattle.ada_meaning.specs.Values.{truth, bit, compares, number_in, is_member, between, to_nat, is_in, image_of}
 use Rattle.ada_meaning.specs.Operations.{IndexCheck, RangeCheck, Sized, operate, reduce}
 use Rattle.ada_meaning.specs.Meaning as meaning
 use Rattle.ada_meaning.specs.Meaning.{Env, ObjectPart, Passed, Returned, Back, Course, Chunking, inside, variable_root, constant_root, moved, with_target, iterated_env, outset, returns, exits, value_of, sub_at}
@@ -106,12 +106,12 @@ module _ (w : Work) (d : ℕ) where
   abbrev pub unary_of : Sign → ℕ → Class → Expr → Env → Stored ℤ
   unary_of s at class e env = bind (eval w d e env) (λ v. unary_then s at class v)
 
-  abbrev pub relation : Comparison → Expr → Expr → Env → Stored ℤ
-  relation c e f env = bind (eval w d e env) (λ x. bind (eval w d f env) (λ y. ret (bit (compares c x y))))
+  abbrev pub relation : Class → Comparison → Expr → Expr → Env → Stored ℤ
+  relation class c e f env = bind (eval w d e env) (λ x. bind (eval w d f env) (λ y. ret (bit (compares c (number_in class x) (number_in class y)))))
 
-  abbrev pub membership : Bool → Expr → Expr → Expr → Env → Stored ℤ
-  membership negated e low high env =
-      bind (eval w d e env) (λ x. bind (eval w d low env) (λ l. bind (eval w d high env) (λ h. ret (bit (cond negated (not (between l x h)) (between l x h))))))
+  abbrev pub membership : Class → Bool → Expr → Expr → Expr → Env → Stored ℤ
+  membership class negated e low high env =
+      bind (eval w d e env) (λ x. bind (eval w d low env) (λ l. bind (eval w d high env) (λ h. ret (bit (cond negated (not (is_member class l x h)) (is_member class l x h))))))
 
   abbrev pub conditional : Expr → Expr → Expr → Env → Stored ℤ
   conditional c e f env = bind (eval w d c env) (λ x. cond (truth x) (eval w d e env) (eval w d f env))

@@ -18,7 +18,7 @@ use ada_base::{Comparison, Items, Reason};
 use run_outside::Port;
 use run_parts::Work;
 use run_store::{Env, Object, Store};
-use run_values::{End, Leave, between, bit, compares, is_in, is_true};
+use run_values::{End, Leave, bit, compares, is_in, is_member, is_true};
 use typed_tree::{Check, Class, Expr, Link, Root, Sign};
 
 /// The value of an expression, where so many more calls may be active.
@@ -93,18 +93,18 @@ fn eval_by_parts<P: Port + Drop>(
             operators(work, calls, Link::OrElse { right }, left, env, store)
         }
         Expr::Relation {
+            class,
             comparison,
             left,
             right,
-            ..
-        } => relation(work, calls, comparison, left, right, env, store),
+        } => relation(work, calls, class, comparison, left, right, env, store),
         Expr::Membership {
+            class,
             negated,
             value,
             low,
             high,
-            ..
-        } => membership(work, calls, negated, value, low, high, env, store),
+        } => membership(work, calls, class, negated, value, low, high, env, store),
         Expr::If {
             condition,
             value,
@@ -203,17 +203,18 @@ fn unary<P: Port + Drop>(
 fn relation<P: Port + Drop>(
     work: &Work<'_>,
     calls: u32,
+    class: Class,
     comparison: Comparison,
     left: u32,
     right: u32,
     env: &Env<'_>,
     store: &mut Store<P>,
 ) -> Result<i64, End>
-    ensures { Shows P.Tells (spec.relation work.now calls comparison (expr_at (nodes_of work.now) left) (expr_at (nodes_of work.now) right) (env_of env.now)) result store.old store.new }
+    ensures { Shows P.Tells (spec.relation work.now calls class comparison (expr_at (nodes_of work.now) left) (expr_at (nodes_of work.now) right) (env_of env.now)) result store.old store.new }
 {
     let x = eval(work, calls, left, env, store)?;
     let y = eval(work, calls, right, env, store)?;
-    let found = compares(comparison, x, y);
+    let found = compares(comparison, class, x, y);
     Ok(bit(found))
 }
 
@@ -222,6 +223,7 @@ fn relation<P: Port + Drop>(
 fn membership<P: Port + Drop>(
     work: &Work<'_>,
     calls: u32,
+    class: Class,
     negated: bool,
     value: u32,
     low: u32,
@@ -229,15 +231,15 @@ fn membership<P: Port + Drop>(
     env: &Env<'_>,
     store: &mut Store<P>,
 ) -> Result<i64, End>
-    ensures { Shows P.Tells (spec.membership work.now calls negated (expr_at (nodes_of work.now) value) (expr_at (nodes_of work.now) low) (expr_at (nodes_of work.now) high) (env_of env.now)) result store.old store.new }
+    ensures { Shows P.Tells (spec.membership work.now calls class negated (expr_at (nodes_of work.now) value) (expr_at (nodes_of work.now) low) (expr_at (nodes_of work.now) high) (env_of env.now)) result store.old store.new }
 {
     let x = eval(work, calls, value, env, store)?;
     let l = eval(work, calls, low, env, store)?;
     let h = eval(work, calls, high, env, store)?;
     let found = if negated {
-        !between(l, x, h)
+        !is_member(class, l, x, h)
     } else {
-        between(l, x, h)
+        is_member(class, l, x, h)
     };
     Ok(bit(found))
 }

@@ -87,11 +87,13 @@ pub fn quick<P: Port + Drop>(
                 quick_operators(work, calls, left, Link::OrElse { right }, first, env, store)
             }
             Expr::Relation {
+                class,
                 comparison,
                 left: first,
                 right,
-                ..
-            } => quick_relation(work, calls, left, comparison, first, right, env, store),
+            } => quick_relation(
+                work, calls, left, class, comparison, first, right, env, store,
+            ),
             Expr::Convert { check, value } => {
                 quick_converted(work, calls, left, check, value, env, store)
             }
@@ -381,19 +383,20 @@ fn quick_relation<P: Port + Drop>(
     work: &Work<'_>,
     calls: u32,
     levels: u32,
+    class: Class,
     comparison: Comparison,
     first: u32,
     right: u32,
     env: &Env<'_>,
     store: &Store<P>,
 ) -> Option<i64>
-    ensures { Gives P.Tells (spec.relation work.now calls comparison (expr_at (nodes_of work.now) first) (expr_at (nodes_of work.now) right) (env_of env.now)) store.now result }
+    ensures { Gives P.Tells (spec.relation work.now calls class comparison (expr_at (nodes_of work.now) first) (expr_at (nodes_of work.now) right) (env_of env.now)) store.now result }
 {
     match quick_operand(work, calls, levels, first, env, store) {
         None => None,
         Some(x) => match quick_operand(work, calls, levels, right, env, store) {
             None => None,
-            Some(y) => Some(bit(compares(comparison, x, y))),
+            Some(y) => Some(bit(compares(comparison, class, x, y))),
         },
     }
 }

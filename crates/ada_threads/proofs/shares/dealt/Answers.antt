@@ -1,5 +1,4 @@
-use Rattle.std.proofs.Common.{◌≡◌, ◌+◌, ◌<◌, ◌^◌, get_or, drop, length, [], arith, sym, ◌∙◌, ap, subst}
-use Rattle.std.specs.Prelude.{vec_len}
+use Rattle.std.proofs.Common.{◌+◌, ◌<◌, ◌^◌, drop, [], arith, sym, ◌∙◌, ap, subst}
 use Rattle.std.proofs.Math.ListN.{drop_of_length-le}
 use Rattle.run_plan.specs.Plans.{plan_of}
 use Rattle.ada_machine.specs.States.{state_of}

@@ -1,5 +1,4 @@
-use Rattle.std.proofs.Common.{◌≡◌, [], Some, refl, sym, ◌∙◌, ap, subst}
-use Rattle.std.specs.Prelude.{slice_get}
+use Rattle.std.proofs.Common.{[], ◌∙◌, subst}
 use Rattle.behaviours.specs.Joins.{deal}
 use Rattle.run_plan.specs.Plans.{plan_of}
 use Rattle.ada_machine.specs.States.{state_of}

@@ -9,3 +9,7 @@ returns-clause-three_cells c = refl
 pub returns-clause-two_lines : goal.returns-clause-two_lines
 unfolding digits
 returns-clause-two_lines c = refl
+
+pub returns-clause-greatest_digits : goal.returns-clause-greatest_digits
+unfolding digits
+returns-clause-greatest_digits c = refl
