@@ -31,7 +31,7 @@ unfolding bracket.others_choice bracket.reversed bracket.constraint bracket.name
 bracket_parts = tt
 
 declaration_parts : Unit {0}
-unfolding declaration.next_identifier declaration.ids declaration.in_mode declaration.out_mode declaration.mode declaration.formal declaration.next_formal declaration.open_formals declaration.formals declaration.maybe_formals declaration.next_index declaration.open_indexes declaration.indexes declaration.indic_from declaration.indic declaration.array declaration.comp declaration.record_type declaration.definition declaration.type_decl declaration.subtype_decl declaration.object_type declaration.initial declaration.object declaration.number declaration.constant declaration.exception declaration.named_decl declaration.names_decl declaration.decl declaration.decls
+unfolding declaration.next_identifier declaration.ids declaration.in_mode declaration.out_mode declaration.mode declaration.formal declaration.next_formal declaration.open_formals declaration.formals declaration.maybe_formals declaration.next_index declaration.open_indexes declaration.indexes declaration.indic_from declaration.indic declaration.array declaration.comp declaration.record_type declaration.modular_type declaration.definition declaration.type_decl declaration.subtype_decl declaration.object_type declaration.initial declaration.object declaration.number declaration.constant declaration.exception declaration.named_decl declaration.names_decl declaration.decl declaration.decls
 declaration_parts = tt
 
 expression_parts : Unit {0}

@@ -1,10 +1,14 @@
 -- Examples of the grammar of declarations: for each rule a program that it is the
 -- point of, with its section, its tree, and a change after which it is at fault.
 use Rattle.std.specs.Prelude.{List, [], ◌∷◌, Some, None}
-use Rattle.ada_base.specs.Kinds.{array_word, assign, begin_word, close_round, colon, comma, constant_word, dots, end_word, equal, exception_word, function_word, identifier, in_word, is_word, null_word, numeral, of_word, open_round, out_word, procedure_word, range_word, record_word, return_word, semicolon, subtype_word, type_word}
-use Rattle.syntax_tree.specs.Syntax.{Bounded, Whole, Mark, RangeMark, Indicated, RangeType, ArrayType, RecordType, ObjectDecl, NumberDecl, ExceptionDecl, TypeDecl, SubtypeDecl, Null, Return, stmts, NoStmt, body, NoHandler, Procedure, Function, SubUnit}
+use Rattle.ada_base.specs.Kinds.{array_word, assign, begin_word, close_round, colon, comma, constant_word, dots, double_star, end_word, equal, exception_word, function_word, identifier, in_word, is_word, mod_word, null_word, numeral, of_word, open_round, out_word, procedure_word, range_word, record_word, return_word, semicolon, subtype_word, type_word}
+use Rattle.syntax_tree.specs.Syntax.{Simple, Sum, NoAdding, Product, NoMultiplying, Power, Bounded, Whole, Mark, RangeMark, Indicated, RangeType, ModularType, ArrayType, RecordType, ObjectDecl, NumberDecl, ExceptionDecl, TypeDecl, SubtypeDecl, Null, Return, stmts, NoStmt, body, NoHandler, Procedure, Function, SubUnit}
 use Rattle.syntax_tree.specs.declared.operators.Mode.TheVariants as mode
 use Rattle.tests_grammar.specs.Rows.{Example, example, Another, Added, LeftOut, simple, expr, number, named, ids, array, component, formal, formals, program_of, kinds_of_unit, declaring}
+
+-- 2 ** 64, of the tokens 7 and 9
+abbrev pub power_of_two : Simple
+power_of_two = Sum None (Product (Power (number 7) 8 (number 9)) NoMultiplying) NoAdding
 
 abbrev pub rows : List Example
 rows =
@@ -86,4 +90,49 @@ rows =
     ∷ []))
     (declaring (TypeDecl 3 4 (RangeType (simple (number 7)) (simple (number 9)))) 12)
     (LeftOut 4) 4
+    ∷
+    -- decl (3.1, 3.5.4): procedure P is type B is mod 256; begin null; end;
+    -- the modulus left out
+    example (kinds_of_unit (type_word ∷ identifier ∷ is_word ∷ mod_word ∷ numeral ∷ semicolon ∷ []))
+    (declaring (TypeDecl 3 4 (ModularType (simple (number 7)))) 10)
+    (LeftOut 7) 7
+    ∷
+    -- decl (3.1, 3.5.4): procedure P is type H is mod 2 ** 64; begin null; end;
+    -- "range" after the modulus
+    example (kinds_of_unit (type_word ∷ identifier ∷ is_word ∷ mod_word ∷ numeral ∷ double_star ∷ numeral ∷ semicolon
+    ∷ []))
+    (declaring (TypeDecl 3 4 (ModularType power_of_two)) 12)
+    (Added 10 range_word) 10
+    ∷
+    -- decl (3.1, 3.5.4): procedure P is type B is mod 8; begin null; end;
+    -- "mod" twice
+    example (kinds_of_unit (type_word ∷ identifier ∷ is_word ∷ mod_word ∷ numeral ∷ semicolon ∷ []))
+    (declaring (TypeDecl 3 4 (ModularType (simple (number 7)))) 10)
+    (Added 6 mod_word) 7
+    ∷
+    -- decl (3.1, 3.5.4): procedure P is type T is range 1 .. 9; begin null; end;
+    -- "mod" before "range"
+    example (kinds_of_unit (type_word ∷ identifier ∷ is_word ∷ range_word ∷ numeral ∷ dots ∷ numeral ∷ semicolon
+    ∷ []))
+    (declaring (TypeDecl 3 4 (RangeType (simple (number 7)) (simple (number 9)))) 12)
+    (Added 6 mod_word) 7
+    ∷
+    -- decl (3.1, 3.5.4): procedure P is type T is range 1 .. 9; begin null; end;
+    -- "mod" in place of "range"
+    example (kinds_of_unit (type_word ∷ identifier ∷ is_word ∷ range_word ∷ numeral ∷ dots ∷ numeral ∷ semicolon
+    ∷ []))
+    (declaring (TypeDecl 3 4 (RangeType (simple (number 7)) (simple (number 9)))) 12)
+    (Another 6 mod_word) 8
+    ∷
+    -- indic (3.2.2): procedure P is subtype S is T; begin null; end;
+    -- "mod" before the name
+    example (kinds_of_unit (subtype_word ∷ identifier ∷ is_word ∷ identifier ∷ semicolon ∷ []))
+    (declaring (SubtypeDecl 3 4 (Mark 6)) 9)
+    (Added 6 mod_word) 6
+    ∷
+    -- decl (3.1): procedure P is X : T; begin null; end;
+    -- "mod" before the name
+    example (kinds_of_unit (identifier ∷ colon ∷ identifier ∷ semicolon ∷ []))
+    (declaring (ObjectDecl (ids 3 []) None (Indicated (Mark 5)) None) 8)
+    (Added 5 mod_word) 5
     ∷ []

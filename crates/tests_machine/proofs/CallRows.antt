@@ -1,6 +1,6 @@
 -- Calls and returns, turns and looks, as steps of a state.
-use Rattle.std.proofs.Common.{◌≡◌, ℕ, List, [], ◌∷◌, ◌++◌, Some, None, ℤ, pos, refl}
-use Rattle.ada_base.specs.Cells.{Cell, Mine, zeros}
+use Rattle.std.proofs.Common.{◌≡◌, ℕ, List, [], ◌∷◌, ◌++◌, Some, ℤ, pos, refl}
+use Rattle.ada_base.specs.Cells.{zeros}
 use Rattle.ada_base.specs.declared.reason.Reason.TheVariants.{ConstraintError, StorageError}
 use Rattle.stack_code.specs.declared.instr.Instr.{Instr}
 use Rattle.stack_code.specs.declared.instr.Instr.TheVariants as i

@@ -35,16 +35,41 @@ reads =
     row (i.Item (pos 1) (pos 4) 3) (pos 0 ∷ pos 0 ∷ []) (Raised ConstraintError [] five) ∷
     row (i.ItemL 0 (pos 13) (pos 20) 9) (pos 4 ∷ []) (Onward 8 (pos 14 ∷ []) five) ∷
     row (i.ItemL 0 (pos 14) (pos 20) 9) (pos 4 ∷ []) (Raised ConstraintError [] five) ∷
-    row (i.IndexL 0 (pos 10) (pos 13) 2) (pos 100 ∷ []) (Onward 8 (pos 106 ∷ []) five) ∷
-    row (i.IndexL 0 (pos 10) (pos 12) 2) (pos 100 ∷ []) (Raised ConstraintError [] five) ∷
-    row (i.IndexG 100 (pos 10) (pos 13) 2 0) (pos 99 ∷ []) (Onward 8 (pos 106 ∷ pos 99 ∷ []) five) ∷
-    row (i.IndexG 100 (pos 10) (pos 12) 2 0) (pos 99 ∷ []) (Raised ConstraintError (pos 99 ∷ []) five) ∷
-    row (i.IndexG 100 (pos 14) (pos 20) 2 1) [] (Onward 8 (pos 100 ∷ []) five) ∷
-    row (i.IndexG 100 (pos 14) (pos 20) 2 0) [] (Raised ConstraintError [] five) ∷
     row (i.ItemG 1 (pos 10) (pos 13) 1 0) (pos 99 ∷ []) (Onward 8 (pos 14 ∷ pos 99 ∷ []) five) ∷
     row (i.ItemG 1 (pos 10) (pos 12) 1 0) (pos 99 ∷ []) (Raised ConstraintError (pos 99 ∷ []) five) ∷
     row (i.ItemG 0 (pos 13) (pos 20) 3 1) [] (Onward 8 (pos 13 ∷ []) five) ∷
     row (i.ItemG 2 (pos 13) (pos 13) 7 0) [] Neither ∷
+    []
+
+-- an address that a field is added to, and one that a component has, are those of a cell or the end of all five
+abbrev points : List Row
+points =
+    row (i.Field 4) (pos 0 ∷ pos 99 ∷ []) (Onward 8 (pos 4 ∷ pos 99 ∷ []) five) ∷
+    row (i.Field 4) (pos 5 ∷ pos 99 ∷ []) (Onward 8 (pos 9 ∷ pos 99 ∷ []) five) ∷
+    row (i.Field 0) (pos 6 ∷ []) Neither ∷
+    row (i.Field 4) (negsuc 0 ∷ []) Neither ∷
+    row (i.Index (pos 1) (pos 3) 2) (pos 1 ∷ pos 1 ∷ []) (Onward 8 (pos 1 ∷ []) five) ∷
+    row (i.Index (pos 1) (pos 3) 2) (pos 0 ∷ pos 1 ∷ []) (Raised ConstraintError [] five) ∷
+    row (i.Index (pos 1) (pos 3) 2) (pos 3 ∷ pos 1 ∷ pos 99 ∷ []) (Onward 8 (pos 5 ∷ pos 99 ∷ []) five) ∷
+    row (i.Index (pos 1) (pos 3) 2) (pos 3 ∷ pos 2 ∷ []) Neither ∷
+    row (i.Index (pos 1) (pos 3) 2) (pos 4 ∷ pos 1 ∷ []) (Raised ConstraintError [] five) ∷
+    row (i.Index (pos 1) (pos 3) 2) (pos 4 ∷ pos 77 ∷ []) (Raised ConstraintError [] five) ∷
+    row (i.Index (pos 1) (pos 3) 2) (pos 1 ∷ negsuc 0 ∷ []) Neither ∷
+    row (i.Index (pos 1) (pos 3) 2) (pos 2 ∷ negsuc 1 ∷ []) (Onward 8 (pos 0 ∷ []) five) ∷
+    row (i.Index (negsuc 1) (pos 0) 2) (pos 0 ∷ pos 0 ∷ []) (Onward 8 (pos 4 ∷ []) five) ∷
+    row (i.Index (negsuc 1) (pos 0) 3) (pos 0 ∷ pos 0 ∷ []) Neither ∷
+    row (i.Index (negsuc 9223372036854775807) (pos 9223372036854775807) 4294967295) (pos 9223372036854775807 ∷ pos 5 ∷ []) Neither ∷
+    row (i.Index (negsuc 9223372036854775807) (pos 9223372036854775807) 0) (pos 9223372036854775807 ∷ pos 5 ∷ []) (Onward 8 (pos 5 ∷ []) five) ∷
+    row (i.IndexL 0 (pos 10) (pos 13) 1) (pos 1 ∷ []) (Onward 8 (pos 4 ∷ []) five) ∷
+    row (i.IndexL 0 (pos 10) (pos 13) 1) (pos 2 ∷ []) (Onward 8 (pos 5 ∷ []) five) ∷
+    row (i.IndexL 0 (pos 10) (pos 13) 1) (pos 3 ∷ []) Neither ∷
+    row (i.IndexL 0 (pos 10) (pos 12) 2) (pos 1 ∷ []) (Raised ConstraintError [] five) ∷
+    row (i.IndexG 1 (pos 10) (pos 13) 1 0) (pos 99 ∷ []) (Onward 8 (pos 4 ∷ pos 99 ∷ []) five) ∷
+    row (i.IndexG 2 (pos 10) (pos 13) 1 0) (pos 99 ∷ []) (Onward 8 (pos 5 ∷ pos 99 ∷ []) five) ∷
+    row (i.IndexG 3 (pos 10) (pos 13) 1 0) (pos 99 ∷ []) Neither ∷
+    row (i.IndexG 100 (pos 10) (pos 12) 2 0) (pos 99 ∷ []) (Raised ConstraintError (pos 99 ∷ []) five) ∷
+    row (i.IndexG 5 (pos 14) (pos 20) 2 1) [] (Onward 8 (pos 5 ∷ []) five) ∷
+    row (i.IndexG 100 (pos 14) (pos 20) 2 0) [] (Raised ConstraintError [] five) ∷
     []
 
 abbrev ten : ℤ → List Cell
@@ -90,3 +115,6 @@ read_rows = refl
 
 write_rows : map wanted writes ≡ map found writes
 write_rows = refl
+
+point_rows : map wanted points ≡ map found points
+point_rows = refl

@@ -1,4 +1,4 @@
--- Checks of ranges and indexes: the instruction, its operands, the last first, and what is there then; None is
+-- Checks of ranges: the instruction, its operands, the last first, and what is there then; None is
 -- Constraint_Error.
 use Rattle.std.proofs.Common.{◌≡◌, List, [], ◌∷◌, Option, Some, None, ℤ, pos, negsuc, refl, map}
 use Rattle.ada_base.specs.declared.reason.Reason.TheVariants.{ConstraintError}
@@ -23,11 +23,6 @@ checks =
     row (i.Range (negsuc 1) (pos 3)) (negsuc 2 ∷ []) None ∷
     row (i.Range (negsuc 1) (pos 3)) (pos 3 ∷ []) (Some (pos 3 ∷ [])) ∷
     row (i.Range (negsuc 1) (pos 3)) (pos 4 ∷ []) None ∷
-    row (i.Index (pos 1) (pos 3) 2) (pos 1 ∷ pos 10 ∷ []) (Some (pos 10 ∷ [])) ∷
-    row (i.Index (pos 1) (pos 3) 2) (pos 0 ∷ pos 10 ∷ []) None ∷
-    row (i.Index (pos 1) (pos 3) 2) (pos 3 ∷ pos 10 ∷ []) (Some (pos 14 ∷ [])) ∷
-    row (i.Index (pos 1) (pos 3) 2) (pos 4 ∷ pos 10 ∷ []) None ∷
-    row (i.Index (negsuc 1) (pos 0) 3) (pos 0 ∷ pos 10 ∷ []) (Some (pos 16 ∷ [])) ∷
     []
 
 check_rows : map wanted checks ≡ map found checks

@@ -1,5 +1,5 @@
 -- Constructs: forks and what they are asked for and answered, those that are counted, and how a thread leaves them.
-use Rattle.std.proofs.Common.{◌≡◌, ℕ, List, [], ◌∷◌, ◌++◌, Some, None, ℤ, pos, negsuc, refl}
+use Rattle.std.proofs.Common.{◌≡◌, [], ◌∷◌, ◌++◌, Some, None, pos, refl}
 use Rattle.ada_base.specs.Cells.{zeros}
 use Rattle.ada_base.specs.declared.reason.Reason.TheVariants.{StorageError, DataError}
 use Rattle.stack_code.specs.declared.instr.Instr.{Instr}

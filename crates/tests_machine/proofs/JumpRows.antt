@@ -1,6 +1,6 @@
 -- Jumps: the instruction, its operands, the last first, and where it goes on.
 use Rattle.std.proofs.Common.{◌≡◌, ℕ, List, [], ◌∷◌, ℤ, pos, negsuc, refl, map}
-use Rattle.ada_base.specs.Cells.{Cell, Mine, Seen}
+use Rattle.ada_base.specs.Cells.{Mine, Seen}
 use Rattle.stack_code.specs.declared.instr.Instr.{Instr}
 use Rattle.stack_code.specs.declared.instr.Instr.TheVariants as i
 use Rattle.stack_code.specs.Deeds.{Deed, GoesOn, deed_of}

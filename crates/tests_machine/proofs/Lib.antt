@@ -1,4 +1,5 @@
 pub mod ValueRows
+pub mod ModularRows
 pub mod CheckRows
 pub mod CellRows
 pub mod JumpRows

@@ -1,5 +1,5 @@
 -- Lines that are built and sent, and numbers that are read.
-use Rattle.std.proofs.Common.{◌≡◌, ℕ, List, [], ◌∷◌, Some, None, ℤ, pos, negsuc, refl}
+use Rattle.std.proofs.Common.{◌≡◌, ℕ, List, [], ◌∷◌, Some, ℤ, pos, negsuc, refl}
 use Rattle.std.specs.Fmt.{digits}
 use Rattle.ada_base.specs.declared.reason.Reason.TheVariants.{EndError}
 use Rattle.stack_code.specs.declared.instr.Instr.{Instr}
@@ -27,6 +27,31 @@ image = refl
 image_positive : one i.Img (built [] (pos 7 ∷ [])) ≡ Goes (record (built (32 ∷ 55 ∷ []) []) { pc = 1 })
 unfolding digits
 image_positive = refl
+
+-- numbers of modular types, as they are kept
+number_image_least : one i.UImg (built [] (pos 0 ∷ pos 99 ∷ [])) ≡ Goes (record (built (32 ∷ 48 ∷ []) (pos 99 ∷ [])) { pc = 1 })
+unfolding digits
+number_image_least = refl
+
+number_image_one : one i.UImg (built [] (pos 1 ∷ pos 99 ∷ [])) ≡ Goes (record (built (32 ∷ 49 ∷ []) (pos 99 ∷ [])) { pc = 1 })
+unfolding digits
+number_image_one = refl
+
+number_image_half : one i.UImg (built [] (pos 9223372036854775807 ∷ pos 99 ∷ [])) ≡ Goes (record (built (32 ∷ 57 ∷ 50 ∷ 50 ∷ 51 ∷ 51 ∷ 55 ∷ 50 ∷ 48 ∷ 51 ∷ 54 ∷ 56 ∷ 53 ∷ 52 ∷ 55 ∷ 55 ∷ 53 ∷ 56 ∷ 48 ∷ 55 ∷ []) (pos 99 ∷ [])) { pc = 1 })
+unfolding digits
+number_image_half = refl
+
+number_image_above : one i.UImg (built [] (negsuc 9223372036854775807 ∷ pos 99 ∷ [])) ≡ Goes (record (built (32 ∷ 57 ∷ 50 ∷ 50 ∷ 51 ∷ 51 ∷ 55 ∷ 50 ∷ 48 ∷ 51 ∷ 54 ∷ 56 ∷ 53 ∷ 52 ∷ 55 ∷ 55 ∷ 53 ∷ 56 ∷ 48 ∷ 56 ∷ []) (pos 99 ∷ [])) { pc = 1 })
+unfolding digits
+number_image_above = refl
+
+number_image_greatest : one i.UImg (built [] (negsuc 0 ∷ pos 99 ∷ [])) ≡ Goes (record (built (32 ∷ 49 ∷ 56 ∷ 52 ∷ 52 ∷ 54 ∷ 55 ∷ 52 ∷ 52 ∷ 48 ∷ 55 ∷ 51 ∷ 55 ∷ 48 ∷ 57 ∷ 53 ∷ 53 ∷ 49 ∷ 54 ∷ 49 ∷ 53 ∷ []) (pos 99 ∷ [])) { pc = 1 })
+unfolding digits
+number_image_greatest = refl
+
+number_image_added : one i.UImg (built (120 ∷ []) (negsuc 0 ∷ [])) ≡ Goes (record (built (120 ∷ 32 ∷ 49 ∷ 56 ∷ 52 ∷ 52 ∷ 54 ∷ 55 ∷ 52 ∷ 52 ∷ 48 ∷ 55 ∷ 51 ∷ 55 ∷ 48 ∷ 57 ∷ 53 ∷ 53 ∷ 49 ∷ 54 ∷ 49 ∷ 53 ∷ []) []) { pc = 1 })
+unfolding digits
+number_image_added = refl
 
 truth : one i.Bool (built [] (pos 1 ∷ [])) ≡ Goes (record (built (84 ∷ 82 ∷ 85 ∷ 69 ∷ []) []) { pc = 1 })
 truth = refl

@@ -1,5 +1,5 @@
 -- Parts that are repeated: how they begin, how a round ends, and what a call and a raise make of them.
-use Rattle.std.proofs.Common.{◌≡◌, ℕ, List, [], ◌∷◌, ◌++◌, Some, None, pos, refl}
+use Rattle.std.proofs.Common.{◌≡◌, ℕ, List, [], ◌∷◌, ◌++◌, Some, pos, refl}
 use Rattle.ada_base.specs.Cells.{zeros}
 use Rattle.ada_base.specs.declared.reason.Reason.TheVariants.{DataError}
 use Rattle.stack_code.specs.declared.instr.Instr.{Instr}

@@ -1,6 +1,6 @@
 -- What instructions push that take numbers alone: the operands, the last first, and what is there then; None is
 -- Constraint_Error.
-use Rattle.std.proofs.Common.{◌≡◌, ℕ, List, [], ◌∷◌, Option, Some, None, ℤ, pos, negsuc, refl, map}
+use Rattle.std.proofs.Common.{◌≡◌, List, [], ◌∷◌, Option, Some, None, ℤ, pos, negsuc, refl, map}
 use Rattle.ada_base.specs.declared.operation.Base.TheVariants.{Narrow, Wide}
 use Rattle.ada_base.specs.declared.reason.Reason.TheVariants.{ConstraintError}
 use Rattle.stack_code.specs.declared.instr.Instr.{Instr}
@@ -26,7 +26,6 @@ stack =
     row i.Swap (pos 2 ∷ pos 1 ∷ pos 99 ∷ []) (Some (pos 1 ∷ pos 2 ∷ pos 99 ∷ [])) ∷
     row (i.Local 4) (pos 99 ∷ []) (Some (pos 7 ∷ pos 99 ∷ [])) ∷
     row (i.Global 4) (pos 99 ∷ []) (Some (pos 4 ∷ pos 99 ∷ [])) ∷
-    row (i.Field 4) (pos 10 ∷ pos 99 ∷ []) (Some (pos 14 ∷ pos 99 ∷ [])) ∷
     []
 
 abbrev narrow : List Row

@@ -1,12 +1,11 @@
 -- Code and states for tables of what instructions do.
-use Rattle.std.specs.Prelude.{ℕ, ℤ, pos, List, [], ◌∷◌, Option, Some, None, true, false}
+use Rattle.std.specs.Prelude.{ℤ, pos, List, [], ◌∷◌, None, true, false}
 use Rattle.ada_base.specs.Cells.{Cell, Gone, Seen, Mine}
-use Rattle.ada_base.specs.declared.reason.Reason.{Reason}
 use Rattle.stack_code.specs.declared.code.Code.{Code}
 use Rattle.stack_code.specs.declared.code.CodeSub.{CodeSub}
 use Rattle.stack_code.specs.declared.code.Unwind.{Unwind}
 use Rattle.stack_code.specs.declared.instr.Instr.{Instr}
-use Rattle.stack_code.specs.Machine.{State, Frame}
+use Rattle.stack_code.specs.Machine.{State}
 
 -- a main procedure, a function of two operands with a frame of three cells, and one that takes none
 abbrev pub adder : CodeSub

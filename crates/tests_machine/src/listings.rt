@@ -79,3 +79,43 @@ fn lines_of_tables_follow(rt: HostRuntime) {
         UNWIND 1 2 3 4 5\nSITE 0 6 7 8\nSUB 0 9 10 11 12 1\n";
     assert!(rt; text.as_str() == lines, "{text}");
 }
+
+// The base range is the last operand: `m` and the number of binary digits, of a modular type.
+#[test]
+fn lines_of_modular_types(rt: HostRuntime) {
+    let list = [
+        Instr::Add(Base::Modulo(8)),
+        Instr::Pow(Base::Modulo(64)),
+        Instr::Neg(Base::Modulo(1)),
+        Instr::Abs(Base::Wide),
+        Instr::Div(Base::Narrow),
+        Instr::AddI(5, Base::Modulo(8)),
+        Instr::ModI(-1, Base::Modulo(64)),
+        Instr::BNot(8),
+        Instr::URange(0, -1),
+        Instr::USetL(7, 8, -9),
+    ];
+    let code = bare(rt.alloc(), &list).expect(&rt, "memory");
+    let text = listing(rt.alloc(), &code).expect(&rt, "memory");
+    let lines =
+        "0 ADD m8\n1 POW m64\n2 NEG m1\n3 ABS 64\n4 DIV 32\n5 ADDI 5 m8\n6 MODI -1 m64\n7 BNOT 8\n\
+        8 URANGE 0 -1\n9 USETL 7 8 -9\n";
+    assert!(rt; text.as_str() == lines, "{text}");
+}
+
+#[test]
+fn words_of_modular_types_that_stand_alone(rt: HostRuntime) {
+    let list = [
+        Instr::ULt,
+        Instr::ULe,
+        Instr::UGt,
+        Instr::UGe,
+        Instr::UMax,
+        Instr::UMin,
+        Instr::UImg,
+    ];
+    let code = bare(rt.alloc(), &list).expect(&rt, "memory");
+    let text = listing(rt.alloc(), &code).expect(&rt, "memory");
+    let lines = "0 ULT\n1 ULE\n2 UGT\n3 UGE\n4 UMAX\n5 UMIN\n6 UIMG\n";
+    assert!(rt; text.as_str() == lines, "{text}");
+}

@@ -34,3 +34,16 @@ fn cuts_make_no_difference_to_a_listed_reduction(rt: HostRuntime) {
     assert!(rt; fold(Op::Add, Base::Narrow, 5, &[2, 5]) == Some(12));
     assert!(rt; combine(Op::Add, Base::Narrow, 5, &[9, 12]) == Some(21));
 }
+
+// The sum of 255 and 200, 100 is 555, and 43 is left by 256; the greatest of 64 binary digits is kept as -1.
+#[test]
+fn numbers_of_modular_types_are_reduced(rt: HostRuntime) {
+    assert!(rt; fold(Op::Add, Base::Modulo(8), 0, &[200, 100]) == Some(44));
+    assert!(rt; fold(Op::Add, Base::Modulo(8), 255, &[200, 100]) == Some(43));
+    assert!(rt; fold(Op::Add, Base::Modulo(64), 0, &[-1, -1, -1]) == Some(-3));
+    assert!(rt; fold(Op::Max, Base::Modulo(64), 1, &[-1, 2]) == Some(-1));
+    assert!(rt; fold(Op::Div, Base::Modulo(64), -1, &[2]) == Some(9_223_372_036_854_775_807));
+    assert!(rt; fold(Op::Div, Base::Modulo(8), 5, &[1, 0]) == None);
+    assert!(rt; combine(Op::Mul, Base::Modulo(8), 1, &[16, 16]) == Some(0));
+    assert!(rt; combine(Op::Xor, Base::Modulo(8), 0, &[255, 15]) == Some(240));
+}

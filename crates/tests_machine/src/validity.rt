@@ -1,4 +1,4 @@
-use ada_base::Items;
+use ada_base::{Base, Items};
 use code_validity::validate;
 use stack_code::{Around, Code, CodeSub, Instr, Spot};
 use std::alloc::{AllocError, Global};
@@ -84,4 +84,26 @@ fn each_rule_that_is_broken_is_found(rt: HostRuntime) {
     let away = [Instr::Jump(2), Instr::Halt];
     let astray = is_valid(rt.alloc(), &away, &[0, 0], 0);
     assert!(rt; !astray.expect(&rt, "memory"), "a jump out of the code");
+}
+
+// A modular type has 1 to 64 binary digits.
+#[test]
+fn digits_of_modular_types_are_tested(rt: HostRuntime) {
+    for &(digits, want) in &[(0_u8, false), (1, true), (64, true), (65, false)] {
+        let base = Base::Modulo(digits);
+        let turns = [Instr::Push(1), Instr::BNot(digits), Instr::Pop, Instr::Halt];
+        let turned = is_valid(rt.alloc(), &turns, &[0, 1, 1, 0], 1);
+        assert!(rt; turned.expect(&rt, "memory") == want, "BNOT {digits}");
+        let negates = [Instr::Push(1), Instr::Neg(base), Instr::Pop, Instr::Halt];
+        let negated = is_valid(rt.alloc(), &negates, &[0, 1, 1, 0], 1);
+        assert!(rt; negated.expect(&rt, "memory") == want, "NEG m{digits}");
+        let adds = [
+            Instr::Push(1),
+            Instr::AddI(2, base),
+            Instr::Pop,
+            Instr::Halt,
+        ];
+        let added = is_valid(rt.alloc(), &adds, &[0, 1, 1, 0], 1);
+        assert!(rt; added.expect(&rt, "memory") == want, "ADDI 2 m{digits}");
+    }
 }

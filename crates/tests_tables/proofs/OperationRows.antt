@@ -1,7 +1,7 @@
 -- Operations on integers (4.5): the operator, the operands and the result; None is Constraint_Error.
 use Rattle.std.proofs.Common.{◌≡◌, List, [], ◌∷◌, Option, Some, None, ℤ, pos, negsuc, refl, map}
 use Rattle.ada_base.specs.declared.operation.Base.{Base}
-use Rattle.ada_base.specs.declared.operation.Base.TheVariants.{Narrow, Wide}
+use Rattle.ada_base.specs.declared.operation.Base.TheVariants.{Narrow, Wide, Modulo}
 use Rattle.ada_base.specs.declared.operation.Op.{Op}
 use Rattle.ada_base.specs.declared.operation.Op.TheVariants as op
 use Rattle.ada_base.specs.Operation.{result_of}
@@ -82,3 +82,53 @@ narrow =
 
 narrow_results : map (found Narrow) narrow ≡ map wanted narrow
 narrow_results = refl
+
+-- results of modular types wrap (4.5.3, 4.5.5, 4.5.6), and logical operators act on each binary digit (4.5.1)
+abbrev byte : List Row
+byte =
+    row op.Add (pos 250) (pos 10) (Some (pos 4)) ∷
+    row op.Add (pos 127) (pos 128) (Some (pos 255)) ∷
+    row op.Sub (pos 0) (pos 1) (Some (pos 255)) ∷
+    row op.Sub (pos 5) (pos 3) (Some (pos 2)) ∷
+    row op.Mul (pos 16) (pos 16) (Some (pos 0)) ∷
+    row op.Mul (pos 15) (pos 18) (Some (pos 14)) ∷
+    row op.Div (pos 255) (pos 2) (Some (pos 127)) ∷
+    row op.Div (pos 5) (pos 0) None ∷
+    row op.Mod (pos 255) (pos 16) (Some (pos 15)) ∷
+    row op.Mod (pos 5) (pos 0) None ∷
+    row op.Rem (pos 255) (pos 16) (Some (pos 15)) ∷
+    row op.Rem (pos 5) (pos 0) None ∷
+    row op.Pow (pos 3) (pos 6) (Some (pos 217)) ∷
+    row op.Pow (pos 2) (pos 8) (Some (pos 0)) ∷
+    row op.Pow (pos 0) (pos 0) (Some (pos 1)) ∷
+    row op.Pow (pos 2) (negsuc 0) None ∷
+    row op.And (pos 12) (pos 10) (Some (pos 8)) ∷
+    row op.Or (pos 12) (pos 10) (Some (pos 14)) ∷
+    row op.Xor (pos 12) (pos 10) (Some (pos 6)) ∷
+    row op.Max (pos 200) (pos 100) (Some (pos 200)) ∷
+    row op.Min (pos 200) (pos 100) (Some (pos 100)) ∷ []
+
+byte_results : map (found (Modulo 8)) byte ≡ map wanted byte
+byte_results = refl
+
+-- a number of 2 ** 63 or more is kept less 2 ** 64
+abbrev longest : List Row
+longest =
+    row op.Add (negsuc 0) (pos 1) (Some (pos 0)) ∷
+    row op.Add (pos 9223372036854775807) (pos 1) (Some (negsuc 9223372036854775807)) ∷
+    row op.Sub (pos 0) (pos 1) (Some (negsuc 0)) ∷
+    row op.Mul (negsuc 0) (negsuc 0) (Some (pos 1)) ∷
+    row op.Mul (pos 4294967296) (pos 4294967296) (Some (pos 0)) ∷
+    row op.Div (negsuc 0) (pos 2) (Some (pos 9223372036854775807)) ∷
+    row op.Div (pos 1) (negsuc 0) (Some (pos 0)) ∷
+    row op.Mod (negsuc 0) (pos 10) (Some (pos 5)) ∷
+    row op.Pow (pos 2) (pos 63) (Some (negsuc 9223372036854775807)) ∷
+    row op.Pow (pos 2) (pos 64) (Some (pos 0)) ∷
+    row op.And (negsuc 0) (pos 255) (Some (pos 255)) ∷
+    row op.Or (negsuc 9223372036854775807) (pos 1) (Some (negsuc 9223372036854775806)) ∷
+    row op.Xor (negsuc 0) (pos 1) (Some (negsuc 1)) ∷
+    row op.Max (negsuc 0) (pos 1) (Some (negsuc 0)) ∷
+    row op.Min (negsuc 0) (pos 1) (Some (pos 1)) ∷ []
+
+longest_results : map (found (Modulo 64)) longest ≡ map wanted longest
+longest_results = refl

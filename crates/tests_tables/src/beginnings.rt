@@ -1,8 +1,8 @@
 use std::alloc::Global;
-use syntax_first_tokens::{of_stmt, of_stmts};
+use syntax_first_tokens::{of_simple, of_stmt, of_stmts};
 use syntax_nodes::{
-    Four, Leaf, ListKind, One, Parts, Three, Tree, Two, also, bare, begin, close, finish, four,
-    leaf, leave_out, nothing, one, swap, take_name, three, two,
+    Definition, Four, Leaf, ListKind, One, Parts, Three, Tree, Two, also, bare, begin, close,
+    finish, four, leaf, leave_out, nothing, one, swap, take_name, three, two,
 };
 use syntax_readers::Failure;
 use syntax_tree::{Additive, Sign};
@@ -184,6 +184,65 @@ fn which_sums_are_names(rt: HostRuntime) {
     for &(steps, identifier, name) in SUMS {
         match is_named(rt.alloc(), steps, identifier, name) {
             Ok(answer) => assert!(rt; answer),
+            Err(_) => assert!(rt; false),
+        }
+    }
+}
+
+// Definitions of types, and the first token of the modulus of one that is modular (3.5.4).
+const DEFINITIONS: &[(&[Step], Option<u32>)] = &[
+    // mod 256
+    (
+        &[Step::Leaf(Leaf::Number(7)), Step::One(One::ModularType)],
+        Some(7),
+    ),
+    // mod 2 ** 64
+    (
+        &[
+            Step::Leaf(Leaf::Number(7)),
+            Step::Leaf(Leaf::Number(9)),
+            Step::Two(Two::Power(8)),
+            Step::One(One::ModularType),
+        ],
+        Some(7),
+    ),
+    // mod - A
+    (
+        &[
+            Step::Leaf(Leaf::Identifier(8)),
+            Step::Nothing,
+            Step::Two(Two::Sum(Some(Sign::Minus(7)))),
+            Step::One(One::ModularType),
+        ],
+        Some(7),
+    ),
+    // range 1 .. 9
+    (
+        &[
+            Step::Leaf(Leaf::Number(7)),
+            Step::Leaf(Leaf::Number(9)),
+            Step::Two(Two::RangeType),
+        ],
+        None,
+    ),
+];
+
+/// The first token of the modulus, where the definition of these steps is modular.
+fn modulus(alloc: Global, steps: &[Step]) -> Result<Option<u32>, Failure> {
+    let mut out = begin(alloc);
+    join_all(&mut out, steps)?;
+    let tree = finish(out);
+    match tree.definition(tree.root()) {
+        Definition::ModularType(sum) => Ok(Some(of_simple(&tree, sum))),
+        _ => Ok(None),
+    }
+}
+
+#[test]
+fn which_definitions_are_modular(rt: HostRuntime) {
+    for &(steps, want) in DEFINITIONS {
+        match modulus(rt.alloc(), steps) {
+            Ok(found) => assert!(rt; found == want),
             Err(_) => assert!(rt; false),
         }
     }

@@ -9,6 +9,10 @@ const TEXTS: &[(&str, &str)] = &[
         "X := 85070591730234615865843651857942052864 + \"É\"\"\"\n",
     ),
     (" -- nothing", "\n"),
+    (
+        "TYPE H IS MOD 2**64;type B is\n mod 256;",
+        "type H is mod 2 ** 64 ; type B is mod 256 ;\n",
+    ),
 ];
 
 #[test]

@@ -1,5 +1,5 @@
-use ada_base::{Items, Reason};
-use ada_io::{GetEnd, Reader, append_image, append_padded, image, padded, truth_image};
+use ada_base::{Base, Items, Reason};
+use ada_io::{GetEnd, Reader, append_image, append_padded, image, image_of, padded, truth_image};
 use ada_port::MemSource;
 use std::alloc::AllocError;
 
@@ -92,6 +92,16 @@ const IMAGES: &[(i64, &str)] = &[
     (i64::MIN, "-9223372036854775808"),
 ];
 
+// The image of what a cell of each base range keeps.
+const KEPT: &[(Base, i64, &str)] = &[
+    (Base::Narrow, -1, "-1"),
+    (Base::Wide, -1, "-1"),
+    (Base::Modulo(8), 255, " 255"),
+    (Base::Modulo(64), 5, " 5"),
+    (Base::Modulo(64), -1, " 18446744073709551615"),
+    (Base::Modulo(64), i64::MIN, " 9223372036854775808"),
+];
+
 // A number in a field of so many places.
 const FIELDS: &[(i64, u32, &str)] = &[(-7, 11, "         -7"), (42, 1, "42"), (-7, 4, "  -7")];
 
@@ -104,6 +114,10 @@ fn images_and_fields_are_made(rt: HostRuntime) -> Result<(), AllocError> {
     let alloc = rt.alloc();
     for &(value, want) in IMAGES {
         let text = image(alloc, value)?;
+        assert!(rt; is(&text, want), "{want}");
+    }
+    for &(base, value, want) in KEPT {
+        let text = image_of(alloc, base, value)?;
         assert!(rt; is(&text, want), "{want}");
     }
     for &(value, width, want) in FIELDS {

@@ -3,6 +3,8 @@
 #![tactic(auto)]
 
 #[cfg(test)]
+mod moduli;
+#[cfg(test)]
 mod readings;
 #[cfg(test)]
 mod tests;
