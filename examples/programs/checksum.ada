@@ -6,7 +6,8 @@ procedure Main is
    Length : constant := 1_000;
    Data : array (1 .. Length) of Word;
 
-   function Turned (W : Word; By : Natural) return Word is (W * 2 ** By or W / 2 ** (32 - By));
+   function Turned (W : Word; By : Natural) return Word is
+     (W * 2 ** By or W / 2 ** (32 - By)) with Nonblocking;
 
    function Sum return Word is
      ([parallel for I in Data'Range => Turned (Data (I), I mod 31 + 1)]'Reduce ("xor", 0));

@@ -12,7 +12,7 @@ procedure Main is
       (100, 114, 101, 97, 109), (101, 97, 103, 108, 101));
    Hashes : array (1 .. 5) of Hash;
 
-   function Of_Word (W : Integer) return Hash is
+   function Of_Word (W : Integer) return Hash with Nonblocking is
       H : Hash := Start;
    begin
       for I in 1 .. 5 loop

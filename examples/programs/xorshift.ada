@@ -10,14 +10,14 @@ procedure Main is
      (88_172_645_463_325_252, 1_181_783_497_276_652_981, 7_046_029_254_386_353_131, 3_935_559_000_370_003_845);
    Inside : array (1 .. 4) of Natural := (others => 0);
 
-   procedure Step (S : in out Word) is
+   procedure Step (S : in out Word) with Nonblocking is
    begin
       S := S xor S * 2 ** 13;
       S := S xor S / 2 ** 7;
       S := S xor S * 2 ** 17;
    end Step;
 
-   function Hits (Seed : Word) return Natural is
+   function Hits (Seed : Word) return Natural with Nonblocking is
       S : Word := Seed;
       X, Y : Integer;
       Count : Natural := 0;
